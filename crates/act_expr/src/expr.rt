@@ -1,0 +1,298 @@
+//! Expressions: what the recorded action of a stage computes from its arguments.
+//!
+//! Numbers are those of Java's type `long`, and arithmetic is that of the Java Language Specification
+//! (sections 15.17 to 15.21): sums, differences and products wrap at 64 bits, a quotient is truncated
+//! toward zero. Operands are evaluated from left to right, and the first throw is the answer.
+ghost use Rattle.std.specs.Prelude.{◌≡◌, ◌^◌, ◌-◌, ◌↔◌, min, IfOk, IsTrue};
+ghost use Rattle.act_expr.specs.Expression.{depth, nodes};
+ghost use Rattle.act_expr.specs.Forms.{tree};
+ghost use Rattle.act_expr.specs.Meaning.{meaning, on_values, on_numbers, as_answer, check, fault_number};
+
+use crate::{ExName, Value};
+use std::alloc::{AllocError, Global};
+use std::marker::Model;
+use std::sync::Arc;
+use thiserror::Error;
+
+/// No sound expression is deeper.
+const MOST_DEPTH: u32 = 32;
+
+/// No sound expression has more nodes.
+const MOST_NODES: u32 = 256;
+
+/// Which argument of the action.
+#[derive(Clone, Copy, PartialEq, Eq, Debug)]
+pub enum Position {
+    First,
+    Second,
+}
+
+/// An operator on two numbers. A null operand throws `java.lang.NullPointerException`.
+#[derive(Clone, Copy, PartialEq, Eq, Debug)]
+pub enum Operator {
+    Add,
+    Sub,
+    Mul,
+    /// The divisor 0 throws `java.lang.ArithmeticException`; the least number divided by -1 is itself.
+    Div,
+    /// 1 if the first number is less than the second, else 0.
+    Lt,
+    /// 1 if the numbers are equal, else 0.
+    Eq,
+}
+
+/// The exception that an action is handed.
+#[derive(Clone, Copy, PartialEq, Eq, Debug)]
+pub struct Failure {
+    /// Whether it is handed over as the cause of a `CompletionException`.
+    pub wrapped: bool,
+    pub name: ExName,
+}
+
+/// What an action is handed: null stands for a value that is not handed over.
+#[derive(Clone, Copy, PartialEq, Eq, Debug)]
+pub struct Args {
+    pub first: Value,
+    pub second: Value,
+    pub failure: Option<Failure>,
+}
+
+/// What an expression gives or throws.
+#[derive(Clone, Copy, PartialEq, Eq, Debug)]
+pub enum Answer {
+    Gives(Value),
+    Throws(ExName),
+}
+
+/// Why an expression is refused.
+#[derive(Clone, Copy, PartialEq, Eq, Debug, Error)]
+pub enum ExprFault {
+    /// It is deeper than 32.
+    #[error("the expression is deeper than 32")]
+    TooDeep,
+    /// It has more than 256 nodes.
+    #[error("the expression has more than 256 nodes")]
+    TooLarge,
+}
+
+/// An expression. Its owners share it, and contracts see it as a plain tree.
+#[cycle(expr)]
+#[derive(Drop)]
+pub struct Expr {
+    form: Arc<Form>,
+}
+
+/// The outermost form of an expression, with its operands.
+#[cycle(expr)]
+#[derive(Drop)]
+pub enum Form {
+    Literal(Value),
+    Argument(Position),
+    Binary(Operator, Expr, Expr),
+    /// The second expression where the first gives a number other than 0, the third where it gives 0.
+    /// Only that one is evaluated. A null condition throws `java.lang.NullPointerException`.
+    If(Expr, Expr, Expr),
+    /// 1 if the operand gives null, else 0.
+    IsNull(Expr),
+    /// 1 if the action was handed an exception, else 0.
+    Failed,
+    /// 1 if that exception was handed over as the cause of a `CompletionException`, else 0.
+    IsWrapped,
+    /// 1 if that exception, wrapped or not, has this name, else 0.
+    CauseIs(ExName),
+    Throw(ExName),
+}
+
+impl Model for Expr {
+    ghost use Rattle.act_expr.specs.Expression.{Expression, nodes};
+    ghost use Rattle.act_expr.specs.ExpressionCode.{coded_expression};
+
+    ghost Value = { Expression };
+
+    ghost coded = { coded_expression };
+
+    ghost use Rattle.act_expr.specs.Forms.{tree};
+
+    ghost view = { λ e. tree e.form.value };
+
+    ghost size = { nodes };
+
+    ghost use Rattle.std.proofs.Common.{arith};
+
+    ghost size_decreases = { λ e h. Prim.grind arith };
+}
+
+impl Expr {
+    /// The expression of a form.
+    pub fn new(alloc: Global, form: Form) -> Result<Expr, AllocError>
+        ensures { IfOk result (λ e. e ≡ tree form) }
+    {
+        let form = Arc::new(alloc, form)?;
+        Ok(Expr { form })
+    }
+
+    /// The outermost form.
+    pub fn form(&self) -> &Form
+        ensures { tree result.now ≡ self.now }
+    {
+        &self.form
+    }
+
+    /// Whether two expressions are the same tree, shared or not.
+    pub fn same(&self, other: &Expr) -> bool
+        ensures { IsTrue result ↔ (self.now ≡ other.now) }
+    {
+        match (&*self.form, &*other.form) {
+            (Form::Literal(a), Form::Literal(b)) => a == b,
+            (Form::Argument(a), Form::Argument(b)) => a == b,
+            (Form::Binary(o, a, b), Form::Binary(p, c, d)) => o == p && a.same(c) && b.same(d),
+            (Form::If(a, b, c), Form::If(d, e, f)) => a.same(d) && b.same(e) && c.same(f),
+            (Form::IsNull(a), Form::IsNull(b)) => a.same(b),
+            (Form::Failed, Form::Failed) => true,
+            (Form::IsWrapped, Form::IsWrapped) => true,
+            (Form::CauseIs(a), Form::CauseIs(b)) => a == b,
+            (Form::Throw(a), Form::Throw(b)) => a == b,
+            _ => false,
+        }
+    }
+
+    /// Refuses an expression that is too deep, or else too large. Each form is a node; a form without
+    /// operands has depth 1.
+    pub fn check(&self) -> Result<(), ExprFault>
+        ensures { result ≡ check self.now }
+    {
+        if self.depth() > MOST_DEPTH {
+            Err(ExprFault::TooDeep)
+        } else if self.nodes() > MOST_NODES {
+            Err(ExprFault::TooLarge)
+        } else {
+            Ok(())
+        }
+    }
+
+    /// What the expression gives or throws for these arguments.
+    pub fn eval(&self, args: &Args) -> Answer
+        ensures { result ≡ meaning self.now args.now }
+    {
+        match self.value(args) {
+            Ok(value) => Answer::Gives(value),
+            Err(name) => Answer::Throws(name),
+        }
+    }
+
+    /// The depth, as far as a `u32` counts.
+    fn depth(&self) -> u32
+        ensures { result ≡ min (depth self.now) (2 ^ 32 - 1) }
+    {
+        let operands = match &*self.form {
+            Form::Binary(_, left, right) => left.depth().max(right.depth()),
+            Form::If(condition, first, second) => {
+                condition.depth().max(first.depth().max(second.depth()))
+            }
+            Form::IsNull(operand) => operand.depth(),
+            _ => 0,
+        };
+        operands.saturating_add(1)
+    }
+
+    /// The number of nodes, as far as a `u32` counts: a tree whose parts are shared may have more.
+    fn nodes(&self) -> u32
+        ensures { result ≡ min (nodes self.now) (2 ^ 32 - 1) }
+    {
+        let operands = match &*self.form {
+            Form::Binary(_, left, right) => left.nodes().saturating_add(right.nodes()),
+            Form::If(condition, first, second) => {
+                let branches = first.nodes().saturating_add(second.nodes());
+                condition.nodes().saturating_add(branches)
+            }
+            Form::IsNull(operand) => operand.nodes(),
+            _ => 0,
+        };
+        operands.saturating_add(1)
+    }
+
+    /// The value, or the exception that is thrown in place of one.
+    fn value(&self, args: &Args) -> Result<Value, ExName>
+        ensures { as_answer result ≡ meaning self.now args.now }
+    {
+        match &*self.form {
+            Form::Literal(value) => Ok(*value),
+            Form::Argument(Position::First) => Ok(args.first),
+            Form::Argument(Position::Second) => Ok(args.second),
+            Form::Binary(operator, left, right) => {
+                let left = left.value(args)?;
+                let right = right.value(args)?;
+                operator.on_values(left, right)
+            }
+            Form::If(condition, first, second) => match condition.value(args)? {
+                Value::Null => Err(ExName::null_pointer()),
+                Value::Num(0) => second.value(args),
+                Value::Num(_) => first.value(args),
+            },
+            Form::IsNull(operand) => {
+                let value = operand.value(args)?;
+                Ok(Value::truth(matches!(value, Value::Null)))
+            }
+            Form::Failed => Ok(Value::truth(args.failure.is_some())),
+            Form::IsWrapped => match args.failure {
+                Some(failure) => Ok(Value::truth(failure.wrapped)),
+                None => Ok(Value::truth(false)),
+            },
+            Form::CauseIs(name) => match args.failure {
+                Some(failure) => Ok(Value::truth(failure.name == *name)),
+                None => Ok(Value::truth(false)),
+            },
+            Form::Throw(name) => Err(*name),
+        }
+    }
+}
+
+/// A clone shares the tree.
+impl Clone for Expr {
+    ghost is_clone = { λ e f. f ≡ e };
+
+    fn clone(&self) -> Result<Expr, AllocError> {
+        Ok(Expr {
+            form: Arc::try_clone(&self.form)?,
+        })
+    }
+}
+
+impl ExprFault {
+    /// The number of the refusal.
+    pub fn number(self) -> u32
+        ensures { result ≡ fault_number self }
+    {
+        match self {
+            ExprFault::TooDeep => 1,
+            ExprFault::TooLarge => 2,
+        }
+    }
+}
+
+impl Operator {
+    /// What the operator makes of two values.
+    fn on_values(self, left: Value, right: Value) -> Result<Value, ExName>
+        ensures { as_answer result ≡ on_values self left right }
+    {
+        match (left, right) {
+            (Value::Num(left), Value::Num(right)) => self.on_numbers(left, right),
+            _ => Err(ExName::null_pointer()),
+        }
+    }
+
+    /// What the operator makes of two numbers.
+    fn on_numbers(self, left: i64, right: i64) -> Result<Value, ExName>
+        ensures { as_answer result ≡ on_numbers self left right }
+    {
+        match self {
+            Operator::Add => Ok(Value::Num(left.wrapping_add(right))),
+            Operator::Sub => Ok(Value::Num(left.wrapping_sub(right))),
+            Operator::Mul => Ok(Value::Num(left.wrapping_mul(right))),
+            Operator::Div if right == 0 => Err(ExName::arithmetic()),
+            Operator::Div => Ok(Value::Num(left.wrapping_div(right))),
+            Operator::Lt => Ok(Value::truth(left < right)),
+            Operator::Eq => Ok(Value::truth(left == right)),
+        }
+    }
+}
