@@ -1,4 +1,4 @@
-//! The worked rows of expressions, names and outcomes.
+//! Worked examples of expressions, names and outcomes.
 use crate::{Answer, Args, ExName, Expr, ExprFault, Failure, Form, Operator, Outcome, Value};
 use std::alloc::{AllocError, Global};
 use std::test::Fail;
@@ -20,7 +20,7 @@ fn on(alloc: Global, operator: Operator, left: i64, right: i64) -> Result<Answer
     Ok(expr.eval(&NO_ARGS))
 }
 
-/// The row's arithmetic, by the Java Language Specification, 15.17.2.
+/// The arithmetic of the worked example, by the Java Language Specification, 15.17.2.
 #[test]
 fn same_pin_and_arithmetic(rt: HostRuntime) -> Result<(), Fail> {
     let alloc = rt.alloc();
@@ -58,7 +58,7 @@ fn a_null_operand_throws(rt: HostRuntime) -> Result<(), Fail> {
     Ok(())
 }
 
-/// The action of the row `copy-and-handle`: 9 without an exception, and else whether it is wrapped
+/// The action of the worked example `copy-and-handle`: 9 without an exception, and else whether it is wrapped
 /// and whether it is X.
 #[test]
 fn copy_and_handle(rt: HostRuntime) -> Result<(), Fail> {

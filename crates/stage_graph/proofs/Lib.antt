@@ -1,0 +1,13 @@
+pub mod Lists
+pub mod Positions
+pub mod Placing
+pub mod Keeping
+pub mod Changing
+pub mod Vacating
+pub mod Making
+pub mod Loads
+pub mod Following
+pub mod Ranked
+pub mod Searching
+pub mod Turning
+pub mod Kept

@@ -1,0 +1,15 @@
+pub mod Operations
+pub mod Plain
+pub mod Checks
+pub mod EditLists
+pub mod Numbers
+pub mod Texts
+pub mod Names
+pub mod Sound
+pub mod Edits
+pub mod Walk
+pub mod Order
+pub mod Search
+pub mod Changes
+pub mod Kept
+pub mod Loading

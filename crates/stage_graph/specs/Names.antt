@@ -1,0 +1,41 @@
+-- Stages by name, and what becomes of names.
+use Rattle.std.specs.Prelude.{ℕ, ◌≡◌, List, map, Option, unwrap_or, position}
+use Rattle.std.specs.Str.{bytes_eq}
+use Rattle.indexmap.specs.IndexMap.{get_by_text}
+use Rattle.stage_graph.specs.declared.stage.Stage.{Stage}
+use Rattle.stage_graph.specs.declared.stage.Spec.{Spec}
+use Rattle.stage_graph.specs.declared.names.NameTable.{NameTable}
+use Rattle.stage_graph.specs.Plain.{place_named}
+
+-- the first place of a name in a list of stages with names
+abbrev pub place_of : List Spec → List ℕ → Option ℕ
+place_of specs name = position (λ spec. bytes_eq spec.name name) specs
+
+-- the places of names
+abbrev pub places_of : (List ℕ → Option ℕ) → List (List ℕ) → List ℕ
+places_of find names = map (λ name. unwrap_or (find name) 0) names
+
+-- the stage that stands at a place, with places for names
+abbrev pub stage_of : (List ℕ → Option ℕ) → ℕ → Spec → Stage
+stage_of find place spec = record {
+  place = place;
+  name = spec.name;
+  op = spec.op;
+  sources = places_of find spec.sources;
+  inner = places_of find spec.inner;
+  created = spec.created;
+  queued = spec.queued;
+  runs = spec.runs;
+  action = spec.action;
+  pin_result = spec.pin_result;
+  pin_moment = spec.pin_moment;
+  ends = spec.ends;
+}
+
+-- what the table has for a name
+abbrev pub found : NameTable → List ℕ → Option ℕ
+found table name = get_by_text table.places name
+
+-- the table has the place of each name
+abbrev pub IsTableOf : List (Option Stage) → NameTable → Type 0
+IsTableOf places table = (name : List ℕ) → found table name ≡ place_named places name

@@ -1,0 +1,146 @@
+//! What one edit makes of a graph.
+ghost use Rattle.std.specs.Prelude.{◌≡◌, ◌<◌, ◌++◌, ◌∷◌, [], true, Some, None, length, slice_set, IfOk, IfErr, OnOk, is_some, if◌then◌else◌, List, ℕ};
+ghost use Rattle.stage_graph.specs.Plain.{IsLive, place_named, stage_at, has_name, stage_named, uses};
+ghost use Rattle.stage_graph.specs.Sound.{IsSoundStage};
+ghost use Rattle.stage_graph.specs.Names.{IsTableOf, found};
+ghost use Rattle.stage_graph.specs.Edits.{IsAnswer, edited, changed_stage, added, appended, removed_at, first_user};
+
+use crate::edit::Edit;
+use crate::fault::{EditFault, Refusal};
+use crate::graph::Graph;
+use crate::name::Name;
+use crate::names::NameTable;
+use crate::representation::Representation;
+use crate::stage::{Spec, Stage};
+use share_tree::{Held, Keeps};
+use std::alloc::{AllocError, Global};
+
+impl Stage {
+    /// Whether a feed of the stage is the place.
+    fn uses(&self, place: u32) -> bool
+        ensures { result ≡ uses place (Some self.now) }
+    {
+        self.sources.as_slice().contains(&place) || self.inner.as_slice().contains(&place)
+    }
+}
+
+impl NameTable {
+    /// Sets the place of a stage's name, where there is a stage and its name has no place.
+    fn add_stage(
+        &mut self,
+        alloc: Global,
+        stage: &Option<Held<Stage>>,
+        place: usize,
+    ) -> Result<(), AllocError>
+        ensures { OnOk result ((name : List ℕ) → found self.new name
+            ≡ (if is_some (found self.old name) then found self.old name else (if has_name name stage.now then Some place else None))) }
+    {
+        match stage {
+            Some(stage) => self.add(alloc, stage.name.as_str(), place),
+            None => Ok(()),
+        }
+    }
+}
+
+/// The table of the names of stages.
+pub(crate) fn names_of<R: Representation>(
+    alloc: Global,
+    stages: &R::Stages,
+) -> Result<NameTable, AllocError>
+    ensures { IfOk result (IsTableOf (R.Stages.items stages.now)) }
+{
+    let mut names = NameTable::new(alloc);
+    for place in 0..stages.len() {
+        let Some(stage) = stages.get(place) else {
+            unreachable!()
+        };
+        names.add_stage(alloc, stage, place)?;
+    }
+    Ok(names)
+}
+
+impl<R: Representation> Graph<R> {
+    /// Whether a feed of the stage at a place is another place.
+    fn uses(&self, user: u32, place: u32) -> bool
+        ensures { result ≡ uses place (stage_at self.now.places user) }
+    {
+        match self.stage(user) {
+            Some(stage) => stage.uses(place),
+            None => false,
+        }
+    }
+
+    /// The first place whose stage uses a place.
+    fn first_user(&self, place: u32) -> Option<u32>
+        ensures { result ≡ first_user self.now.places place }
+    {
+        for user in 0..self.len() {
+            if self.uses(user as u32, place) {
+                return Some(user as u32);
+            }
+        }
+        None
+    }
+}
+
+impl<R: Representation> Graph<R> {
+    /// The graph with one more stage, which stands at a new place.
+    fn add(&self, alloc: Global, spec: &Spec) -> Result<Graph<R>, EditFault>
+        ensures { IsAnswer result (added spec.now self.now) }
+    {
+        let place = self.len();
+        let free = self.place_of(&spec.name).is_none();
+        let names = self.names();
+        let checks = names.checks_of(free, place, spec);
+        if let Some(refusal) = checks.first_refusal() {
+            return Err(EditFault::Refused(refusal));
+        }
+        let stage = names.stage_of(alloc, place as u32, spec)?;
+        Ok(self.append(alloc, stage)?)
+    }
+
+    /// The graph without the stage of a name.
+    fn remove(&self, alloc: Global, name: &Name) -> Result<Graph<R>, EditFault>
+        ensures { IsAnswer result (removed_at self.now (place_named self.now.places name.now)) }
+    {
+        let Some(place) = self.place_of(name) else {
+            return Err(EditFault::Refused(Refusal::NoStage));
+        };
+        if let Some(user) = self.first_user(place) {
+            return Err(EditFault::Refused(Refusal::InUse(user)));
+        }
+        Ok(self.vacate(alloc, place)?)
+    }
+}
+
+impl<R: Representation> Graph<R> {
+    /// The graph in which an edit has changed the stage of a name.
+    fn change_stage(&self, alloc: Global, name: &Name, edit: &Edit) -> Result<Graph<R>, EditFault>
+        ensures { IsAnswer result (changed_stage self.now name.now edit.now) }
+    {
+        let Some(stage) = self.named(name) else {
+            return Err(EditFault::Refused(Refusal::NoStage));
+        };
+        let stage = match stage.edited(alloc, self.names(), edit) {
+            Ok(stage) => stage,
+            Err(fault) => return Err(fault),
+        };
+        Ok(self.replace(alloc, stage)?)
+    }
+
+    /// The graph that an edit makes.
+    pub(crate) fn edit(&self, alloc: Global, edit: &Edit) -> Result<Graph<R>, EditFault>
+        ensures { IsAnswer result (edited edit.now self.now) }
+    {
+        match edit {
+            Edit::Add(spec) => self.add(alloc, spec),
+            Edit::Remove(name) => self.remove(alloc, name),
+            Edit::PinResult { name, .. } => self.change_stage(alloc, name, edit),
+            Edit::PinMoment { name, .. } => self.change_stage(alloc, name, edit),
+            Edit::SetTimes { name, .. } => self.change_stage(alloc, name, edit),
+            Edit::SetAction { name, .. } => self.change_stage(alloc, name, edit),
+            Edit::SetEnds { name, .. } => self.change_stage(alloc, name, edit),
+            Edit::Rewire { name, .. } => self.change_stage(alloc, name, edit),
+        }
+    }
+}

@@ -1,0 +1,87 @@
+//! The places that a list of edits reaches: at all others the graph stays as it was.
+ghost use Rattle.std.specs.Prelude.{◌≡◌, ◌++◌, [], if◌then◌else◌, IfOk, OnOk};
+ghost use Rattle.stage_graph.specs.Changes.{edited_name};
+ghost use Rattle.stage_graph.specs.Kept.{listed, places_before_after, reshapes, edited_places, reshaped_places};
+
+use crate::edit::{Edit, Edits};
+use crate::graph::Graph;
+use crate::name::{Name, Places};
+use crate::representation::Representation;
+use std::alloc::{AllocError, Global};
+
+impl Places {
+    /// Adds a place at the end, where there is one.
+    fn push_found(&mut self, place: Option<u32>) -> Result<(), AllocError>
+        ensures { OnOk result (self.new ≡ self.old ++ listed place) }
+    {
+        match place {
+            Some(place) => self.push(place),
+            None => Ok(()),
+        }
+    }
+
+    /// Adds the places where the stage of a name stands before and after.
+    fn push_named<R: Representation>(
+        &mut self,
+        old: &Graph<R>,
+        new: &Graph<R>,
+        name: &Name,
+    ) -> Result<(), AllocError>
+        ensures { OnOk result (self.new ≡ self.old ++ places_before_after old.now.places new.now.places name.now) }
+    {
+        self.push_found(old.place_of(name))?;
+        self.push_found(new.place_of(name))
+    }
+
+    /// Adds the places of an edit that adds, removes or rewires a stage.
+    fn push_reshaped<R: Representation>(
+        &mut self,
+        old: &Graph<R>,
+        new: &Graph<R>,
+        edit: &Edit,
+    ) -> Result<(), AllocError>
+        ensures { OnOk result (self.new ≡ self.old ++ (if reshapes edit.now then places_before_after old.now.places new.now.places (edited_name edit.now) else [])) }
+    {
+        if edit.reshapes() {
+            self.push_named(old, new, edit.name())
+        } else {
+            Ok(())
+        }
+    }
+}
+
+impl Edits {
+    /// The places, in the graph before and after, of the stages that the edits speak of; a place may come
+    /// more than once.
+    pub fn edited_places<R: Representation>(
+        &self,
+        alloc: Global,
+        old: &Graph<R>,
+        new: &Graph<R>,
+    ) -> Result<Places, AllocError>
+        ensures { IfOk result (λ places. places ≡ edited_places self.now old.now.places new.now.places) }
+    {
+        let mut places = Places::new(alloc);
+        for edit in self.as_slice() {
+            places.push_named(old, new, edit.name())?;
+        }
+        Ok(places)
+    }
+
+    /// The places, in the graph before and after, of the stages that the edits add, remove or rewire; a
+    /// place may come more than once.
+    pub fn reshaped_places<R: Representation>(
+        &self,
+        alloc: Global,
+        old: &Graph<R>,
+        new: &Graph<R>,
+    ) -> Result<Places, AllocError>
+        ensures { IfOk result (λ places. places ≡ reshaped_places self.now old.now.places new.now.places) }
+    {
+        let mut places = Places::new(alloc);
+        for edit in self.as_slice() {
+            places.push_reshaped(old, new, edit)?;
+        }
+        Ok(places)
+    }
+}

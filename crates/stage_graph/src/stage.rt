@@ -1,0 +1,135 @@
+//! Stages with places, and stages with names.
+ghost use Rattle.std.specs.Prelude.{◌≡◌, [], ◌∷◌, ◌++◌, IfOk, OnOk};
+
+use crate::end::Ends;
+use crate::name::{Name, NameList, Places};
+use crate::op::Op;
+use act_expr::{Expr, Outcome};
+use std::alloc::{AllocError, Global};
+use std::marker::Model;
+
+/// A live stage of a graph. Its feeds are its sources and then its inner stages.
+#[derive(Drop)]
+pub struct Stage {
+    /// Where it stands in its graph.
+    pub place: u32,
+    pub name: Name,
+    pub op: Op,
+    /// The stages that it waits for, in order.
+    pub sources: Places,
+    /// The stages of which a compose form picks one.
+    pub inner: Places,
+    /// The tick at which the stage was made.
+    pub created: u64,
+    /// How many ticks the action waits in a queue.
+    pub queued: u64,
+    /// How many ticks the action runs.
+    pub runs: u64,
+    pub action: Option<Expr>,
+    /// The outcome that stands in place of the computed one.
+    pub pin_result: Option<Outcome>,
+    /// The tick that stands in place of the moment of completion.
+    pub pin_moment: Option<u64>,
+    pub ends: Ends,
+}
+
+/// A stage with names in place of places.
+#[derive(Drop)]
+pub struct Spec {
+    pub name: Name,
+    pub op: Op,
+    /// The stages that it waits for, in order.
+    pub sources: NameList,
+    /// The stages of which a compose form picks one.
+    pub inner: NameList,
+    /// The tick at which the stage was made.
+    pub created: u64,
+    /// How many ticks the action waits in a queue.
+    pub queued: u64,
+    /// How many ticks the action runs.
+    pub runs: u64,
+    pub action: Option<Expr>,
+    /// The outcome that stands in place of the computed one.
+    pub pin_result: Option<Outcome>,
+    /// The tick that stands in place of the moment of completion.
+    pub pin_moment: Option<u64>,
+    pub ends: Ends,
+}
+
+/// The same action once more.
+pub(crate) fn action_again(action: &Option<Expr>) -> Result<Option<Expr>, AllocError>
+    ensures { IfOk result (λ same. same ≡ action.now) }
+{
+    match action {
+        Some(expr) => Ok(Some(expr.clone()?)),
+        None => Ok(None),
+    }
+}
+
+impl Stage {
+    /// The same stage once more.
+    pub fn again(&self) -> Result<Stage, AllocError>
+        ensures { IfOk result (λ same. same ≡ self.now) }
+    {
+        Ok(Stage {
+            place: self.place,
+            name: self.name.again()?,
+            op: self.op,
+            sources: self.sources.again()?,
+            inner: self.inner.again()?,
+            created: self.created,
+            queued: self.queued,
+            runs: self.runs,
+            action: action_again(&self.action)?,
+            pin_result: self.pin_result,
+            pin_moment: self.pin_moment,
+            ends: self.ends.again()?,
+        })
+    }
+}
+
+/// Stages with names, in order.
+#[derive(Drop)]
+pub struct Specs {
+    items: Vec<Spec>,
+}
+
+impl Model for Specs {
+    ghost use Rattle.std.specs.Prelude.{List};
+    ghost use Rattle.stage_graph.specs.declared.stage.Spec.{Spec};
+
+    ghost Value = { List Spec };
+
+    ghost use Rattle.std.specs.Coded.{codes};
+    ghost use Rattle.act_expr.specs.ExpressionCode.{coded_expression};
+
+    ghost coded = { Prim.hlevel (codes, coded_expression) };
+
+    ghost view = { λ specs. specs.items.items };
+}
+
+impl Specs {
+    /// No stages.
+    pub fn new(alloc: Global) -> Specs
+        ensures { result ≡ [] }
+    {
+        Specs {
+            items: Vec::new(alloc),
+        }
+    }
+
+    /// Adds a stage at the end.
+    pub fn push(&mut self, spec: Spec) -> Result<(), AllocError>
+        ensures { OnOk result (self.new ≡ self.old ++ spec ∷ []) }
+    {
+        self.items.push(spec)?;
+        Ok(())
+    }
+
+    /// The stages, in order.
+    pub fn as_slice(&self) -> &[Spec]
+        ensures { result.now ≡ self.now }
+    {
+        self.items.as_slice()
+    }
+}
