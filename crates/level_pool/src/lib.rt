@@ -1,0 +1,24 @@
+//! Runners: they compute the pieces of a level, in the caller's thread or in several, and give what
+//! the plain map gives.
+//!
+//! A level is a list of numbers, such as places of stages, whose answers don't depend on one another.
+//! Which runner computes it changes the time that it takes, and nothing else: the law of [`Runner::run`]
+//! is one for all of them.
+#![tactic(auto)]
+
+mod fault;
+mod gate;
+mod one_part;
+mod pool;
+mod runner;
+mod runners;
+mod several_parts;
+#[cfg(test)]
+mod tests;
+mod workers;
+
+pub use fault::PoolFault;
+pub use gate::{Gate, NoGate};
+pub use runner::{Plan, Runner};
+pub use runners::{OneThread, Pooled, Scoped};
+pub use workers::Workers;

@@ -1,0 +1,142 @@
+//! Worked examples of runners.
+ghost use Rattle.std.specs.Prelude.{◌≡◌, ◌*◌, ◌<◌, ◌≤◌, ◌^◌, IfOk, All, map};
+
+use crate::{Gate, NoGate, OneThread, PoolFault, Pooled, Runner, Scoped};
+use std::alloc::Global;
+use std::process::Abort;
+use std::sync::atomic::{AtomicU64, Ordering};
+use std::thread;
+use std::thread::Threads;
+use std::time::{Clock, Duration};
+
+/// Each of the numbers twice. A caller that knows nothing of its runner proves its own answer.
+fn doubled<R: Runner>(runner: &R, alloc: Global, numbers: &[u32]) -> Result<Vec<u32>, PoolFault>
+    requires { All (λ number. 2 * number < 2 ^ 32) numbers.now }
+    ensures { IfOk result (λ doubled. doubled.items ≡ map (λ number. 2 * number) numbers.now) }
+{
+    runner.run(
+        alloc,
+        numbers,
+        &|number: u32| -> u32
+            requires { 2 * number < 2 ^ 32 }
+            ensures { result ≡ 2 * number }
+        { 2 * number },
+    )
+}
+
+/// The runners of the worked example `trees-and-runners`.
+fn trees_and_runners<R: Runner>(
+    rt: &impl Abort,
+    alloc: Global,
+    runner: &R,
+) -> Result<(), PoolFault> {
+    let four = doubled(runner, alloc, &[5, 6, 7, 8])?;
+    assert_eq!(rt; four.as_slice(), [10, 12, 14, 16].as_slice());
+    let none = doubled(runner, alloc, &[])?;
+    assert!(rt; none.is_empty());
+    Ok(())
+}
+
+#[test]
+fn trees_and_runners_in_one_thread(rt: HostRuntime) -> Result<(), PoolFault> {
+    trees_and_runners(&rt, rt.alloc(), &OneThread::new(&rt))
+}
+
+#[test]
+fn trees_and_runners_scoped(rt: HostRuntime) -> Result<(), PoolFault> {
+    trees_and_runners(&rt, rt.alloc(), &Scoped::new(&rt, 3, NoGate))
+}
+
+#[test]
+fn trees_and_runners_pooled(rt: HostRuntime) -> Result<(), PoolFault> {
+    trees_and_runners(&rt, rt.alloc(), &Pooled::new(&rt))
+}
+
+/// The turns that a piece waits at the gate before it goes on alone.
+const MOST_TURNS: u32 = 1_000_000;
+
+/// A gate where no piece goes on until two have entered, or its turns are used up.
+#[derive(Drop)]
+struct Meeting<'a, C> {
+    clock: &'a C,
+    entered: AtomicU64,
+    gone_on_alone: AtomicU64,
+}
+
+impl<'a, C: Clock> Gate for Meeting<'a, C> {
+    fn enter(&self, _piece: u32) {
+        self.entered.fetch_add(1, Ordering::SeqCst);
+        for turn in 0..MOST_TURNS {
+            if self.entered.load(Ordering::SeqCst) >= 2 {
+                return;
+            }
+            if turn % 64 == 0 {
+                thread::sleep(self.clock, Duration::from_micros(20));
+            }
+        }
+        self.gone_on_alone.fetch_add(1, Ordering::SeqCst);
+    }
+
+    fn leave(&self, _piece: u32) {}
+}
+
+/// How many of the pieces 1 and 2 went on alone.
+fn gone_on_alone<R: Threads + Clock + Sync>(
+    rt: &R,
+    alloc: Global,
+    workers: usize,
+) -> Result<u64, PoolFault>
+    requires some { 0 < workers }
+    requires few { workers ≤ 16 }
+{
+    let meeting = Meeting {
+        clock: rt,
+        entered: AtomicU64::new(0),
+        gone_on_alone: AtomicU64::new(0),
+    };
+    Scoped::new(rt, workers, &meeting).run(alloc, &[1, 2], &|piece| piece)?;
+    Ok(meeting.gone_on_alone.load(Ordering::SeqCst))
+}
+
+/// A runner that computes all pieces in one thread fails here, at the end of the first piece's turns.
+#[test]
+fn two_workers(rt: HostRuntime) -> Result<(), PoolFault> {
+    assert_eq!(rt; gone_on_alone(&rt, rt.alloc(), 2)?, 0);
+    Ok(())
+}
+
+/// The gate tells one thread from two: the only worker's first piece goes on alone.
+#[test]
+fn one_worker_meets_nobody(rt: HostRuntime) -> Result<(), PoolFault> {
+    assert_eq!(rt; gone_on_alone(&rt, rt.alloc(), 1)?, 1);
+    Ok(())
+}
+
+/// A gate that adds up the pieces that entered and those that left.
+#[derive(Drop)]
+struct Sums {
+    entered: AtomicU64,
+    left: AtomicU64,
+}
+
+impl Gate for Sums {
+    fn enter(&self, piece: u32) {
+        self.entered.fetch_add(u64::from(piece), Ordering::SeqCst);
+    }
+
+    fn leave(&self, piece: u32) {
+        self.left.fetch_add(u64::from(piece), Ordering::SeqCst);
+    }
+}
+
+#[test]
+fn each_piece_passes_the_gate(rt: HostRuntime) -> Result<(), PoolFault> {
+    let sums = Sums {
+        entered: AtomicU64::new(0),
+        left: AtomicU64::new(0),
+    };
+    Scoped::new(&rt, 3, &sums).run(rt.alloc(), &[1, 10, 100, 1000], &|piece| piece)?;
+    assert_eq!(rt; sums.entered.load(Ordering::SeqCst), 1111);
+    assert_eq!(rt; sums.left.load(Ordering::SeqCst), 1111);
+    Ok(())
+}

@@ -1,0 +1,4 @@
+pub mod Answers
+pub mod Blame
+pub mod Queries
+pub mod Search

@@ -1,0 +1,121 @@
+//! What is asked of a graph stage by stage: who is to blame, and who uses it.
+ghost use Rattle.std.specs.Prelude.{◌≡◌, ℕ, ◌<◌, length, Option, Some, IfOk};
+ghost use Rattle.stage_graph.specs.declared.stage.Stage.{Stage};
+ghost use Rattle.stage_graph.specs.Plain.{PlainGraph, uses, dependents, stage_at};
+ghost use Rattle.stage_graph.specs.Sound.{IsSound};
+ghost use Rattle.stage_ops.specs.declared.state.State.{State};
+ghost use Rattle.stage_ops.specs.States.{Completion, state_at};
+ghost use Rattle.scratch_eval.specs.Answers.{AreAnswers, states_of};
+ghost use Rattle.scratch_eval.specs.Blame.{followed};
+ghost use Rattle.scratch_eval.specs.Queries.{AnswersOrMemory, chain_at, users_at, query_number};
+
+use crate::answers::Answers;
+use stage_graph::{Graph, Places, Representation, Stage};
+use std::alloc::{AllocError, Global};
+use std::fmt;
+use thiserror::Error;
+
+/// Why a query is not answered.
+#[derive(Clone, Copy, Debug, PartialEq, Eq, Error)]
+pub enum QueryFault {
+    /// No live stage stands at the place.
+    #[error("10 NoStage")]
+    NoStage,
+    #[error("90 Memory")]
+    Memory,
+}
+
+impl From<AllocError> for QueryFault {
+    ghost use Rattle.scratch_eval.specs.declared.queries.QueryFault.TheVariants.{Memory};
+
+    ghost from_gives = { λ _ fault. fault ≡ Memory };
+
+    fn from(_error: AllocError) -> QueryFault {
+        QueryFault::Memory
+    }
+}
+
+impl QueryFault {
+    /// The number by which the fault is printed.
+    pub fn number(self) -> u32
+        ensures { result ≡ query_number self }
+    {
+        match self {
+            QueryFault::NoStage => 10,
+            QueryFault::Memory => 90,
+        }
+    }
+}
+
+/// The chain of blame from a place, as the states tell it.
+fn follow(alloc: Global, answers: &Answers, place: u32) -> Result<Places, AllocError>
+    ensures { IfOk result (λ chain. chain ≡ followed (state_at (states_of answers.now)) (length answers.now) place) }
+{
+    let mut chain = Vec::new(alloc);
+    let mut next = place;
+    for _ in 0..answers.len() {
+        let Some(failure) = answers.failure(next) else {
+            break;
+        };
+        chain.push(next)?;
+        let Some(source) = failure.from else {
+            break;
+        };
+        next = source;
+    }
+    Ok(Places::from_vec(chain))
+}
+
+/// The chain of blame of a live stage: the stage itself where it completed by an exception, and then the chain of the
+/// source whose exception it took over. It is empty where the stage is pending or holds a value.
+pub fn chain(alloc: Global, answers: &Answers, place: u32) -> Result<Places, QueryFault>
+    ensures { (step : Stage → (ℕ → Option Completion) → State) (graph : PlainGraph) → IsSound graph → AreAnswers step graph.places answers.now → AnswersOrMemory (chain_at step graph.places place) result }
+{
+    let Some(_) = answers.get(place) else {
+        return Err(QueryFault::NoStage);
+    };
+    let chain = follow(alloc, answers, place)?;
+    Ok(chain)
+}
+
+/// Whether a feed of a stage is the place.
+fn has_feed(stage: &Stage, place: u32) -> bool
+    ensures { result ≡ uses place (Some stage.now) }
+{
+    stage.sources.as_slice().contains(&place) || stage.inner.as_slice().contains(&place)
+}
+
+/// The places whose stages have a place among their feeds.
+fn all_users<R: Representation>(
+    alloc: Global,
+    graph: &Graph<R>,
+    place: u32,
+) -> Result<Places, AllocError>
+    ensures { IfOk result (λ users. users ≡ dependents graph.now.places place) }
+{
+    let mut users = Vec::new(alloc);
+    for user in 0..graph.len() {
+        let user = user as u32;
+        if let Some(stage) = graph.stage(user) {
+            if has_feed(stage, place) {
+                users.push(user)?;
+            }
+        }
+    }
+    Ok(Places::from_vec(users))
+}
+
+/// The stages that have a live stage among their feeds, each once, in the order of their places.
+pub fn users<R: Representation>(
+    alloc: Global,
+    graph: &Graph<R>,
+    place: u32,
+) -> Result<Places, QueryFault>
+    ensures { AnswersOrMemory (users_at graph.now.places place) result }
+{
+    if graph.stage(place).is_none() {
+        return Err(QueryFault::NoStage);
+    }
+    let users = all_users(alloc, graph, place)?;
+    Ok(users)
+}

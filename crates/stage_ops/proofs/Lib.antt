@@ -1,0 +1,6 @@
+pub mod EarliestLemmas
+pub mod SourcesLemmas
+pub mod EndsLemmas
+pub mod InnerLemmas
+pub mod AmongLemmas
+pub mod OneDurationLemmas

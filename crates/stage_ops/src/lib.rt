@@ -1,0 +1,26 @@
+#![tactic(auto)]
+
+//! What one stage comes to, from what its feeds came to.
+
+mod actions;
+mod ends;
+mod java;
+mod joins;
+mod laws;
+mod meter;
+mod names;
+mod natural;
+mod ops;
+mod sources;
+mod state;
+mod texts;
+
+pub use java::JavaOps;
+pub use joins::join;
+pub use laws::{
+    earliest_completion_is_earliest, earliest_of_one, earliest_source_is_earliest,
+    prompt_where_nothing_is_queued,
+};
+pub use meter::{Meter, Pass};
+pub use ops::{Look, StageOps};
+pub use state::{Done, Join, Reads, State};
