@@ -1,0 +1,5 @@
+pub mod JsonReading
+pub mod Operands
+pub mod ReadBack
+pub mod StagesReadBack
+pub mod StepsReadBack

@@ -1,0 +1,13 @@
+pub mod ExpressionOf
+pub mod FaultTexts
+pub mod Forms
+pub mod Members
+pub mod MemberTexts
+pub mod Reads
+pub mod RecordingOf
+pub mod StageOf
+pub mod StepOf
+pub mod Tables
+pub mod Written
+pub mod WrittenStages
+pub mod WrittenSteps

@@ -1,0 +1,249 @@
+//! Edits of a graph and lists of them, read from the members of a step.
+ghost use Rattle.std.specs.Prelude.{◌≡◌, [], ◌∷◌, ◌++◌, OnOk};
+ghost use Rattle.serde_json.specs.View.{view};
+ghost use Rattle.stage_graph.specs.EditLists.{edit_list};
+ghost use Rattle.recording.specs.Tables.{beside};
+ghost use Rattle.recording.specs.Members.{of_form, required};
+ghost use Rattle.recording.specs.StepOf.{edit_names, new_in, form_of_new, stage_member, edit_of, listed_edit, edits_member, with_list_size};
+ghost use Rattle.recording.specs.ExpressionOf.{expression_of};
+ghost use Rattle.recording.specs.Reads.{IsRead};
+ghost use Rattle.recording.specs.declared.member.Member.TheVariants as member;
+
+use crate::expression::read_expression;
+use crate::object::{
+    required_count, required_ends, required_name, required_names, required_pin_moment,
+    required_pin_result,
+};
+use crate::stage::{FormNumber, read_spec};
+use crate::unread::Unread;
+use crate::{Fault, Member};
+use act_expr::Expr;
+use serde_json::Value;
+use stage_graph::{Edit, Edits, Name, Spec};
+use std::alloc::{AllocError, Global};
+use std::marker::Model;
+
+/// The name of an edit.
+#[derive(Clone, Copy, PartialEq, Eq, Debug)]
+pub(crate) enum EditName {
+    PinResult,
+    PinMoment,
+    SetTakes,
+    SetTimes,
+    SetAction,
+    SetEnds,
+    Add,
+    Remove,
+    Rewire,
+}
+
+impl EditName {
+    /// The edit that a text names, if it names one.
+    pub(crate) fn new(text: &str) -> Option<EditName>
+        ensures { result ≡ beside edit_names text.now }
+    {
+        match text {
+            "pinResult" => Some(EditName::PinResult),
+            "pinMoment" => Some(EditName::PinMoment),
+            "setTakes" => Some(EditName::SetTakes),
+            "setTimes" => Some(EditName::SetTimes),
+            "setAction" => Some(EditName::SetAction),
+            "setEnds" => Some(EditName::SetEnds),
+            "add" => Some(EditName::Add),
+            "remove" => Some(EditName::Remove),
+            "rewire" => Some(EditName::Rewire),
+            _ => None,
+        }
+    }
+}
+
+/// A new stage has the times of form 2 where one of these is there, and else those of form 1.
+fn form_of_new(object: &Value) -> FormNumber
+    ensures { result ≡ form_of_new (view object.now) }
+{
+    if object.get(Member::Queued.text()).is_some() || object.get(Member::Runs.text()).is_some() {
+        FormNumber::Two
+    } else {
+        FormNumber::One
+    }
+}
+
+/// The stage that is to be added.
+fn read_new(alloc: Global, value: &Value) -> Result<Spec, Fault>
+    ensures { IsRead result (new_in (view value.now)) }
+{
+    match value {
+        Value::Object(_) => read_spec(alloc, form_of_new(value), value),
+        _ => Err(Fault::Shape(Member::New)),
+    }
+}
+
+/// The action that is to be set.
+fn required_action(alloc: Global, object: &Value) -> Result<Expr, Fault>
+    ensures { IsRead result (required member.Action expression_of (view object.now)) }
+{
+    let Some(value) = object.get(Member::Action.text()) else {
+        return Err(Fault::Shape(Member::Action));
+    };
+    match read_expression(alloc, value) {
+        Ok(action) => Ok(action),
+        Err(Unread::Shape) => Err(Fault::Shape(Member::Action)),
+        Err(Unread::Memory) => Err(Fault::Memory),
+    }
+}
+
+/// The name of the stage that a step is of.
+pub(crate) fn read_stage_name(alloc: Global, object: &Value) -> Result<Name, Fault>
+    ensures { IsRead result (stage_member (view object.now)) }
+{
+    required_name(alloc, object, Member::Stage)
+}
+
+/// The edit of a name, from the members of its step.
+#[tactic(auto, unfolding(crate::specs::StepOf::edit_of))]
+pub(crate) fn read_edit(alloc: Global, name: EditName, object: &Value) -> Result<Edit, Fault>
+    ensures { IsRead result (edit_of name (view object.now)) }
+{
+    match name {
+        EditName::PinResult => {
+            let name = read_stage_name(alloc, object)?;
+            let result = required_pin_result(object, Member::Result)?;
+            Ok(Edit::PinResult { name, result })
+        }
+        EditName::PinMoment => {
+            let name = read_stage_name(alloc, object)?;
+            let moment = required_pin_moment(object, Member::At)?;
+            Ok(Edit::PinMoment { name, moment })
+        }
+        EditName::SetTakes => {
+            let name = read_stage_name(alloc, object)?;
+            let runs = required_count(object, Member::Takes)?;
+            Ok(Edit::SetTimes {
+                name,
+                queued: 0,
+                runs,
+            })
+        }
+        EditName::SetTimes => {
+            let name = read_stage_name(alloc, object)?;
+            let queued = required_count(object, Member::Queued)?;
+            let runs = required_count(object, Member::Runs)?;
+            Ok(Edit::SetTimes { name, queued, runs })
+        }
+        EditName::SetAction => {
+            let name = read_stage_name(alloc, object)?;
+            let action = required_action(alloc, object)?;
+            Ok(Edit::SetAction { name, action })
+        }
+        EditName::SetEnds => {
+            let name = read_stage_name(alloc, object)?;
+            let ends = required_ends(alloc, object, Member::Ends)?;
+            Ok(Edit::SetEnds { name, ends })
+        }
+        EditName::Add => {
+            let Some(new) = object.get(Member::New.text()) else {
+                return Err(Fault::Shape(Member::New));
+            };
+            Ok(Edit::Add(read_new(alloc, new)?))
+        }
+        EditName::Remove => Ok(Edit::Remove(read_stage_name(alloc, object)?)),
+        EditName::Rewire => {
+            let name = read_stage_name(alloc, object)?;
+            let sources = required_names(alloc, object, Member::Sources)?;
+            let inner = required_names(alloc, object, Member::Inner)?;
+            Ok(Edit::Rewire {
+                name,
+                sources,
+                inner,
+            })
+        }
+    }
+}
+
+/// Edits in order, whatever their number.
+#[derive(Drop)]
+pub(crate) struct EditList {
+    items: Vec<Edit>,
+}
+
+impl Model for EditList {
+    ghost use Rattle.std.specs.Prelude.{List};
+    ghost use Rattle.stage_graph.specs.declared.edit.Edit.{Edit};
+
+    ghost Value = { List Edit };
+
+    ghost use Rattle.std.specs.Coded.{codes};
+    ghost use Rattle.act_expr.specs.ExpressionCode.{coded_expression};
+
+    ghost coded = { Prim.hlevel (codes, coded_expression) };
+
+    ghost view = { λ edits. edits.items.items };
+}
+
+impl EditList {
+    /// No edits.
+    fn new(alloc: Global) -> EditList
+        ensures { result ≡ [] }
+    {
+        EditList {
+            items: Vec::new(alloc),
+        }
+    }
+
+    /// Adds an edit at the end.
+    fn push(&mut self, edit: Edit) -> Result<(), AllocError>
+        ensures { OnOk result (self.new ≡ self.old ++ edit ∷ []) }
+    {
+        self.items.push(edit)?;
+        Ok(())
+    }
+
+    /// The list, if it has 1 to 64 edits.
+    fn into_edits(self) -> Result<Edits, Fault>
+        ensures { IsRead result (with_list_size (edit_list self)) }
+    {
+        match Edits::new(self.items) {
+            Ok(edits) => Ok(edits),
+            Err(_) => Err(Fault::ListSize),
+        }
+    }
+}
+
+/// An element of `edits`.
+fn read_listed_edit(alloc: Global, value: &Value) -> Result<Edit, Fault>
+    ensures { IsRead result (listed_edit (view value.now)) }
+{
+    match value {
+        Value::Object(_) => {
+            let Some(text) = value.get(Member::Do.text()) else {
+                return Err(Fault::Shape(Member::Do));
+            };
+            let Some(text) = text.as_str() else {
+                return Err(Fault::Shape(Member::Do));
+            };
+            let Some(name) = EditName::new(text) else {
+                return Err(Fault::Shape(Member::Do));
+            };
+            read_edit(alloc, name, value)
+        }
+        _ => Err(Fault::Shape(Member::Edits)),
+    }
+}
+
+/// The edits of a list. Their number is looked at after each of them is read.
+pub(crate) fn read_edits(alloc: Global, object: &Value) -> Result<Edits, Fault>
+    ensures { IsRead result (edits_member (view object.now)) }
+{
+    let Some(value) = object.get(Member::Edits.text()) else {
+        return Err(Fault::Shape(Member::Edits));
+    };
+    let Some(items) = value.as_array() else {
+        return Err(Fault::Shape(Member::Edits));
+    };
+    let mut edits = EditList::new(alloc);
+    for item in items.as_slice() {
+        let edit = read_listed_edit(alloc, item)?;
+        edits.push(edit)?;
+    }
+    edits.into_edits()
+}

@@ -1,0 +1,133 @@
+//! Expressions, read from JSON.
+ghost use Rattle.std.specs.Prelude.{◌≡◌, Option, IfOk};
+ghost use Rattle.serde_json.specs.View.{view};
+ghost use Rattle.recording.specs.Tables.{beside};
+ghost use Rattle.recording.specs.ExpressionOf.{words, word_in, position_in, exception_in, expression_of};
+ghost use Rattle.recording.specs.Reads.{Reads};
+
+use crate::unread::Unread;
+use act_expr::{ExName, Expr, Form, Operator, Position};
+use serde_json::Value;
+use std::alloc::Global;
+
+/// The first item of an expression that is an array.
+#[derive(Clone, Copy, PartialEq, Eq, Debug)]
+pub(crate) enum Word {
+    Argument,
+    Binary(Operator),
+    If,
+    IsNull,
+    Failed,
+    IsWrapped,
+    CauseIs,
+    Throw,
+}
+
+impl Word {
+    /// The word that a text is, if it is one.
+    fn new(text: &str) -> Option<Word>
+        ensures { result ≡ beside words text.now }
+    {
+        match text {
+            "arg" => Some(Word::Argument),
+            "add" => Some(Word::Binary(Operator::Add)),
+            "sub" => Some(Word::Binary(Operator::Sub)),
+            "mul" => Some(Word::Binary(Operator::Mul)),
+            "div" => Some(Word::Binary(Operator::Div)),
+            "lt" => Some(Word::Binary(Operator::Lt)),
+            "eq" => Some(Word::Binary(Operator::Eq)),
+            "if" => Some(Word::If),
+            "isnull" => Some(Word::IsNull),
+            "failed" => Some(Word::Failed),
+            "iswrapped" => Some(Word::IsWrapped),
+            "causeis" => Some(Word::CauseIs),
+            "throw" => Some(Word::Throw),
+            _ => None,
+        }
+    }
+}
+
+fn word_in(value: &Value) -> Option<Word>
+    ensures { result ≡ word_in (view value.now) }
+{
+    Word::new(value.as_str()?)
+}
+
+fn position_in(value: &Value) -> Option<Position>
+    ensures { result ≡ position_in (view value.now) }
+{
+    match value.as_u64()? {
+        0 => Some(Position::First),
+        1 => Some(Position::Second),
+        _ => None,
+    }
+}
+
+pub(crate) fn exception_in(value: &Value) -> Option<ExName>
+    ensures { result ≡ exception_in (view value.now) }
+{
+    ExName::new(value.as_str()?)
+}
+
+/// The expression that a JSON value is. It calls itself no deeper than JSON nests, which is 127 levels.
+pub(crate) fn read_expression(alloc: Global, value: &Value) -> Result<Expr, Unread>
+    ensures { Reads result (expression_of (view value.now)) }
+{
+    match value {
+        Value::Null => Ok(Expr::new(alloc, Form::Literal(act_expr::Value::Null))?),
+        Value::Number(number) => {
+            let Some(number) = number.as_i64() else {
+                return Err(Unread::Shape);
+            };
+            let literal = act_expr::Value::Num(number);
+            Ok(Expr::new(alloc, Form::Literal(literal))?)
+        }
+        Value::Array(items) => {
+            let [head, operands @ ..] = items.as_slice() else {
+                return Err(Unread::Shape);
+            };
+            let Some(word) = word_in(head) else {
+                return Err(Unread::Shape);
+            };
+            match (word, operands) {
+                (Word::Argument, [position]) => {
+                    let Some(position) = position_in(position) else {
+                        return Err(Unread::Shape);
+                    };
+                    Ok(Expr::new(alloc, Form::Argument(position))?)
+                }
+                (Word::Binary(operator), [left, right]) => {
+                    let left = read_expression(alloc, left)?;
+                    let right = read_expression(alloc, right)?;
+                    Ok(Expr::new(alloc, Form::Binary(operator, left, right))?)
+                }
+                (Word::If, [condition, first, second]) => {
+                    let condition = read_expression(alloc, condition)?;
+                    let first = read_expression(alloc, first)?;
+                    let second = read_expression(alloc, second)?;
+                    Ok(Expr::new(alloc, Form::If(condition, first, second))?)
+                }
+                (Word::IsNull, [operand]) => {
+                    let operand = read_expression(alloc, operand)?;
+                    Ok(Expr::new(alloc, Form::IsNull(operand))?)
+                }
+                (Word::Failed, []) => Ok(Expr::new(alloc, Form::Failed)?),
+                (Word::IsWrapped, []) => Ok(Expr::new(alloc, Form::IsWrapped)?),
+                (Word::CauseIs, [name]) => {
+                    let Some(name) = exception_in(name) else {
+                        return Err(Unread::Shape);
+                    };
+                    Ok(Expr::new(alloc, Form::CauseIs(name))?)
+                }
+                (Word::Throw, [name]) => {
+                    let Some(name) = exception_in(name) else {
+                        return Err(Unread::Shape);
+                    };
+                    Ok(Expr::new(alloc, Form::Throw(name))?)
+                }
+                _ => Err(Unread::Shape),
+            }
+        }
+        Value::Bool(_) | Value::String(_) | Value::Object(_) => Err(Unread::Shape),
+    }
+}

@@ -1,0 +1,27 @@
+//! Recordings and the steps of scripts, read from JSON.
+//!
+//! `read_recording` gives the graph that a recording names, and `read_step` the step that a line of a script names. Each
+//! answers the first fault, in the order of the members: the definitions `named` and `step_of` say which one.
+#![tactic(auto)]
+
+mod edits;
+mod expression;
+mod fault;
+mod forms;
+mod json;
+mod law;
+mod member;
+mod object;
+mod recording;
+mod stage;
+mod step;
+mod unread;
+
+pub use fault::Fault;
+pub use law::{each_expression_is_read_back, each_recording_is_read_back, each_step_is_read_back};
+pub use member::Member;
+pub use recording::read_recording;
+pub use step::{Asked, Step, read_step};
+
+#[cfg(test)]
+mod tests;

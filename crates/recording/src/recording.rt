@@ -1,0 +1,135 @@
+//! Recordings: stages as JSON, and the graph that they make.
+//!
+//! The bytes are looked at in this order: their number, whether they are JSON, the members of the recording and of each
+//! stage in turn, the checks of the graph stage by stage, and last of all its cycles.
+ghost use Rattle.std.specs.Prelude.{◌≡◌};
+ghost use Rattle.serde_json.specs.View.{view};
+ghost use Rattle.act_expr.specs.declared.outcome.Mode.TheVariants.{Computed};
+ghost use Rattle.recording.specs.Members.{optional};
+ghost use Rattle.recording.specs.RecordingOf.{form_in, mode_in, stage_of, stages_member, recording_of, recorded, graph_of, named};
+ghost use Rattle.recording.specs.Reads.{IsRead, IsNamed};
+ghost use Rattle.recording.specs.declared.member.Member.TheVariants as member;
+ghost use Rattle.recording.specs.declared.stage.FormNumber.TheVariants.{One};
+
+use crate::json::read_json;
+use crate::stage::{FormNumber, read_spec};
+use crate::{Fault, Member};
+use act_expr::Mode;
+use serde_json::Value;
+use stage_graph::{Graph, Representation, Spec, Specs};
+use std::alloc::Global;
+
+/// How many bytes a recording may have.
+const LONGEST: usize = 67_108_864;
+
+/// The stages of a recording, and its wrap mode.
+#[derive(Drop)]
+pub(crate) struct Recording {
+    pub mode: Mode,
+    pub stages: Specs,
+}
+
+/// The form of the stages' times: 1 or 2, or 1 where it is not there.
+fn read_form(object: &Value) -> Result<FormNumber, Fault>
+    ensures { IsRead result (optional member.Form One form_in (view object.now)) }
+{
+    let Some(value) = object.get(Member::Form.text()) else {
+        return Ok(FormNumber::One);
+    };
+    match value.as_i64() {
+        Some(1) => Ok(FormNumber::One),
+        Some(2) => Ok(FormNumber::Two),
+        _ => Err(Fault::Shape(Member::Form)),
+    }
+}
+
+/// The wrap mode, which is `computed` where it is not there.
+fn read_mode(object: &Value) -> Result<Mode, Fault>
+    ensures { IsRead result (optional member.Wrap Computed mode_in (view object.now)) }
+{
+    let Some(value) = object.get(Member::Wrap.text()) else {
+        return Ok(Mode::Computed);
+    };
+    match value.as_str() {
+        Some("computed") => Ok(Mode::Computed),
+        Some("literal") => Ok(Mode::Literal),
+        _ => Err(Fault::Shape(Member::Wrap)),
+    }
+}
+
+/// An element of `stages`.
+fn read_stage(alloc: Global, form: FormNumber, value: &Value) -> Result<Spec, Fault>
+    ensures { IsRead result (stage_of form (view value.now)) }
+{
+    match value {
+        Value::Object(_) => read_spec(alloc, form, value),
+        _ => Err(Fault::Shape(Member::Stages)),
+    }
+}
+
+/// The stages, in order.
+#[tactic(auto, unfolding(crate::specs::RecordingOf::stages_member))]
+fn read_stages(alloc: Global, form: FormNumber, object: &Value) -> Result<Specs, Fault>
+    ensures { IsRead result (stages_member form (view object.now)) }
+{
+    let Some(value) = object.get(Member::Stages.text()) else {
+        return Err(Fault::Shape(Member::Stages));
+    };
+    let Some(items) = value.as_array() else {
+        return Err(Fault::Shape(Member::Stages));
+    };
+    let mut stages = Specs::new(alloc);
+    for item in items.as_slice() {
+        let stage = read_stage(alloc, form, item)?;
+        stages.push(stage)?;
+    }
+    Ok(stages)
+}
+
+/// The recording that a JSON value is.
+fn read_value(alloc: Global, value: &Value) -> Result<Recording, Fault>
+    ensures { IsRead result (recording_of (view value.now)) }
+{
+    match value {
+        Value::Object(_) => {
+            let form = read_form(value)?;
+            let mode = read_mode(value)?;
+            let stages = read_stages(alloc, form, value)?;
+            Ok(Recording { mode, stages })
+        }
+        _ => Err(Fault::Shape(Member::Recording)),
+    }
+}
+
+/// The recording that bytes are.
+fn read_recorded(alloc: Global, bytes: &[u8]) -> Result<Recording, Fault>
+    ensures { IsRead result (recorded bytes.now) }
+{
+    if bytes.len() > LONGEST {
+        return Err(Fault::TooLong);
+    }
+    let value = read_json(alloc, bytes)?;
+    read_value(alloc, &value)
+}
+
+/// The graph that recorded stages make.
+fn load<R: Representation>(alloc: Global, recording: &Recording) -> Result<Graph<R>, Fault>
+    ensures { IsNamed result (graph_of recording.now) }
+{
+    match Graph::load(alloc, recording.mode, &recording.stages) {
+        Ok(graph) => Ok(graph),
+        Err(stage_graph::Fault::Refused(refused)) => Err(Fault::Refused(refused)),
+        Err(stage_graph::Fault::Cycle(path)) => Err(Fault::Cycle(path)),
+        Err(stage_graph::Fault::Memory) => Err(Fault::Memory),
+    }
+}
+
+/// The graph that the bytes of a recording name, or the first fault in them.
+///
+/// It takes time and memory by the number of bytes, and of 65,536 stages at most by that of their feeds.
+pub fn read_recording<R: Representation>(alloc: Global, bytes: &[u8]) -> Result<Graph<R>, Fault>
+    ensures { IsNamed result (named bytes.now) }
+{
+    let recording = read_recorded(alloc, bytes)?;
+    load(alloc, &recording)
+}

@@ -1,0 +1,256 @@
+//! The steps of a script, one JSON object each.
+ghost use Rattle.std.specs.Prelude.{◌≡◌};
+ghost use Rattle.serde_json.specs.View.{view};
+ghost use Rattle.recording.specs.Tables.{beside};
+ghost use Rattle.recording.specs.Members.{required};
+ghost use Rattle.recording.specs.Reads.{IsRead};
+ghost use Rattle.recording.specs.declared.member.Member.TheVariants as member;
+ghost use Rattle.recording.specs.StepOf.{step_name_of, step_name_in, report_names, report_name_in, base_member, asked_of, step_with, step_in, step_of};
+
+use crate::edits::{EditName, read_edit, read_edits, read_stage_name};
+use crate::forms::count32_in;
+use crate::json::read_json;
+use crate::object::required_count32;
+use crate::{Fault, Member};
+use serde_json::Value;
+use stage_graph::{Edits, Name};
+use std::alloc::Global;
+
+/// What a report of a version is to tell.
+#[derive(Drop)]
+pub enum Asked {
+    /// All stages.
+    All,
+    /// The stage of this name.
+    One(Name),
+    /// The chain of blame from the stage of this name.
+    Blame(Name),
+    /// The stages that the version touched.
+    Changes,
+    /// The stages that the version moved in time.
+    Drift,
+    /// When each stage started, and how long it was queued and ran.
+    Times,
+}
+
+/// A step of a script.
+#[derive(Drop)]
+pub enum Step {
+    /// Opens a session at a version.
+    Open {
+        session: u32,
+        version: u32,
+    },
+    /// Asks for the version at which a session stands.
+    Head {
+        session: u32,
+    },
+    /// Takes a session back to the version before.
+    Undo {
+        session: u32,
+    },
+    /// Closes a session.
+    Close {
+        session: u32,
+    },
+    /// Commits edits to a session.
+    Change {
+        session: u32,
+        /// The version that is edited; none for the session's head.
+        base: Option<u32>,
+        edits: Edits,
+        /// Whether the step is `edits`, so that a refusal tells the index of its edit; each other step is one edit.
+        listed: bool,
+    },
+    /// Asks for a report of a version.
+    Report {
+        version: u32,
+        asked: Asked,
+    },
+}
+
+/// The name of a step.
+#[derive(Clone, Copy, PartialEq, Eq, Debug)]
+pub(crate) enum StepName {
+    Open,
+    Head,
+    Undo,
+    Close,
+    Change(EditName),
+    Edits,
+    Report,
+}
+
+impl StepName {
+    /// The step that a text names, if it names one.
+    fn new(text: &str) -> Option<StepName>
+        ensures { result ≡ step_name_of text.now }
+    {
+        match text {
+            "open" => Some(StepName::Open),
+            "head" => Some(StepName::Head),
+            "undo" => Some(StepName::Undo),
+            "close" => Some(StepName::Close),
+            "edits" => Some(StepName::Edits),
+            "report" => Some(StepName::Report),
+            _ => Some(StepName::Change(EditName::new(text)?)),
+        }
+    }
+}
+
+/// The name of a report.
+#[derive(Clone, Copy, PartialEq, Eq, Debug)]
+pub(crate) enum ReportName {
+    All,
+    One,
+    Blame,
+    Changes,
+    Drift,
+    Times,
+}
+
+impl ReportName {
+    /// The report that a text names, if it names one.
+    fn new(text: &str) -> Option<ReportName>
+        ensures { result ≡ beside report_names text.now }
+    {
+        match text {
+            "all" => Some(ReportName::All),
+            "one" => Some(ReportName::One),
+            "blame" => Some(ReportName::Blame),
+            "changes" => Some(ReportName::Changes),
+            "drift" => Some(ReportName::Drift),
+            "times" => Some(ReportName::Times),
+            _ => None,
+        }
+    }
+}
+
+/// What the step does.
+fn read_step_name(object: &Value) -> Result<StepName, Fault>
+    ensures { IsRead result (required member.Do step_name_in (view object.now)) }
+{
+    let Some(value) = object.get(Member::Do.text()) else {
+        return Err(Fault::Shape(Member::Do));
+    };
+    let Some(text) = value.as_str() else {
+        return Err(Fault::Shape(Member::Do));
+    };
+    StepName::new(text).ok_or(Fault::Shape(Member::Do))
+}
+
+/// What the report is to tell.
+fn read_report_name(object: &Value) -> Result<ReportName, Fault>
+    ensures { IsRead result (required member.What report_name_in (view object.now)) }
+{
+    let Some(value) = object.get(Member::What.text()) else {
+        return Err(Fault::Shape(Member::What));
+    };
+    let Some(text) = value.as_str() else {
+        return Err(Fault::Shape(Member::What));
+    };
+    ReportName::new(text).ok_or(Fault::Shape(Member::What))
+}
+
+/// The version that is edited, if the step names one.
+fn read_base(object: &Value) -> Result<Option<u32>, Fault>
+    ensures { IsRead result (base_member (view object.now)) }
+{
+    let Some(value) = object.get(Member::Base.text()) else {
+        return Ok(None);
+    };
+    match count32_in(value) {
+        Some(base) => Ok(Some(base)),
+        None => Err(Fault::Shape(Member::Base)),
+    }
+}
+
+/// What the report is to tell, with the stage that two reports are of.
+fn read_asked(alloc: Global, name: ReportName, object: &Value) -> Result<Asked, Fault>
+    ensures { IsRead result (asked_of name (view object.now)) }
+{
+    match name {
+        ReportName::All => Ok(Asked::All),
+        ReportName::One => Ok(Asked::One(read_stage_name(alloc, object)?)),
+        ReportName::Blame => Ok(Asked::Blame(read_stage_name(alloc, object)?)),
+        ReportName::Changes => Ok(Asked::Changes),
+        ReportName::Drift => Ok(Asked::Drift),
+        ReportName::Times => Ok(Asked::Times),
+    }
+}
+
+/// The step of a name, from its members.
+#[tactic(auto, unfolding(crate::specs::StepOf::step_with))]
+fn read_members(alloc: Global, name: StepName, object: &Value) -> Result<Step, Fault>
+    ensures { IsRead result (step_with name (view object.now)) }
+{
+    match name {
+        StepName::Open => {
+            let session = required_count32(object, Member::Session)?;
+            let version = required_count32(object, Member::Version)?;
+            Ok(Step::Open { session, version })
+        }
+        StepName::Head => {
+            let session = required_count32(object, Member::Session)?;
+            Ok(Step::Head { session })
+        }
+        StepName::Undo => {
+            let session = required_count32(object, Member::Session)?;
+            Ok(Step::Undo { session })
+        }
+        StepName::Close => {
+            let session = required_count32(object, Member::Session)?;
+            Ok(Step::Close { session })
+        }
+        StepName::Change(name) => {
+            let session = required_count32(object, Member::Session)?;
+            let base = read_base(object)?;
+            let edit = read_edit(alloc, name, object)?;
+            Ok(Step::Change {
+                session,
+                base,
+                edits: Edits::one(alloc, edit)?,
+                listed: false,
+            })
+        }
+        StepName::Edits => {
+            let session = required_count32(object, Member::Session)?;
+            let base = read_base(object)?;
+            let edits = read_edits(alloc, object)?;
+            Ok(Step::Change {
+                session,
+                base,
+                edits,
+                listed: true,
+            })
+        }
+        StepName::Report => {
+            let version = required_count32(object, Member::Version)?;
+            let name = read_report_name(object)?;
+            let asked = read_asked(alloc, name, object)?;
+            Ok(Step::Report { version, asked })
+        }
+    }
+}
+
+/// The step that a JSON value is.
+fn read_value(alloc: Global, value: &Value) -> Result<Step, Fault>
+    ensures { IsRead result (step_in (view value.now)) }
+{
+    match value {
+        Value::Object(_) => {
+            let name = read_step_name(value)?;
+            read_members(alloc, name, value)
+        }
+        _ => Err(Fault::Shape(Member::Step)),
+    }
+}
+
+/// The step that the bytes of a line name, or the first fault in them: no JSON, the first member that is not of its form,
+/// or last of all a list without edits or of more than 64.
+pub fn read_step(alloc: Global, bytes: &[u8]) -> Result<Step, Fault>
+    ensures { IsRead result (step_of bytes.now) }
+{
+    let value = read_json(alloc, bytes)?;
+    read_value(alloc, &value)
+}

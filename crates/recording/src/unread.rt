@@ -1,0 +1,25 @@
+//! Why an expression was not read.
+ghost use Rattle.std.specs.Prelude.{Some, Ok, Err};
+
+use std::alloc::AllocError;
+use thiserror::Error;
+
+/// Why an expression was not read.
+#[derive(Clone, Copy, PartialEq, Eq, Debug, Error)]
+pub(crate) enum Unread {
+    #[error("the JSON is no expression")]
+    Shape,
+    #[error("out of memory")]
+    Memory,
+}
+
+impl From<AllocError> for Unread {
+    ghost use Rattle.std.specs.Prelude.{◌≡◌};
+    ghost use Rattle.recording.specs.declared.unread.Unread.TheVariants.{Memory};
+
+    ghost from_gives = { λ _ fault. fault ≡ Memory };
+
+    fn from(_: AllocError) -> Unread {
+        Unread::Memory
+    }
+}
