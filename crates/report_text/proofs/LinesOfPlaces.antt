@@ -1,0 +1,73 @@
+-- The lines of the places that are left.
+use Rattle.std.proofs.Common.{◌≡◌, ℕ, ◌+◌, ◌-◌, ◌<◌, suc, zero, Bool, true, false, cond, List, [], ◌∷◌, ◌++◌, arith, refl, sym, ap, ◌∙◌, subst, append_assoc, Option, Result, Ok, Err, OnErr}
+use Rattle.std.proofs.KnownBytes.{Appends-trans}
+use Rattle.std.specs.List.{count_by, flat_map, range_with_len, sum_by}
+use Rattle.std.proofs.lemmas.List.Sums.{sum_by-append}
+use Rattle.std.specs.Io.KnownBytes.{Appends}
+use Rattle.text_io.specs.Sink.{AppendsBut, AppendsPrefix}
+
+-- a clause that is the same at every error
+pub on_err : {T E P : Type 0} (r : Result T E) → P → OnErr r P
+on_err (Ok x) p = tt
+on_err (Err e) p = p
+
+pub of_the_text : {T E : Type 0} (r : Result T E) (a b : Option (List ℕ)) (text same : List ℕ) → text ≡ same → OnErr r (AppendsPrefix a b text) → OnErr r (AppendsPrefix a b same)
+of_the_text r a b text same is stop = subst (λ l. OnErr r (AppendsPrefix a b l)) is stop
+
+-- the line of the next place, and those of the places after it
+pub next_place : (line : ℕ → List ℕ) (place end : ℕ) → place < end
+    → flat_map line (range_with_len place (end - place)) ≡ line place ++ flat_map line (range_with_len (place + 1) (end - (place + 1)))
+next_place line place end before_end =
+    let one_more : end - place ≡ suc (end - (place + 1)) = omega arith in ap (λ n. flat_map line (range_with_len place n)) one_more
+
+-- a prefix of the next piece
+pub stops_in_next : (a b c : Option (List ℕ)) (text rest piece more : List ℕ) → AppendsBut rest a b text → rest ≡ piece ++ more → AppendsPrefix b c piece → AppendsPrefix a c text
+stops_in_next a b c text rest piece more so_far next (left, here) = (
+  left ++ more,
+  record {
+    written = so_far.written ++ here.written;
+    appends = Appends-trans a b c _ _ so_far.appends here.appends;
+    whole = so_far.whole ∙ ap (λ l. so_far.written ++ l) (next ∙ ap (λ l. l ++ more) here.whole ∙ append_assoc here.written left more) ∙ sym (append_assoc so_far.written here.written (left ++ more));
+  },
+)
+
+-- the next piece
+pub writes_on : (a b c : Option (List ℕ)) (text rest piece more : List ℕ) → AppendsBut rest a b text → rest ≡ piece ++ more → Appends b c piece → AppendsBut more a c text
+writes_on a b c text rest piece more so_far next here = record {
+  written = so_far.written ++ piece;
+  appends = Appends-trans a b c _ _ so_far.appends here;
+  whole = so_far.whole ∙ ap (λ l. so_far.written ++ l) next ∙ sym (append_assoc so_far.written piece more);
+}
+
+-- a header in an empty line, and then the lines
+pub with_header : (line cleared header lines : List ℕ) → line ≡ cleared ++ header → cleared ≡ [] → line ++ lines ≡ header ++ lines
+with_header line cleared header lines is empty = ap (λ l. l ++ lines) (is ∙ ap (λ l. l ++ header) empty)
+
+-- the places up to one more
+range-more : (a n : ℕ) → range_with_len a (suc n) ≡ range_with_len a n ++ (a + n) ∷ []
+range-more a zero = let same : a ≡ a + 0 = omega arith in ap (λ p. p ∷ []) same
+range-more a (suc n) =
+    let same : (a + 1) + n ≡ a + suc n = omega arith in
+    ap (λ l. a ∷ l) (range-more (a + 1) n ∙ ap (λ p. range_with_len (a + 1) n ++ p ∷ []) same)
+
+pub count_more : (p : ℕ → Bool) (n : ℕ) → count_by p (range_with_len 0 (n + 1)) ≡ count_by p (range_with_len 0 n) + cond (p n) 1 0
+count_more p n =
+    let one_more : n + 1 ≡ suc n = omega arith in
+    let here : 0 + n ≡ n = omega arith in
+    let of_one : sum_by (λ x. cond (p x) 1 0) (n ∷ []) ≡ cond (p n) 1 0 = omega arith in
+    ap (λ m. count_by p (range_with_len 0 m)) one_more
+    ∙ ap (count_by p) (range-more 0 n ∙ ap (λ m. range_with_len 0 n ++ m ∷ []) here)
+    ∙ sum_by-append (λ x. cond (p x) 1 0) (range_with_len 0 n) (n ∷ [])
+    ∙ ap (λ m. count_by p (range_with_len 0 n) + m) of_one
+
+-- the count goes on at a place that has a line, and stays at one that has none
+pub counts_line : (p : ℕ → Bool) (n count next : ℕ) (has : Bool) → count ≡ count_by p (range_with_len 0 n) → has ≡ p n → has ≡ true → next ≡ count + 1
+    → next ≡ count_by p (range_with_len 0 (n + 1))
+counts_line p n count next has so_far is has_line more =
+    more ∙ ap (λ m. m + 1) so_far ∙ ap (λ (b : Bool). count_by p (range_with_len 0 n) + cond b 1 0) (sym has_line ∙ is) ∙ sym (count_more p n)
+
+pub counts_no_line : (p : ℕ → Bool) (n count next : ℕ) (has : Bool) → count ≡ count_by p (range_with_len 0 n) → has ≡ p n → has ≡ false → next ≡ count
+    → next ≡ count_by p (range_with_len 0 (n + 1))
+counts_no_line p n count next has so_far is has_none same =
+    let none : count_by p (range_with_len 0 n) ≡ count_by p (range_with_len 0 n) + 0 = omega arith in
+    same ∙ so_far ∙ none ∙ ap (λ (b : Bool). count_by p (range_with_len 0 n) + cond b 1 0) (sym has_none ∙ is) ∙ sym (count_more p n)

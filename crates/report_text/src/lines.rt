@@ -1,0 +1,114 @@
+//! The lines of the reports that go over all places.
+ghost use Rattle.std.specs.Prelude.{◌≡◌, ◌++◌, Some, OnOk, string_bytes};
+ghost use Rattle.stage_graph.specs.Plain.{stage_at};
+ghost use Rattle.report_text.specs.Lines.{has_line, line_count, place_line};
+ghost use Rattle.report_text.specs.Texts.{drift_line, stage_line, times_line};
+
+use crate::queries::{rank_of, start_of, state_of};
+use crate::shift::Shift;
+use crate::words::push_number_or_dash;
+use stage_graph::{Representation, Stage};
+use std::alloc::AllocError;
+use std::fmt::Write;
+use version_store::Version;
+
+/// What the lines of a report say of a stage.
+#[derive(Clone, Copy, Debug, PartialEq, Eq)]
+pub(crate) enum Lines {
+    /// Its operation, rank and state.
+    States,
+    /// When its action started, and how long it was queued and ran.
+    Times,
+    /// How much later or earlier than in the parent it completes, if it does.
+    Shifts,
+}
+
+/// How many places have a line.
+pub(crate) fn line_count<R: Representation>(lines: Lines, version: &Version<R>) -> u32
+    ensures { result ≡ line_count lines version.now }
+{
+    let mut count = 0;
+    for place in 0..version.graph().len() as u32 {
+        if has_line(lines, version, place) {
+            count += 1;
+        }
+    }
+    count
+}
+
+// Whether a place has a line.
+fn has_line<R: Representation>(lines: Lines, version: &Version<R>, place: u32) -> bool
+    ensures { result ≡ has_line lines version.now place }
+{
+    match lines {
+        Lines::States | Lines::Times => version.graph().stage(place).is_some(),
+        Lines::Shifts => Shift::at(version, place).is_some(),
+    }
+}
+
+/// Puts the line of a place at the end of a text, or nothing where it has none.
+pub(crate) fn push_line<R: Representation>(
+    line: &mut String,
+    lines: Lines,
+    version: &Version<R>,
+    place: u32,
+) -> Result<(), AllocError>
+    ensures { OnOk result (string_bytes line.new ≡ string_bytes line.old ++ place_line lines version.now place) }
+{
+    let Some(stage) = version.graph().stage(place) else {
+        return Ok(());
+    };
+    match lines {
+        Lines::States => push_stage(line, version, place, stage),
+        Lines::Times => push_times(line, version, place, stage),
+        Lines::Shifts => push_drift(line, version, place, stage),
+    }
+}
+
+fn push_stage<R: Representation>(
+    line: &mut String,
+    version: &Version<R>,
+    place: u32,
+    stage: &Stage,
+) -> Result<(), AllocError>
+    requires { stage_at version.now.graph.places place ≡ Some stage.now }
+    ensures { OnOk result (string_bytes line.new ≡ string_bytes line.old ++ stage_line version.now.graph place stage.now) }
+{
+    let name = stage.name.as_str();
+    let op = stage.op;
+    let rank = rank_of(version, place);
+    let state = state_of(version, place);
+    writeln!(line, "{name} {op} rank {rank} {state}")
+}
+
+fn push_times<R: Representation>(
+    line: &mut String,
+    version: &Version<R>,
+    place: u32,
+    stage: &Stage,
+) -> Result<(), AllocError>
+    requires { stage_at version.now.graph.places place ≡ Some stage.now }
+    ensures { OnOk result (string_bytes line.new ≡ string_bytes line.old ++ times_line version.now.graph place stage.now) }
+{
+    let name = stage.name.as_str();
+    let queued = stage.queued;
+    let runs = stage.runs;
+    write!(line, "{name} start ")?;
+    push_number_or_dash(line, start_of(version, place))?;
+    writeln!(line, " queued {queued} runs {runs}")
+}
+
+fn push_drift<R: Representation>(
+    line: &mut String,
+    version: &Version<R>,
+    place: u32,
+    stage: &Stage,
+) -> Result<(), AllocError>
+    ensures { OnOk result (string_bytes line.new ≡ string_bytes line.old ++ drift_line version.now place stage.now) }
+{
+    let name = stage.name.as_str();
+    match Shift::at(version, place) {
+        Some(shift) => writeln!(line, "{name} {shift}"),
+        None => Ok(()),
+    }
+}

@@ -1,0 +1,38 @@
+//! The reports of a version.
+ghost use Rattle.std.specs.Prelude.{◌≡◌, ◌↔◌, ◌+◌, ◌-◌, ◌^◌, ◌<◌, [], None, unwrap_or, OnOk, OnErr};
+ghost use Rattle.std.specs.Io.KnownBytes.{Appends};
+ghost use Rattle.text_io.specs.Sink.{AppendsPrefix};
+ghost use Rattle.report_text.specs.Reports.{failed_writes, text};
+
+use crate::fault::ReportFault;
+use crate::lines::Lines;
+use crate::what::What;
+use crate::writing::write_lines;
+use stage_graph::Representation;
+use std::alloc::Global;
+use text_io::Sink;
+use version_store::Version;
+
+/// Writes a report of a version, a line at a time.
+///
+/// Errors: `NoStage` where the report asks for a stage that is not live, and then nothing is
+/// written; `Write` where a write failed or took nothing; `Memory`.
+pub fn report<R: Representation, S: Sink>(
+    alloc: Global,
+    version: &Version<R>,
+    what: What,
+    sink: &mut S,
+) -> Result<(), ReportFault>
+    requires { S.failures sink.old < 2 ^ 64 - 1 }
+    ensures ok { OnOk result (Appends (S.held sink.old) (S.held sink.new) (unwrap_or (text version.now what) [])) }
+    ensures err { OnErr result (AppendsPrefix (S.held sink.old) (S.held sink.new) (unwrap_or (text version.now what) [])) }
+    ensures no_stage { (result ≡ Err ReportFault.NoStage) ↔ (text version.now what ≡ None) }
+    ensures failures { S.failures sink.new ≡ S.failures sink.old + failed_writes result }
+{
+    let mut line = String::new(alloc);
+    match what {
+        What::All => write_lines(&mut line, Lines::States, version, sink),
+        What::Drift => write_lines(&mut line, Lines::Shifts, version, sink),
+        What::Times => write_lines(&mut line, Lines::Times, version, sink),
+    }
+}

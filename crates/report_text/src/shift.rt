@@ -1,0 +1,51 @@
+//! How a stage's moment differs from that in the parent.
+ghost use Rattle.std.specs.Prelude.{◌≡◌};
+ghost use Rattle.report_text.specs.Texts.{shift_at, shift_since};
+
+use stage_graph::Representation;
+use std::fmt;
+use version_store::{Before, Version};
+
+/// How many ticks later or earlier a stage completes.
+#[derive(Clone, Copy, Debug, PartialEq, Eq)]
+pub(crate) enum Shift {
+    Later(u64),
+    Earlier(u64),
+}
+
+impl fmt::Display for Shift {
+    ghost use Rattle.std.specs.Prelude.{Some};
+    ghost use Rattle.report_text.specs.Texts.{shift_text};
+
+    ghost output = { λ shift. Some (shift_text shift) };
+
+    fn fmt<W: fmt::Write>(&self, f: &mut fmt::Formatter<W>) -> fmt::Result {
+        match self {
+            Shift::Later(ticks) => write!(f, "later {ticks}"),
+            Shift::Earlier(ticks) => write!(f, "earlier {ticks}"),
+        }
+    }
+}
+
+impl Shift {
+    /// The shift of a completion in the parent, where there is one, to one here.
+    fn since(before: Before, moment: Option<u64>) -> Option<Shift>
+        ensures { result ≡ shift_since before moment }
+    {
+        match (before, moment) {
+            (Before::Done(_, old), Some(new)) if old < new => Some(Shift::Later(new - old)),
+            (Before::Done(_, old), Some(new)) if new < old => Some(Shift::Earlier(old - new)),
+            _ => None,
+        }
+    }
+
+    /// The shift of the stage at a place, if it completes at another moment than in the parent.
+    pub(crate) fn at<R: Representation>(version: &Version<R>, place: u32) -> Option<Shift>
+        ensures { result ≡ shift_at version.now place }
+    {
+        match (version.before(place), version.moment(place)) {
+            (Ok(before), Ok(moment)) => Shift::since(before, moment),
+            _ => None,
+        }
+    }
+}

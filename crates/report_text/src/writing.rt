@@ -1,0 +1,75 @@
+//! The loop that writes a header and then a line for each place.
+ghost use Rattle.std.specs.Prelude.{◌≡◌, ◌≢◌, ◌+◌, ◌-◌, ◌^◌, ◌<◌, ◌++◌, OnOk, OnErr, string_bytes};
+ghost use Rattle.std.specs.List.{flat_map};
+ghost use Rattle.std.specs.Io.KnownBytes.{Appends};
+ghost use Rattle.stage_graph.specs.Plain.{all_places};
+ghost use Rattle.text_io.specs.Sink.{AppendsPrefix};
+ghost use Rattle.report_text.specs.Lines.{lines_text, place_line};
+ghost use Rattle.report_text.specs.Reports.{failed_writes};
+
+use crate::fault::ReportFault;
+use crate::headers::push_header;
+use crate::lines::{Lines, line_count, push_line};
+use stage_graph::Representation;
+use text_io::Sink;
+use version_store::Version;
+
+/// Writes the header and the lines of a report that goes over all places.
+pub(crate) fn write_lines<R: Representation, S: Sink>(
+    line: &mut String,
+    lines: Lines,
+    version: &Version<R>,
+    sink: &mut S,
+) -> Result<(), ReportFault>
+    requires { S.failures sink.old < 2 ^ 64 - 1 }
+    ensures ok { OnOk result (Appends (S.held sink.old) (S.held sink.new) (lines_text lines version.now)) }
+    ensures err { OnErr result (AppendsPrefix (S.held sink.old) (S.held sink.new) (lines_text lines version.now)) }
+    ensures found { result ≢ Err ReportFault.NoStage }
+    ensures failures { S.failures sink.new ≡ S.failures sink.old + failed_writes result }
+{
+    line.clear();
+    push_header(line, lines, version, line_count(lines, version))?;
+    write_each_place(line, lines, version, sink)
+}
+
+// Writes the header, which stands in the line's room, and then the line of each place.
+fn write_each_place<R: Representation, S: Sink>(
+    line: &mut String,
+    lines: Lines,
+    version: &Version<R>,
+    sink: &mut S,
+) -> Result<(), ReportFault>
+    requires { S.failures sink.old < 2 ^ 64 - 1 }
+    ensures ok { OnOk result (Appends (S.held sink.old) (S.held sink.new)
+        (string_bytes line.old ++ flat_map (place_line lines version.now) (all_places version.now.graph.places))) }
+    ensures err { OnErr result (AppendsPrefix (S.held sink.old) (S.held sink.new)
+        (string_bytes line.old ++ flat_map (place_line lines version.now) (all_places version.now.graph.places))) }
+    ensures found { result ≢ Err ReportFault.NoStage }
+    ensures failures { S.failures sink.new ≡ S.failures sink.old + failed_writes result }
+{
+    sink.write(line.as_bytes())?;
+    for place in 0..version.graph().len() as u32 {
+        write_place(line, lines, version, place, sink)?;
+    }
+    Ok(())
+}
+
+// Writes the line of a place.
+fn write_place<R: Representation, S: Sink>(
+    line: &mut String,
+    lines: Lines,
+    version: &Version<R>,
+    place: u32,
+    sink: &mut S,
+) -> Result<(), ReportFault>
+    requires { S.failures sink.old < 2 ^ 64 - 1 }
+    ensures ok { OnOk result (Appends (S.held sink.old) (S.held sink.new) (place_line lines version.now place)) }
+    ensures err { OnErr result (AppendsPrefix (S.held sink.old) (S.held sink.new) (place_line lines version.now place)) }
+    ensures found { result ≢ Err ReportFault.NoStage }
+    ensures failures { S.failures sink.new ≡ S.failures sink.old + failed_writes result }
+{
+    line.clear();
+    push_line(line, lines, version, place)?;
+    sink.write(line.as_bytes())?;
+    Ok(())
+}

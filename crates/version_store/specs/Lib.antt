@@ -1,0 +1,3 @@
+pub mod Plain
+pub mod Queries
+pub mod Drafts

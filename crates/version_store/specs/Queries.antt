@@ -1,0 +1,58 @@
+-- What a version answers about a stage: by its graph alone, evaluated from scratch.
+use Rattle.std.specs.Prelude.{ℕ, Option, Some, None, Result, Ok, Err}
+use Rattle.std.specs.Option.{option_map, option_and_then}
+use Rattle.act_expr.specs.declared.outcome.Outcome.{Outcome}
+use Rattle.stage_graph.specs.declared.stage.Stage.{Stage}
+use Rattle.stage_graph.specs.Plain.{PlainGraph, stage_at}
+use Rattle.stage_ops.specs.declared.state.State.{State}
+use Rattle.stage_ops.specs.declared.state.Done.{Done}
+use Rattle.stage_ops.specs.Evaluation.{at}
+use Rattle.stage_ops.specs.Java.{java_step}
+use Rattle.scratch_eval.specs.declared.answers.NoStage.{NoStage}
+use Rattle.version_store.specs.Plain.{Origin}
+use Rattle.version_store.specs.declared.before.Before.{Before}
+use Rattle.version_store.specs.declared.before.Before.TheVariants as stood
+
+-- what the stage at a place comes to
+abbrev pub state_of : PlainGraph → ℕ → State
+state_of graph place = at (java_step graph.mode) graph.places place
+
+-- the outcome of a completed stage
+abbrev pub outcome_in : State → Option Outcome
+outcome_in state = option_map (λ done. done.outcome) state.done
+
+-- the moment of its completion, in ticks
+abbrev pub moment_in : State → Option ℕ
+moment_in state = option_map (λ done. done.moment) state.done
+
+-- the moment at which its action started, in ticks, if it did
+abbrev pub start_in : State → Option ℕ
+start_in state = option_and_then (λ done. done.start) state.done
+
+-- the answer about a stage, where there is one
+abbrev pub of_stage : {A : Type 0} → Option Stage → A → Result A NoStage
+of_stage None answer = Err (record {})
+of_stage (Some stage) answer = Ok answer
+
+-- the answer about the live stage at a place, or that no stage stands there
+abbrev pub told : {A : Type 0} → PlainGraph → ℕ → A → Result A NoStage
+told graph place answer = of_stage (stage_at graph.places place) answer
+
+-- what a stage held
+abbrev pub held : Option Done → Before
+held None = stood.Pending
+held (Some done) = stood.Done done.outcome done.moment
+
+abbrev pub held_by : PlainGraph → ℕ → Option Stage → Before
+held_by graph place None = stood.Absent
+held_by graph place (Some stage) = held (state_of graph place).done
+
+-- what the stage at a place held in the parent's graph
+abbrev pub before : Option Origin → ℕ → Before
+before None place = stood.Absent
+before (Some origin) place = held_by origin.graph place (stage_at origin.graph.places place)
+
+-- the place that a name has, or that no stage has the name
+abbrev pub found : Option ℕ → Result ℕ NoStage
+found None = Err (record {})
+found (Some place) = Ok place

@@ -1,0 +1,56 @@
+// What ends the program early.
+use crate::report_all::ReportAllFault;
+use recording::Fault as ReadingFault;
+use std::alloc::AllocError;
+use std::fmt;
+
+/// What ends the program early.
+#[derive(Debug, Drop)]
+pub(crate) enum Fault {
+    /// The recording is refused.
+    Refused(ReadingFault),
+    /// A file or standard input can't be opened or read.
+    Read,
+    /// Standard output or standard error can't be written.
+    Write,
+    Memory,
+}
+
+impl Fault {
+    /// The exit status.
+    pub(crate) fn status(&self) -> u8 {
+        match self {
+            Fault::Refused(ReadingFault::Memory) => 4,
+            Fault::Refused(_) => 1,
+            Fault::Read | Fault::Write => 3,
+            Fault::Memory => 4,
+        }
+    }
+}
+
+impl fmt::Display for Fault {
+    fn fmt<W: fmt::Write>(&self, f: &mut fmt::Formatter<W>) -> fmt::Result {
+        match self {
+            Fault::Refused(fault) => write!(f, "{fault}"),
+            Fault::Read => f.write_str("refused 41 ReadFault"),
+            Fault::Write => f.write_str("refused 40 WriteFault"),
+            Fault::Memory => f.write_str("refused 90 Memory"),
+        }
+    }
+}
+
+impl From<AllocError> for Fault {
+    fn from(_: AllocError) -> Fault {
+        Fault::Memory
+    }
+}
+
+impl From<ReportAllFault> for Fault {
+    fn from(fault: ReportAllFault) -> Fault {
+        match fault {
+            ReportAllFault::Refused(fault) => Fault::Refused(fault),
+            ReportAllFault::Write => Fault::Write,
+            ReportAllFault::Memory => Fault::Memory,
+        }
+    }
+}

@@ -1,0 +1,82 @@
+//! `whatif`: a what-if debugger for recorded runs of asynchronous Java services.
+#![tactic(auto)]
+
+ghost use Rattle.std.specs.Prelude.{◌-◌, ◌^◌, ◌<◌};
+
+mod fault;
+mod input;
+mod options;
+mod report_all;
+#[cfg(test)]
+mod tests;
+
+use clap::ArgMatches;
+use fault::Fault;
+use report_all::report_all;
+use std::io::{self, BufWriter};
+use std::process::ExitCode;
+use text_io::{CountedWriter, Sink};
+
+fn main(rt: HostRuntime) -> ExitCode {
+    match run(&rt) {
+        Ok(code) => code,
+        Err(fault) => refuse(&rt, &fault),
+    }
+}
+
+/// Prints why the program ends early, but for a fault of writing; the answer is its exit status.
+fn refuse(rt: &HostRuntime, fault: &Fault) -> ExitCode {
+    if let Fault::Write = fault {
+        return ExitCode::from(fault.status());
+    }
+    match rt.println(format_args!("{fault}")) {
+        Ok(()) => ExitCode::from(fault.status()),
+        Err(_) => ExitCode::from(Fault::Write.status()),
+    }
+}
+
+fn run(rt: &HostRuntime) -> Result<ExitCode, Fault> {
+    let alloc = rt.alloc();
+    let Ok(words) = std::env::args(rt) else {
+        return Err(Fault::Read);
+    };
+    let words: Vec<String> = words.collect(alloc)?;
+    let command = options::command(alloc)?;
+    let matches = match command.try_get_matches_from(words.as_slice()) {
+        Ok(matches) => matches,
+        Err(error) => return told(rt, &error),
+    };
+    if let Some(("report", matches)) = matches.subcommand() {
+        run_report(rt, matches)?;
+    }
+    Ok(ExitCode::SUCCESS)
+}
+
+/// Prints what `clap` says in place of an answer: help that was asked for, or what is wrong with the command line.
+fn told(rt: &HostRuntime, error: &clap::Error) -> Result<ExitCode, Fault> {
+    match error.print(rt) {
+        Ok(()) if error.use_stderr() => Ok(ExitCode::from(2)),
+        Ok(()) => Ok(ExitCode::SUCCESS),
+        Err(_) => Err(Fault::Write),
+    }
+}
+
+/// Prints the report of all stages of a recording.
+fn run_report(rt: &HostRuntime, matches: &ArgMatches<'_>) -> Result<(), Fault> {
+    let recording = input::recording(rt, matches.get_str("FILE"))?;
+    let Ok(writer) = BufWriter::new(rt.alloc(), io::writer(rt)) else {
+        return Err(Fault::Memory);
+    };
+    let mut sink = CountedWriter::new(writer);
+    report_all(rt.alloc(), &recording, &mut sink)?;
+    flush(&mut sink)
+}
+
+fn flush<S: Sink>(sink: &mut S) -> Result<(), Fault>
+    requires { S.failures sink.old < 2 ^ 64 - 1 }
+{
+    match sink.flush() {
+        Ok(()) => Ok(()),
+        Err(_) => Err(Fault::Write),
+    }
+}

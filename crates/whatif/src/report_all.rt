@@ -1,0 +1,45 @@
+//! The report of all stages of a recording.
+ghost use Rattle.std.specs.Prelude.{◌≡◌, ◌+◌, ◌-◌, ◌^◌, ◌<◌};
+ghost use Rattle.whatif.specs.ReportAll.{IsReported, failed_writes};
+
+use recording::{Fault as ReadingFault, read_recording};
+use report_text::{ReportFault, What, report};
+use stage_graph::{Graph, InShared};
+use std::alloc::Global;
+use text_io::Sink;
+use version_store::Version;
+
+/// Why the report of a recording was not written to its end.
+#[derive(Debug, Drop)]
+pub enum ReportAllFault {
+    /// The recording is refused, or memory was wanting while it was read; nothing was written.
+    Refused(ReadingFault),
+    /// A write failed, or took nothing.
+    Write,
+    Memory,
+}
+
+/// Writes the `all` report of version 0 of a recording.
+pub fn report_all<S: Sink>(
+    alloc: Global,
+    recording: &[u8],
+    sink: &mut S,
+) -> Result<(), ReportAllFault>
+    requires { S.failures sink.old < 2 ^ 64 - 1 }
+    ensures written { IsReported recording.now (S.held sink.old) (S.held sink.new) result }
+    ensures failures { S.failures sink.new ≡ S.failures sink.old + failed_writes result }
+{
+    let graph: Graph<InShared> = match read_recording(alloc, recording) {
+        Ok(graph) => graph,
+        Err(fault) => return Err(ReportAllFault::Refused(fault)),
+    };
+    let Ok(version) = Version::load(alloc, graph) else {
+        return Err(ReportAllFault::Memory);
+    };
+    match report(alloc, &version, What::All, sink) {
+        Ok(()) => Ok(()),
+        Err(ReportFault::Write) => Err(ReportAllFault::Write),
+        Err(ReportFault::Memory) => Err(ReportAllFault::Memory),
+        Err(ReportFault::NoStage) => unreachable!(),
+    }
+}
