@@ -22,6 +22,3 @@ pub use law::{each_expression_is_read_back, each_recording_is_read_back, each_st
 pub use member::Member;
 pub use recording::read_recording;
 pub use step::{Asked, Step, read_step};
-
-#[cfg(test)]
-mod tests;

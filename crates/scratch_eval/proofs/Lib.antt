@@ -1,3 +1,2 @@
 pub mod Evaluating
 pub mod Querying
-pub mod Searching

@@ -23,8 +23,8 @@ use Rattle.stage_ops.specs.States.{seen_at, IsReadBy}
 use Rattle.stage_ops.specs.Evaluation.{on_states, at, ReadsDecide, BlamesRead}
 use Rattle.scratch_eval.proofs.Evaluating.{at_stage, read_is_feed}
 use Rattle.scratch_eval.specs.declared.answers.Answer.{Answer}
-use Rattle.scratch_eval.specs.declared.queries.QueryFault.{QueryFault}
-use Rattle.scratch_eval.specs.declared.queries.QueryFault.TheVariants.{NoStage}
+use Rattle.scratch_eval.specs.declared.fault.QueryFault.{QueryFault}
+use Rattle.scratch_eval.specs.declared.fault.QueryFault.TheVariants.{NoStage}
 use Rattle.act_expr.specs.declared.outcome.Mode.{Mode}
 use Rattle.stage_ops.specs.OneDuration.{sight_of}
 use Rattle.stage_ops.proofs.OneDurationLemmas.{same_at}

@@ -1,4 +1,3 @@
 pub mod Answers
 pub mod Blame
 pub mod Queries
-pub mod Search

@@ -1,12 +1,11 @@
 -- What is asked of a graph stage by stage.
 use Rattle.std.specs.Prelude.{ℕ, ◌≡◌, List, Option, Some, None, Result, Ok, Err}
-use Rattle.std.specs.Option.{option_map}
 use Rattle.stage_graph.specs.declared.stage.Stage.{Stage}
 use Rattle.stage_graph.specs.Plain.{stage_at, dependents}
 use Rattle.stage_ops.specs.declared.state.State.{State}
 use Rattle.stage_ops.specs.States.{Completion}
-use Rattle.scratch_eval.specs.declared.queries.QueryFault.{QueryFault}
-use Rattle.scratch_eval.specs.declared.queries.QueryFault.TheVariants.{NoStage, Memory}
+use Rattle.scratch_eval.specs.declared.fault.QueryFault.{QueryFault}
+use Rattle.scratch_eval.specs.declared.fault.QueryFault.TheVariants.{NoStage, Memory}
 use Rattle.scratch_eval.specs.Blame.{chain}
 
 abbrev pub query_number : QueryFault → ℕ

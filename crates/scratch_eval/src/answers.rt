@@ -1,31 +1,17 @@
 //! The answers of evaluation, by place.
 ghost use Rattle.std.specs.Prelude.{◌≡◌, ◌<◌, None, Some, length, slice_set, replicate, IfOk};
 
+use crate::fault::NoStage;
 use act_expr::Outcome;
 use stage_ops::{Done, Look, State};
 use std::alloc::{AllocError, Global};
 use std::marker::Model;
-use thiserror::Error;
 
 /// The state and the rank of a live stage.
 #[derive(Clone, Copy, Debug, PartialEq, Eq)]
 pub struct Answer {
     pub state: State,
     pub rank: u32,
-}
-
-/// No live stage stands at the place.
-#[derive(Clone, Copy, Debug, PartialEq, Eq, Error)]
-#[error("10 NoStage")]
-pub struct NoStage;
-
-impl NoStage {
-    /// The number by which the refusal is printed.
-    pub fn number(self) -> u32
-        ensures { result ≡ 10 }
-    {
-        10
-    }
 }
 
 /// The answers by place. Contracts see the list of them.

@@ -1,16 +1,16 @@
+//! Evaluation of a graph from scratch: what each stage comes to, its rank, who is to blame and who uses it.
 #![tactic(auto)]
 
-//! Evaluation of a graph from scratch.
-
 mod answers;
+mod fault;
 mod laws;
-mod order;
 mod queries;
 mod scratch;
 
-pub use answers::{Answer, Answers, NoStage};
+pub use answers::{Answer, Answers};
+pub use fault::{NoStage, QueryFault};
 pub use laws::{
     chains_follow_blame, moments_follow_ranks, moments_follow_ranks_unqueued, one_answer,
 };
-pub use queries::{QueryFault, chain, users};
+pub use queries::{chain, users};
 pub use scratch::evaluate;

@@ -7,45 +7,12 @@ ghost use Rattle.stage_ops.specs.declared.state.State.{State};
 ghost use Rattle.stage_ops.specs.States.{Completion, state_at};
 ghost use Rattle.scratch_eval.specs.Answers.{AreAnswers, states_of};
 ghost use Rattle.scratch_eval.specs.Blame.{followed};
-ghost use Rattle.scratch_eval.specs.Queries.{AnswersOrMemory, chain_at, users_at, query_number};
+ghost use Rattle.scratch_eval.specs.Queries.{AnswersOrMemory, chain_at, users_at};
 
 use crate::answers::Answers;
+use crate::fault::QueryFault;
 use stage_graph::{Graph, Places, Representation, Stage};
 use std::alloc::{AllocError, Global};
-use std::fmt;
-use thiserror::Error;
-
-/// Why a query is not answered.
-#[derive(Clone, Copy, Debug, PartialEq, Eq, Error)]
-pub enum QueryFault {
-    /// No live stage stands at the place.
-    #[error("10 NoStage")]
-    NoStage,
-    #[error("90 Memory")]
-    Memory,
-}
-
-impl From<AllocError> for QueryFault {
-    ghost use Rattle.scratch_eval.specs.declared.queries.QueryFault.TheVariants.{Memory};
-
-    ghost from_gives = { λ _ fault. fault ≡ Memory };
-
-    fn from(_error: AllocError) -> QueryFault {
-        QueryFault::Memory
-    }
-}
-
-impl QueryFault {
-    /// The number by which the fault is printed.
-    pub fn number(self) -> u32
-        ensures { result ≡ query_number self }
-    {
-        match self {
-            QueryFault::NoStage => 10,
-            QueryFault::Memory => 90,
-        }
-    }
-}
 
 /// The chain of blame from a place, as the states tell it.
 fn follow(alloc: Global, answers: &Answers, place: u32) -> Result<Places, AllocError>

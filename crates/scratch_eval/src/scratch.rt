@@ -1,4 +1,6 @@
-//! Evaluation from scratch.
+//! Evaluation from scratch: the state and the rank of each stage, which is computed once and after its feeds.
+//!
+//! All that grows is made before the first stage is computed, so a refused allocation leaves the meter as it was.
 ghost use Rattle.std.specs.Prelude.{◌≡◌, ℕ, ◌+◌, ◌<◌, ◌≤◌, ◌^◌, All, IfOk, OnOk, OnErr, length, count_by, is_some};
 ghost use Rattle.stage_graph.specs.Plain.{feeds_of};
 ghost use Rattle.stage_ops.specs.Among.{IsSoundAmong};
@@ -7,9 +9,8 @@ ghost use Rattle.stage_ops.specs.States.{seen_at, state_at, IsBy, seen_of};
 ghost use Rattle.scratch_eval.specs.Answers.{AreAnswers, TellOneDuration, rank_at, states_of};
 
 use crate::answers::{Answer, Answers};
-use crate::order::ranked_order;
 use act_expr::Mode;
-use stage_graph::{Graph, Representation, Stage};
+use stage_graph::{Graph, Representation, Stage, ranked_order};
 use stage_ops::{Look, Meter, StageOps};
 use std::alloc::{AllocError, Global};
 
@@ -50,7 +51,8 @@ fn answer_stage<N, O: StageOps<N>>(
     }
 }
 
-/// Evaluates a ranked graph from scratch, each live stage once.
+/// Evaluates a ranked graph from scratch, each live stage once. Its answers are those of the definitions, `at` and `rank`;
+/// by `JavaOps`, where no action is queued, they are also those of the definitions with one duration and no start.
 pub fn evaluate<R: Representation, N, O: StageOps<N>>(
     alloc: Global,
     graph: &Graph<R>,

@@ -1,7 +1,7 @@
 -- What edits leave as it was.
-use Rattle.std.proofs.Common.{Bool, true, false, ◌||◌, ◌&&◌, ◌≡◌, ◌<◌, ◌≤◌, ◌+◌, ℕ, inl, inr, ◌⊎◌, cond, nat_eq, List, [], ◌∷◌, ◌++◌, length, Option, Some, None, is_some, not, Result, Ok, Err, sym, refl, ap, ◌∙◌, subst, arith}
+use Rattle.std.proofs.Common.{Bool, true, false, ◌||◌, ◌&&◌, ◌≡◌, ◌<◌, ◌≤◌, ◌+◌, ℕ, inl, inr, ◌⊎◌, nat_eq, List, [], ◌∷◌, ◌++◌, length, Option, Some, None, is_some, not, Result, Ok, Err, sym, refl, ap, ◌∙◌, subst, arith}
 use Rattle.std.specs.Prelude.{Contains, slice_index}
-use Rattle.std.specs.List.{list_any, filter}
+use Rattle.std.specs.List.{list_any}
 use Rattle.std.specs.Str.{bytes_eq}
 use Rattle.std.specs.Option.{option_and_then}
 use Rattle.std.proofs.Math.ListN.{set, length-set}
@@ -10,7 +10,6 @@ use Rattle.std.proofs.lemmas.Bool.Decides.{Decides-eqb}
 use Rattle.std.proofs.lemmas.Option.{same_Some}
 use Rattle.std.proofs.lemmas.Grind.{flat_map-append}
 use Rattle.std.proofs.lemmas.List.{get_or_past, get_or_append_left, get_or_push, length-append, append-nil}
-use Rattle.std.proofs.lemmas.List.Elements.{filter-append}
 use Rattle.std.proofs.lemmas.List.Folds.{list_any-append}
 use Rattle.std.proofs.lemmas.Slice.Eq.{bytes_eq-Decides}
 use Rattle.stage_graph.specs.declared.stage.Stage.{Stage}
@@ -25,7 +24,7 @@ use Rattle.stage_graph.specs.Operations.{has_action}
 use Rattle.stage_graph.specs.Names.{stage_of}
 use Rattle.stage_graph.specs.Edits.{stage_edit, standing, changed_at, appended, added, unless_used, removed_at, first_user, edited}
 use Rattle.stage_graph.specs.Changes.{edited_name, moves, is_edited, is_moved}
-use Rattle.stage_graph.specs.Kept.{removes, is_removed, Stays, Becomes, IsChangeBy, reshapes, listed, places_before_after, edited_places, reshaped_places}
+use Rattle.stage_graph.specs.Kept.{removes, is_removed, Stays, Becomes, IsChangeBy, listed, places_before_after, edited_places}
 use Rattle.stage_graph.specs.Walk.{IsRanked}
 use Rattle.stage_graph.specs.Order.{IsWalk, IsClosedWalk}
 use Rattle.stage_graph.proofs.Lists.{set_cases}
@@ -292,13 +291,6 @@ module _ (edits : List Edit) where
   same_here (Some was) None becomes before after = let clash : true ≡ false = sym becomes ∙ not_removed was before in cc
   same_here (Some was) (Some stage) becomes before after = ap Some (becomes.unless_edited before)
 
-  same_feeds_here : (was here : Option Stage) → Becomes edits was here → is_moved edits was ≡ false → is_removed edits was ≡ false → is_moved edits here ≡ false
-      → feeds_of_place here ≡ feeds_of_place was
-  same_feeds_here None None becomes before stays after = refl
-  same_feeds_here None (Some stage) becomes before stays after = let clash : true ≡ false = sym becomes ∙ after in cc
-  same_feeds_here (Some was) None becomes before stays after = let clash : true ≡ false = sym becomes ∙ stays in cc
-  same_feeds_here (Some was) (Some stage) becomes before stays after = becomes.unless_moved before
-
   was_here : (was : Option Stage) (stage : Stage) → Becomes edits was (Some stage) → is_moved edits (Some stage) ≡ false
       → (old : Stage) × (was ≡ Some old) × (old.name ≡ stage.name) × (feeds_of old ≡ feeds_of stage)
   was_here None stage becomes none = let clash : true ≡ false = sym becomes ∙ none in cc
@@ -310,11 +302,6 @@ module _ (edits : List Edit) where
     pub same_unless_edited : (place : ℕ) → is_edited edits (stage_at old.places place) ≡ false → is_edited edits (stage_at new.places place) ≡ false
         → stage_at new.places place ≡ stage_at old.places place
     same_unless_edited place = same_here (stage_at old.places place) (stage_at new.places place) (change.each place)
-
-    -- a place whose stages, before and after, the list neither adds nor removes nor rewires keeps its feeds
-    pub same_feeds_unless_moved : (place : ℕ) → is_moved edits (stage_at old.places place) ≡ false → is_removed edits (stage_at old.places place) ≡ false
-        → is_moved edits (stage_at new.places place) ≡ false → feeds_at new.places place ≡ feeds_at old.places place
-    same_feeds_unless_moved place = same_feeds_here (stage_at old.places place) (stage_at new.places place) (change.each place)
 
     -- a stage that the list neither adds nor rewires stood there before, under its name and with its feeds
     pub stood_unless_moved : (place : ℕ) (stage : Stage) → stage_at new.places place ≡ Some stage → is_moved edits (Some stage) ≡ false
@@ -357,52 +344,6 @@ edited_more old new edits edit =
     flat_map-append (λ edit. places_before_after old new (edited_name edit)) edits (edit ∷ [])
     ∙ ap (λ (more : List ℕ). edited_places edits old new ++ more) (append-nil (places_before_after old new (edited_name edit)))
 
-pub reshaped_more : (old new : List (Option Stage)) (edits : List Edit) (edit : Edit)
-    → reshaped_places (edits ++ edit ∷ []) old new ≡ reshaped_places edits old new ++ cond (reshapes edit) (places_before_after old new (edited_name edit)) []
-reshaped_more old new edits edit =
-    ap (λ edits. edited_places edits old new) (filter-append reshapes edits (edit ∷ []))
-    ∙ by_test (reshapes edit) where
-      by_test : (shapes : Bool) → edited_places (filter reshapes edits ++ cond shapes (edit ∷ []) []) old new
-          ≡ edited_places (filter reshapes edits) old new ++ cond shapes (places_before_after old new (edited_name edit)) []
-      by_test true = edited_more old new (filter reshapes edits) edit
-      by_test false = ap (λ edits. edited_places edits old new) (append-nil (filter reshapes edits)) ∙ sym (append-nil (edited_places (filter reshapes edits) old new))
-
--- an edit that moves or removes a stage reshapes the graph
-moves_reshapes : (name : List ℕ) (edit : Edit) → moves name edit ≡ true → reshapes edit ≡ true
-moves_reshapes name (Add spec) is = refl
-moves_reshapes name (Rewire other sources inner) is = refl
-moves_reshapes name (Remove other) is = refl
-moves_reshapes name (PinResult other result) is = cc
-moves_reshapes name (PinMoment other moment) is = cc
-moves_reshapes name (SetTimes other queued runs) is = cc
-moves_reshapes name (SetAction other action) is = cc
-moves_reshapes name (SetEnds other ends) is = cc
-
-removes_reshapes : (name : List ℕ) (edit : Edit) → removes name edit ≡ true → reshapes edit ≡ true
-removes_reshapes name (Remove other) is = refl
-removes_reshapes name (Add spec) is = refl
-removes_reshapes name (Rewire other sources inner) is = refl
-removes_reshapes name (PinResult other result) is = cc
-removes_reshapes name (PinMoment other moment) is = cc
-removes_reshapes name (SetTimes other queued runs) is = cc
-removes_reshapes name (SetAction other action) is = cc
-removes_reshapes name (SetEnds other ends) is = cc
-
--- a test that only the kept items can pass fails on all where it fails on the kept ones
-fails_on_all : {A : Type 0} (keep p : A → Bool) → ((x : A) → p x ≡ true → keep x ≡ true) → (xs : List A) → list_any p (filter keep xs) ≡ false → list_any p xs ≡ false
-fails_on_all keep p only [] none = refl
-fails_on_all keep p only (x ∷ xs) none = by_test (keep x) refl none (fails_on_all keep p only xs) where
-  fails_here : (here : Bool) → p x ≡ here → keep x ≡ false → list_any p xs ≡ false → (here || list_any p xs) ≡ false
-  fails_here true holds is rest = let clash : true ≡ false = sym (only x holds) ∙ is in cc
-  fails_here false holds is rest = rest
-
-  by_test : (kept : Bool) → keep x ≡ kept → list_any p (cond kept (x ∷ filter keep xs) (filter keep xs)) ≡ false
-      → (list_any p (filter keep xs) ≡ false → list_any p xs ≡ false) → (p x || list_any p xs) ≡ false
-  by_test true is none rest =
-      let parts = neither (p x) (list_any p (filter keep xs)) none in
-      rw (parts.0) (rest parts.1)
-  by_test false is none rest = fails_here (p x) refl is (rest none)
-
 module _ (edits : List Edit) (old new : PlainGraph) (sound_old : IsSound old) (sound_new : IsSound new) (change : IsChangeBy edits old new) (place : ℕ) where
   module _ (none : list_any (nat_eq place) (edited_places edits old.places new.places) ≡ false) where
     not_edited_before : (here : Option Stage) → stage_at old.places place ≡ here → is_edited edits here ≡ false
@@ -416,32 +357,6 @@ module _ (edits : List Edit) (old new : PlainGraph) (sound_old : IsSound old) (s
     -- at no other place does the stage change
     pub same_elsewhere : stage_at new.places place ≡ stage_at old.places place
     same_elsewhere = same_unless_edited edits old new change place (not_edited_before (stage_at old.places place) refl) (not_edited_after (stage_at new.places place) refl)
-
-  module _ (none : list_any (nat_eq place) (reshaped_places edits old.places new.places) ≡ false) where
-    spoken : (name : List ℕ) → (place_named old.places name ≡ Some place) ⊎ (place_named new.places name ≡ Some place)
-        → (p : Edit → Bool) → ((edit : Edit) → p edit ≡ true → bytes_eq (edited_name edit) name ≡ true) → ((edit : Edit) → p edit ≡ true → reshapes edit ≡ true) → list_any p edits ≡ false
-    spoken name there p named shaping =
-        fails_on_all reshapes p shaping edits
-        (fails_too p (λ edit. bytes_eq (edited_name edit) name) named (filter reshapes edits) (other_names old.places new.places place name there (filter reshapes edits) none))
-
-    not_moved_before : (here : Option Stage) → stage_at old.places place ≡ here → (is_moved edits here ≡ false) × (is_removed edits here ≡ false)
-    not_moved_before None is = (refl, refl)
-    not_moved_before (Some was) is =
-        let there = (sound_old.stages place was is).by_name in (
-          spoken was.name (inl there) (moves was.name) (moves_named was.name) (moves_reshapes was.name),
-          spoken was.name (inl there) (removes was.name) (removes_named was.name) (removes_reshapes was.name),
-        )
-
-    not_moved_after : (here : Option Stage) → stage_at new.places place ≡ here → is_moved edits here ≡ false
-    not_moved_after None is = refl
-    not_moved_after (Some stage) is =
-        spoken stage.name (inr (sound_new.stages place stage is).by_name) (moves stage.name) (moves_named stage.name) (moves_reshapes stage.name)
-
-    -- at no other place do the feeds change
-    pub same_feeds_elsewhere : feeds_at new.places place ≡ feeds_at old.places place
-    same_feeds_elsewhere =
-        let before = not_moved_before (stage_at old.places place) refl in
-        same_feeds_unless_moved edits old new change place before.0 before.1 (not_moved_after (stage_at new.places place) refl)
 
 -- ---- cycles
 

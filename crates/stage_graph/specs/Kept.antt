@@ -1,10 +1,10 @@
 -- What a list of edits leaves as it was: which places it can reach, and whose feeds it can move.
-use Rattle.std.specs.Prelude.{ℕ, ◌<◌, ◌≤◌, ◌≡◌, Bool, true, false, IsTrue, List, [], ◌∷◌, ◌++◌, length, Option, Some, None}
-use Rattle.std.specs.List.{list_any, filter, flat_map}
+use Rattle.std.specs.Prelude.{ℕ, ◌<◌, ◌≤◌, ◌≡◌, Bool, false, IsTrue, List, [], ◌∷◌, ◌++◌, length, Option, Some, None}
+use Rattle.std.specs.List.{list_any, flat_map}
 use Rattle.std.specs.Str.{bytes_eq}
 use Rattle.stage_graph.specs.declared.stage.Stage.{Stage}
 use Rattle.stage_graph.specs.declared.edit.Edit.{Edit}
-use Rattle.stage_graph.specs.declared.edit.Edit.TheVariants.{Add, Remove, Rewire}
+use Rattle.stage_graph.specs.declared.edit.Edit.TheVariants.{Remove}
 use Rattle.stage_graph.specs.Plain.{PlainGraph, stage_at, place_named, feeds_of}
 use Rattle.stage_graph.specs.Changes.{edited_name, is_edited, is_moved}
 
@@ -38,13 +38,6 @@ pub record IsChangeBy (edits : List Edit) (old new : PlainGraph) : Type 0 where
   pub stays_empty : (place : ℕ) → place < length old.places → stage_at old.places place ≡ None → stage_at new.places place ≡ None
   pub each : (place : ℕ) → Becomes edits (stage_at old.places place) (stage_at new.places place)
 
--- the edit adds, removes or rewires a stage, so that it may change what feeds what
-abbrev pub reshapes : Edit → Bool
-reshapes (Add spec) = true
-reshapes (Remove name) = true
-reshapes (Rewire name sources inner) = true
-reshapes others = false
-
 abbrev pub listed : Option ℕ → List ℕ
 listed None = []
 listed (Some place) = place ∷ []
@@ -56,7 +49,3 @@ places_before_after old new name = listed (place_named old name) ++ listed (plac
 -- the places, before and after, of the stages that the list speaks of
 abbrev pub edited_places : List Edit → List (Option Stage) → List (Option Stage) → List ℕ
 edited_places edits old new = flat_map (λ edit. places_before_after old new (edited_name edit)) edits
-
--- the places, before and after, of the stages that the list adds, removes or rewires
-abbrev pub reshaped_places : List Edit → List (Option Stage) → List (Option Stage) → List ℕ
-reshaped_places edits old new = edited_places (filter reshapes edits) old new

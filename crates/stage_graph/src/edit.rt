@@ -3,7 +3,6 @@ ghost use Rattle.std.specs.Prelude.{◌≡◌, ◌≤◌, [], ◌∷◌, length,
 ghost use Rattle.std.specs.List.{list_any};
 ghost use Rattle.stage_graph.specs.EditLists.{edit_list};
 ghost use Rattle.stage_graph.specs.Changes.{edited_name, moves};
-ghost use Rattle.stage_graph.specs.Kept.{reshapes};
 
 use crate::end::Ends;
 use crate::fault::ListSize;
@@ -80,17 +79,6 @@ impl Edit {
             Edit::Rewire { name: other, .. } => other.as_str() == name.as_str(),
             Edit::PinResult { .. } | Edit::PinMoment { .. } | Edit::SetTimes { .. } => false,
             Edit::SetAction { .. } | Edit::SetEnds { .. } | Edit::Remove(_) => false,
-        }
-    }
-
-    /// Whether the edit adds, removes or rewires a stage, so that it may change what feeds what.
-    pub fn reshapes(&self) -> bool
-        ensures { result ≡ reshapes self.now }
-    {
-        match self {
-            Edit::Add(_) | Edit::Remove(_) | Edit::Rewire { .. } => true,
-            Edit::PinResult { .. } | Edit::PinMoment { .. } | Edit::SetTimes { .. } => false,
-            Edit::SetAction { .. } | Edit::SetEnds { .. } => false,
         }
     }
 }

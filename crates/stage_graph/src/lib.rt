@@ -33,10 +33,6 @@ pub use fault::{Fault, ListSize, Refusal, Refused};
 pub use graph::Graph;
 pub use name::{Name, NameList, Places};
 pub use op::Op;
+pub use order::ranked_order;
 pub use representation::{InFlat, InShared, Representation};
 pub use stage::{Spec, Specs, Stage};
-
-#[cfg(test)]
-mod limits;
-#[cfg(test)]
-mod tests;

@@ -226,3 +226,19 @@ pub(crate) fn feeds_first<R: Representation>(
     }
     Ok(Places::from_vec(search.order))
 }
+
+/// An order of the live stages of a ranked graph in which each comes after its feeds. It takes time and memory in
+/// proportion to the places and their feeds.
+pub fn ranked_order<R: Representation>(
+    alloc: Global,
+    graph: &Graph<R>,
+) -> Result<Places, AllocError>
+    requires { IsRanked graph.now.places }
+    ensures { IfOk result (IsFeedsFirst graph.now.places) }
+{
+    match feeds_first(alloc, graph) {
+        Ok(order) => Ok(order),
+        Err(OrderFault::Cycle(_)) => unreachable!(),
+        Err(OrderFault::Memory) => Err(AllocError),
+    }
+}

@@ -1,7 +1,7 @@
 //! The places that a list of edits reaches: at all others the graph stays as it was.
-ghost use Rattle.std.specs.Prelude.{◌≡◌, ◌++◌, [], if◌then◌else◌, IfOk, OnOk};
+ghost use Rattle.std.specs.Prelude.{◌≡◌, ◌++◌, IfOk, OnOk};
 ghost use Rattle.stage_graph.specs.Changes.{edited_name};
-ghost use Rattle.stage_graph.specs.Kept.{listed, places_before_after, reshapes, edited_places, reshaped_places};
+ghost use Rattle.stage_graph.specs.Kept.{listed, places_before_after, edited_places};
 
 use crate::edit::{Edit, Edits};
 use crate::graph::Graph;
@@ -32,22 +32,6 @@ impl Places {
         self.push_found(old.place_of(name))?;
         self.push_found(new.place_of(name))
     }
-
-    /// Adds the places of an edit that adds, removes or rewires a stage.
-    fn push_reshaped<R: Representation>(
-        &mut self,
-        old: &Graph<R>,
-        new: &Graph<R>,
-        edit: &Edit,
-    ) -> Result<(), AllocError>
-        ensures { OnOk result (self.new ≡ self.old ++ (if reshapes edit.now then places_before_after old.now.places new.now.places (edited_name edit.now) else [])) }
-    {
-        if edit.reshapes() {
-            self.push_named(old, new, edit.name())
-        } else {
-            Ok(())
-        }
-    }
 }
 
 impl Edits {
@@ -64,23 +48,6 @@ impl Edits {
         let mut places = Places::new(alloc);
         for edit in self.as_slice() {
             places.push_named(old, new, edit.name())?;
-        }
-        Ok(places)
-    }
-
-    /// The places, in the graph before and after, of the stages that the edits add, remove or rewire; a
-    /// place may come more than once.
-    pub fn reshaped_places<R: Representation>(
-        &self,
-        alloc: Global,
-        old: &Graph<R>,
-        new: &Graph<R>,
-    ) -> Result<Places, AllocError>
-        ensures { IfOk result (λ places. places ≡ reshaped_places self.now old.now.places new.now.places) }
-    {
-        let mut places = Places::new(alloc);
-        for edit in self.as_slice() {
-            places.push_reshaped(old, new, edit)?;
         }
         Ok(places)
     }

@@ -1,5 +1,5 @@
 -- Where no action is queued, a stage comes to what it comes to with one duration, but for its start.
-use Rattle.std.proofs.Common.{ℕ, zero, suc, length, pos, negsuc, ◌+◌, ◌<◌, ◌≡◌, max, Bool, true, false, cond, nat_lt, List, [], ◌∷◌, ◌++◌, Option, Some, None, refl, sym, ap, ◌∙◌, arith}
+use Rattle.std.proofs.Common.{ℕ, zero, suc, length, pos, negsuc, ◌+◌, ◌≡◌, max, Bool, true, false, cond, nat_lt, List, [], ◌∷◌, ◌++◌, Option, Some, None, refl, ap, ◌∙◌, arith}
 use Rattle.std.specs.Prelude.{map, slice_get}
 use Rattle.std.specs.Option.{option_map, option_to_list}
 use Rattle.std.proofs.lemmas.List.{map-append}

@@ -1,5 +1,5 @@
 -- One stage of a sound graph, as far as its own evaluation asks.
-use Rattle.std.specs.Prelude.{ℕ, ◌+◌, ◌<◌, ◌≤◌, ◌^◌, List, length, All}
+use Rattle.std.specs.Prelude.{ℕ, ◌<◌, ◌≤◌, ◌^◌, length, All}
 use Rattle.std.specs.Option.{ForSome}
 use Rattle.stage_graph.specs.declared.end.End.{End}
 use Rattle.stage_graph.specs.declared.stage.Stage.{Stage}

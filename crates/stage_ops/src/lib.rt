@@ -1,6 +1,5 @@
+//! What one stage comes to, from what its feeds came to: the operations, pins and ends of a completion stage.
 #![tactic(auto)]
-
-//! What one stage comes to, from what its feeds came to.
 
 mod actions;
 mod ends;

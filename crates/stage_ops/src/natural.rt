@@ -1,4 +1,9 @@
-//! What a stage comes to by its operation.
+//! What a stage comes to by its operation, before its pins and ends.
+//!
+//! The documentation's rule on exceptions is `hands_on`: "if a stage's computation terminates abruptly with an
+//! (unchecked) exception or error, then all dependent stages requiring its completion complete exceptionally as well,
+//! with a CompletionException holding the exception as its cause". `handle`, `whenComplete`, `exceptionally` and
+//! `exceptionallyCompose` are handed the exception instead.
 ghost use Rattle.std.specs.Prelude.{◌≡◌, ◌+◌, ◌<◌, ◌≤◌, ◌^◌, All, None, Some, length, slice_get};
 ghost use Rattle.act_expr.specs.declared.expr.Answer.TheVariants.{Throws};
 ghost use Rattle.stage_ops.specs.Among.{IsLimited};

@@ -21,11 +21,12 @@ pub trait Look {
         ensures { slice_get (states self.now) place ≡ Some result };
 }
 
-/// What a stage comes to, from what its feeds came to.
+/// What a stage comes to, from what its feeds came to. `N` is the marker of the meter that gives the passes.
 pub trait StageOps<N> {
     ghost step: { Self → Mode → Stage → (ℕ → Option Completion) → State };
 
-    /// The state of a stage of a sound graph whose feeds have the states in `look`.
+    /// The state of a stage of a sound graph whose feeds have the states in `look`. It takes no memory, and always
+    /// answers.
     fn compute<L: Look>(&self, mode: Mode, stage: &Stage, pass: &Pass<N>, look: &L) -> State
         requires place { pass.now ≡ stage.now.place }
         requires sound { IsSoundAmong (length (L.states look.now)) stage.now }

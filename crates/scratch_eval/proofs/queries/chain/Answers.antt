@@ -1,5 +1,5 @@
 use Rattle.std.proofs.Common.{sym, ap, ◌∙◌, Ok}
-use Rattle.scratch_eval.proofs.Querying.{chain_told, no_chain}
+use Rattle.scratch_eval.proofs.Querying.{chain_told}
 use Rattle.scratch_eval.proofs.queries.chain.Goals as goal
 
 pub returns : goal.returns

@@ -1,6 +1,5 @@
 use Rattle.std.proofs.Common.{◌≡◌, ◌<◌, ℕ, false}
-use Rattle.stage_graph.specs.Plain.{stage_at}
-use Rattle.stage_graph.specs.Plain.{uses}
+use Rattle.stage_graph.specs.Plain.{stage_at, uses}
 use Rattle.stage_graph.proofs.graph.Graph.first_user.Given as goal
 
 -- no stage so far uses the place

@@ -1,0 +1,15 @@
+pub mod Setting
+pub mod Members
+pub mod Listed
+pub mod Above
+pub mod UserSteps
+pub mod Building
+pub mod UserMoves
+pub mod MarkSets
+pub mod Marking
+pub mod Falling
+pub mod Settling
+pub mod PutBack
+pub mod SettleTurns
+pub mod WalkBack
+pub mod Moving

@@ -1,0 +1,117 @@
+//! Marks: places that are still to be looked at, by rank and then by place.
+ghost use Rattle.std.specs.Prelude.{◌≡◌, ◌<◌, ◌↔◌, ℕ, List, [], ◌||◌, ◌==◌, false, length, vec_len, IsTrue, IfNone, IfSome, IfOk, OnOk, OnErr};
+ghost use Rattle.rank_order.specs.Marks.{is_marked, AreMarks, AreLeft, AreFrom, AreAbove, IsFirst, IsLeastRank, IsLevel, IsPopped};
+
+use std::alloc::{AllocError, Global};
+use std::collections::BTreeSet;
+use std::marker::Model;
+
+/// A place with its rank.
+#[derive(Clone, Copy, Debug, PartialEq, Eq, PartialOrd, Ord)]
+struct Mark {
+    rank: u32,
+    place: u32,
+}
+
+/// Places, each marked with a rank. Contracts see the list of ranks with places.
+#[derive(Drop)]
+pub struct Marks {
+    set: BTreeSet<Mark>,
+}
+
+impl Model for Marks {
+    ghost use Rattle.std.specs.Prelude.{ℕ, List, map};
+
+    ghost Value = { List (ℕ × ℕ) };
+
+    ghost view = { λ marks. map (λ mark. (mark.rank, mark.place)) marks.set.keys };
+}
+
+impl Marks {
+    /// No marks.
+    pub fn new(alloc: Global) -> Marks
+        ensures { result ≡ [] }
+    {
+        Marks {
+            set: BTreeSet::new(alloc),
+        }
+    }
+
+    /// Whether nothing is marked.
+    pub fn is_empty(&self) -> bool
+        ensures { IsTrue result ↔ (length self.now ≡ 0) }
+    {
+        self.set.is_empty()
+    }
+
+    /// Marks a place, which has this rank. Where memory is refused the marks stay as they are.
+    pub fn insert(&mut self, rank: u32, place: u32) -> Result<(), AllocError>
+        ensures marked { OnOk result ((ranks : ℕ → ℕ) (other : ℕ) → rank ≡ ranks place
+            → is_marked ranks self.new other ≡ (is_marked ranks self.old other || other == place)) }
+        ensures marks { OnOk result ((ranks : ℕ → ℕ) → rank ≡ ranks place → AreMarks ranks self.old → AreMarks ranks self.new) }
+        ensures refused { OnErr result (self.new ≡ self.old) }
+    {
+        self.set.insert(Mark { rank, place })?;
+        Ok(())
+    }
+
+    /// Takes out the first of the marked places, by rank and then by place.
+    pub fn pop_first(&mut self) -> Option<u32>
+        ensures first { IfSome result (λ place. (ranks : ℕ → ℕ) → AreMarks ranks self.old → IsFirst ranks (is_marked ranks self.old) (is_marked ranks self.new) place) }
+        ensures left { AreLeft self.old self.new }
+        ensures none { IfNone result (length self.old ≡ 0) }
+        ensures kept { IfNone result (self.new ≡ self.old) }
+    {
+        let mark = self.pop_mark()?;
+        Some(mark.place)
+    }
+
+    /// Takes out the least mark.
+    fn pop_mark(&mut self) -> Option<Mark>
+        ensures some { IfSome result (λ mark. IsPopped self.old self.new mark.rank mark.place) }
+        ensures none { IfNone result (length self.old ≡ 0) }
+        ensures kept { IfNone result (self.new ≡ self.old) }
+    {
+        self.set.pop_first()
+    }
+
+    /// The least rank of a mark.
+    fn least_rank(&self) -> Option<u32>
+        ensures some { IfSome result (IsLeastRank self.now) }
+        ensures none { IfNone result (length self.now ≡ 0) }
+    {
+        let first = self.set.first()?;
+        Some(first.rank)
+    }
+
+    /// Takes out the least mark, if it has this rank, and answers its place.
+    fn pop_at(&mut self, rank: u32) -> Option<u32>
+        ensures some { IfSome result (IsPopped self.old self.new rank) }
+        ensures none { IfNone result (AreFrom self.old rank → AreAbove self.old rank) }
+        ensures kept { IfNone result (self.new ≡ self.old) }
+    {
+        if self.least_rank()? != rank {
+            return None;
+        }
+        let mark = self.pop_mark()?;
+        Some(mark.place)
+    }
+
+    /// Takes out the marks of the least rank, and answers their places in ascending order; none where nothing is marked.
+    /// Where memory is refused, some of them may be gone.
+    pub fn take_level(&mut self, alloc: Global) -> Result<Vec<u32>, AllocError>
+        ensures some { IfOk result (λ level. 0 < length self.old → 0 < vec_len level) }
+        ensures left { AreLeft self.old self.new }
+        ensures level { IfOk result (λ level. (ranks : ℕ → ℕ) → AreMarks ranks self.old
+            → IsLevel ranks (is_marked ranks self.old) level.items (is_marked ranks self.new)) }
+    {
+        let mut level = Vec::new(alloc);
+        let Some(rank) = self.least_rank() else {
+            return Ok(level);
+        };
+        while let Some(place) = self.pop_at(rank) {
+            level.push(place)?;
+        }
+        Ok(level)
+    }
+}
