@@ -1,0 +1,14 @@
+pub mod Members
+pub mod Comparing
+pub mod Scratch
+pub mod Ranks
+pub mod Ascending
+pub mod Steps
+pub mod Runs
+pub mod LevelSteps
+pub mod Answered
+pub mod Preparing
+pub mod Reading
+pub mod Outcomes
+pub mod Turns
+pub mod Naming

@@ -1,0 +1,84 @@
+-- Lists of states that grow, and that have states set.
+use Rattle.std.proofs.Common.{◌≡◌, ℕ, zero, suc, ◌+◌, ◌-◌, ◌<◌, Bool, true, false, not, ◌&&◌, ◌||◌, ◌==◌, List, [], ◌∷◌, ◌++◌, length, set, take, get_or, refl, ap, sym, ◌∙◌, subst, ⊎_elim}
+use Rattle.std.specs.Prelude.{if◌then◌else◌, map}
+use Rattle.std.proofs.Common.{get_or-set_same, get_or-set_other}
+use Rattle.std.proofs.Math.ListN.{get_or-append}
+use Rattle.std.proofs.Math.Seq.{get_or-append_right}
+use Rattle.std.proofs.lemmas.Bool.{eqb-true, eq-eqb, ne_eqb, true≢false, false≢true, cases_lt, cases_eq, cond-true, cond-false}
+use Rattle.std.proofs.lemmas.List.{get_or_past, get_or-map}
+use Rattle.std.proofs.lemmas.List.Folds.{list_any_more}
+use Rattle.stage_ops.specs.declared.state.State.{State}
+use Rattle.stage_ops.specs.States.{pending, state_at}
+use Rattle.rank_order.specs.Lists.{is_among}
+use Rattle.propagate.proofs.Members.{flip_eq}
+
+-- a pending state more changes nothing
+pub pending_more : (states : List State) (s : ℕ) → state_at (states ++ pending ∷ []) s ≡ state_at states s
+pending_more states s =
+    ⊎_elim
+    (λ within. get_or-append states (pending ∷ []) pending s within)
+    (λ past. get_or-append_right states (pending ∷ []) s pending past ∙ one_pending (s - length states) ∙ sym (get_or_past states s pending past))
+    (cases_lt s (length states)) where
+      one_pending : (k : ℕ) → get_or (pending ∷ []) k pending ≡ pending
+      one_pending zero = refl
+      one_pending (suc k) = refl
+
+-- a state set in a list of states
+pub state_set : (states : List State) (u s : ℕ) (state : State) → u < length states → state_at (set states u state) s ≡ (if u == s then state else state_at states s)
+state_set states u s state h =
+    ⊎_elim
+    (λ (e : u ≡ s).
+    subst (λ v. state_at (set states u state) v ≡ state) e (get_or-set_same states u state pending h)
+    ∙ sym (cond-true (u == s) state (state_at states s) (eq-eqb u s e)))
+    (λ other.
+    get_or-set_other states u s state pending (λ e. other (sym e))
+    ∙ sym (cond-false (u == s) state (state_at states s) (ne_eqb u s other)))
+    (cases_eq u s)
+
+-- the places so far, and one more
+pub among_next : (s i : ℕ) (xs : List ℕ) → i < length xs → is_among s (take (i + 1) xs) ≡ (is_among s (take i xs) || (get_or xs i 0 == s))
+among_next s i xs h = sym (ap (λ b. is_among s (take i xs) || b) (flip_eq (get_or xs i 0) s) ∙ sym (list_any_more (λ x. s == x) xs i 0 h))
+
+-- one more edited place, which is empty: it is pending
+pub emptied_next : (live : ℕ → Bool) (place s : ℕ) (among : Bool) (was : State) → live place ≡ false
+    → (if place == s then pending else (if among && not (live s) then pending else was)) ≡ (if (among || (place == s)) && not (live s) then pending else was)
+emptied_next live place s among was empty =
+    spread (live s) (place == s) among (λ e. subst (λ x. live x ≡ false) (eqb-true place s e) empty) where
+      spread : (a b c : Bool) → (b ≡ true → a ≡ false) → (if b then pending else (if c && not a then pending else was)) ≡ (if (c || b) && not a then pending else was)
+      spread true true c h = absurd (true≢false (h refl))
+      spread false true true h = refl
+      spread false true false h = refl
+      spread a false true h = refl
+      spread a false false h = refl
+
+-- and one that is a stage: it stays
+pub filled_next : (live : ℕ → Bool) (place s : ℕ) (among : Bool) (was : State) → live place ≡ true
+    → (if among && not (live s) then pending else was) ≡ (if (among || (place == s)) && not (live s) then pending else was)
+filled_next live place s among was here =
+    spread (live s) (place == s) among (λ e. subst (λ x. live x ≡ true) (eqb-true place s e) here) where
+      spread : (a b c : Bool) → (b ≡ true → a ≡ true) → (if c && not a then pending else was) ≡ (if (c || b) && not a then pending else was)
+      spread a b true h = refl
+      spread true true false h = refl
+      spread false true false h = absurd (false≢true (h refl))
+      spread a false false h = refl
+
+-- one more place of a level is set
+pub level_next : (state : ℕ → State) (level : List ℕ) (i s : ℕ) (before states : List State) (here : State) → i < length level → get_or level i 0 < length states → here ≡ state (get_or level i 0)
+    → state_at states s ≡ (if is_among s (take i level) then state s else state_at before s)
+    → state_at (set states (get_or level i 0) here) s ≡ (if is_among s (take (i + 1) level) then state s else state_at before s)
+level_next state level i s before states here within inside e so_far =
+    let u = get_or level i 0 in
+    state_set states u s here inside
+    ∙ ap (λ x. if u == s then x else state_at states s) e
+    ∙ ap (λ x. if u == s then state u else x) so_far
+    ∙ turn (u == s) (is_among s (take i level)) (λ same. ap state (eqb-true u s same))
+    ∙ sym (ap (λ b. if b then state s else state_at before s) (among_next s i level within)) where
+      turn : (b c : Bool) → (b ≡ true → state (get_or level i 0) ≡ state s) → (if b then state (get_or level i 0) else (if c then state s else state_at before s)) ≡ (if c || b then state s else state_at before s)
+      turn true true h = h refl
+      turn true false h = h refl
+      turn false true h = refl
+      turn false false h = refl
+
+-- an element of a mapped list
+pub mapped_at : (state : ℕ → State) (level : List ℕ) (results : List State) (i : ℕ) (d : State) → results ≡ map state level → i < length level → get_or results i d ≡ state (get_or level i 0)
+mapped_at state level results i d e within = ap (λ xs. get_or xs i d) e ∙ get_or-map state level i 0 d within

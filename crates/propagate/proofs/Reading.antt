@@ -1,0 +1,155 @@
+-- Marks of stages that read a place.
+use Rattle.std.proofs.Common.{◌≡◌, ℕ, ◌+◌, ◌<◌, Bool, true, false, List, length, get_or, take, refl, ap, sym, ◌∙◌, arith, subst}
+use Rattle.std.specs.Prelude.{◌==◌, ◌&&◌, ◌||◌, Option, Some, None, Ok, Err, is_some, slice_get}
+use Rattle.std.proofs.lemmas.Option.{get_or_from_slice_get}
+use Rattle.std.specs.List.{list_any}
+use Rattle.std.proofs.lemmas.Bool.{eqb-true, eq-eqb, and_parts, and_from, true≢false, false≢true}
+use Rattle.std.proofs.lemmas.List.Folds.{list_any_more}
+use Rattle.stage_graph.specs.declared.stage.Stage.{Stage}
+use Rattle.stage_graph.specs.Plain.{stage_at, feeds_of_place, feeds_at, uses}
+use Rattle.stage_ops.specs.declared.state.State.{State}
+use Rattle.stage_ops.specs.States.{pending, seen_at, seen_of, state_at}
+use Rattle.rank_order.specs.Lists.{is_among}
+use Rattle.rank_order.specs.Orders.{at_live}
+use Rattle.stage_graph.specs.Plain.{all_places, dependents}
+use Rattle.rank_order.specs.declared.fault.NoStage.{NoStage}
+use Rattle.rank_order.proofs.Members.{among_more}
+use Rattle.propagate.specs.Completions.{differ}
+use Rattle.propagate.specs.Reach.{Stages, reads_of, has_read, is_told}
+use Rattle.propagate.proofs.Members.{same_tests, some_passes, passes, among_contains, contains_among, or_assoc, or_nothing}
+use Rattle.propagate.proofs.Ranks.{live_within}
+use Rattle.propagate.proofs.Ascending.{among_filter, filter_among, range_among}
+use Rattle.propagate.proofs.Steps.{has_feed_live}
+
+pub live_from_ok : {A : Type 0} (here : Option Stage) (answer told : A) → at_live here answer ≡ Ok told → (is_some here ≡ true) × (told ≡ answer)
+live_from_ok None answer told e = cc
+live_from_ok (Some stage) answer told e = (refl, cc)
+
+pub empty_from_err : {A : Type 0} (here : Option Stage) (answer : A) (fault : NoStage) → at_live here answer ≡ Err fault → is_some here ≡ false
+empty_from_err None answer fault e = refl
+empty_from_err (Some stage) answer fault e = cc
+
+-- a place is marked, if a stage stands there
+pub mark_live : (live was same : Bool) → live ≡ true → (was || same) ≡ (was || (live && same))
+mark_live true was same e = refl
+mark_live false was same e = absurd (false≢true e)
+
+pub mark_empty : (live was same : Bool) → live ≡ false → was ≡ (was || (live && same))
+mark_empty true was same e = absurd (true≢false e)
+mark_empty false was same e = sym (or_nothing was)
+
+-- one more of the edited places
+pub first_next : (live : ℕ → Bool) (edited : List ℕ) (i s : ℕ) → i < length edited
+    → ((live s && is_among s (take i edited)) || (live (get_or edited i 0) && s == get_or edited i 0)) ≡ (live s && is_among s (take (i + 1) edited))
+first_next live edited i s within =
+    turn (s == get_or edited i 0) (live (get_or edited i 0)) (live s) (is_among s (take i edited)) (λ same. ap live (sym (eqb-true s (get_or edited i 0) same)))
+    ∙ ap (λ b. live s && b) (sym (among_more s i edited within)) where
+      turn : (same there here among : Bool) → (same ≡ true → there ≡ here) → ((here && among) || (there && same)) ≡ (here && (among || same))
+      turn true true true among e = or_true among where
+        or_true : (b : Bool) → (b || true) ≡ (b || true)
+        or_true b = refl
+      turn true false false among e = refl
+      turn true true false among e = absurd (true≢false (e refl))
+      turn true false true among e = absurd (false≢true (e refl))
+      turn false there true among e = ap (λ b. among || b) (and_false there) ∙ refl where
+        and_false : (b : Bool) → (b && false) ≡ false
+        and_false true = refl
+        and_false false = refl
+      turn false there false among e = and_false there where
+        and_false : (b : Bool) → (b && false) ≡ false
+        and_false true = refl
+        and_false false = refl
+
+-- whether s is among the users, and has read the place
+abbrev pub among_readers : (ℕ → Bool) → List ℕ → ℕ → Bool
+among_readers reads_it users s = list_any (λ user. (s == user) && reads_it user) users
+
+-- what has read something is a stage
+pub reader_live : (stages : Stages) (states : ℕ → State) (feed place : ℕ) → has_read stages states feed place ≡ true → is_some (stage_at stages place) ≡ true
+reader_live stages states feed place h = live (stage_at stages place) h where
+  live : (here : Option Stage) → is_among feed (reads_of here (states place).reads) ≡ true → is_some here ≡ true
+  live None e = absurd (false≢true e)
+  live (Some stage) e = refl
+
+-- one more user, which has read the place
+pub readers_more : (reads_it live : ℕ → Bool) (users : List ℕ) (i s : ℕ) (was : Bool) → i < length users → reads_it (get_or users i 0) ≡ true → live (get_or users i 0) ≡ true
+    → ((was || among_readers reads_it (take i users) s) || (live (get_or users i 0) && s == get_or users i 0)) ≡ (was || among_readers reads_it (take (i + 1) users) s)
+readers_more reads_it live users i s was within r l =
+    or_assoc was (among_readers reads_it (take i users) s) (live (get_or users i 0) && s == get_or users i 0)
+    ∙ ap (λ b. was || (among_readers reads_it (take i users) s || b)) (turn (live (get_or users i 0)) (s == get_or users i 0) (reads_it (get_or users i 0)) l r)
+    ∙ ap (λ b. was || b) (sym (list_any_more (λ user. (s == user) && reads_it user) users i 0 within)) where
+      turn : (a b c : Bool) → a ≡ true → c ≡ true → (a && b) ≡ (b && c)
+      turn true true true e f = refl
+      turn true false true e f = refl
+      turn false b c e f = absurd (false≢true e)
+      turn true b false e f = absurd (false≢true f)
+
+-- and one that has not
+pub readers_same : (reads_it : ℕ → Bool) (users : List ℕ) (i s : ℕ) (was : Bool) → i < length users → reads_it (get_or users i 0) ≡ false
+    → (was || among_readers reads_it (take i users) s) ≡ (was || among_readers reads_it (take (i + 1) users) s)
+readers_same reads_it users i s was within r =
+    ap (λ b. was || b) (sym (list_any_more (λ user. (s == user) && reads_it user) users i 0 within
+    ∙ turn (among_readers reads_it (take i users) s) (s == get_or users i 0) (reads_it (get_or users i 0)) r)) where
+      turn : (a b c : Bool) → c ≡ false → (a || (b && c)) ≡ a
+      turn true b c e = refl
+      turn false true c e = e
+      turn false false c e = refl
+
+uses_among : (place : ℕ) (here : Option Stage) → uses place here ≡ is_among place (feeds_of_place here)
+uses_among place None = refl
+uses_among place (Some stage) = refl
+
+-- the users of a place that read it, in the words of the place's feeds
+pub among_readers_all : (stages : Stages) (reads_it : ℕ → Bool) (u s : ℕ) → among_readers reads_it (dependents stages u) s ≡ (is_among u (feeds_at stages s) && reads_it s)
+among_readers_all stages reads_it u s =
+    same_tests (among_readers reads_it (dependents stages u) s) (is_among u (feeds_at stages s) && reads_it s)
+    (λ h.
+    let (user, c, t) = some_passes (λ user. (s == user) && reads_it user) (dependents stages u) h in
+    let (same, r) = and_parts (s == user) (reads_it user) t in
+    let e : user ≡ s = sym (eqb-true s user same) in
+    let (within, f) = among_filter (λ user. uses u (stage_at stages user)) user (all_places stages) (contains_among user (dependents stages u) c) in
+    subst (λ x. (is_among u (feeds_at stages x) && reads_it x) ≡ true) e (and_from (is_among u (feeds_at stages user)) (reads_it user) (sym (uses_among u (stage_at stages user)) ∙ f) r))
+    (λ h.
+    let (f, r) = and_parts (is_among u (feeds_at stages s)) (reads_it s) h in
+    let within : s < length stages = live_within stages s (has_feed_live stages s u (among_contains u (feeds_at stages s) f)) in
+    passes (λ user. (s == user) && reads_it user) (dependents stages u) s
+    (among_contains s (dependents stages u)
+    (filter_among (λ user. uses u (stage_at stages user)) s (all_places stages) (range_among s 0 (length stages) (omega arith) (omega arith)) (uses_among u (stage_at stages s) ∙ f)))
+    (and_from (s == s) (reads_it s) (eq-eqb s s refl) r))
+
+module _ (stages : Stages) (before : ℕ → State) (after : ℕ → State) (level : List ℕ) (i s : ℕ) (within : i < length level) (was : Bool) where
+  more : list_any (is_told stages before after s) (take (i + 1) level) ≡ (list_any (is_told stages before after s) (take i level) || is_told stages before after s (get_or level i 0))
+  more = list_any_more (is_told stages before after s) level i 0 within
+
+  -- one more place of the level, which comes to something else
+  pub told_more : (now : Bool) → now ≡ (was || list_any (is_told stages before after s) (take i level)) → differ (seen_at before (get_or level i 0)) (seen_at after (get_or level i 0)) ≡ true
+      → (now || (is_among (get_or level i 0) (feeds_at stages s) && has_read stages before (get_or level i 0) s)) ≡ (was || list_any (is_told stages before after s) (take (i + 1) level))
+  told_more now so_far changed =
+      let reads : Bool = is_among (get_or level i 0) (feeds_at stages s) && has_read stages before (get_or level i 0) s in
+      ap (λ b. b || reads) so_far
+      ∙ or_assoc was (list_any (is_told stages before after s) (take i level)) reads
+      ∙ ap (λ b. was || (list_any (is_told stages before after s) (take i level) || (b && reads))) (sym changed)
+      ∙ ap (λ b. was || b) (sym more)
+
+  -- and one that does not
+  pub told_same : (now : Bool) → now ≡ (was || list_any (is_told stages before after s) (take i level)) → differ (seen_at before (get_or level i 0)) (seen_at after (get_or level i 0)) ≡ false
+      → now ≡ (was || list_any (is_told stages before after s) (take (i + 1) level))
+  told_same now so_far same =
+      let reads : Bool = is_among (get_or level i 0) (feeds_at stages s) && has_read stages before (get_or level i 0) s in
+      so_far
+      ∙ ap (λ b. was || b) (sym (or_nothing (list_any (is_told stages before after s) (take i level))))
+      ∙ ap (λ b. was || (list_any (is_told stages before after s) (take i level) || (b && reads))) (sym same)
+      ∙ ap (λ b. was || b) (sym more)
+
+and_nothing : (b : Bool) → (b && false) ≡ false
+and_nothing true = refl
+and_nothing false = refl
+
+pub none_yet : (live marked : Bool) → marked ≡ false → marked ≡ (live && false)
+none_yet live marked e = e ∙ sym (and_nothing live)
+
+-- whether the code finds a difference
+pub told_differs : (states : List State) (place : ℕ) (before here : State) (state : ℕ → State) (told : Bool) → slice_get states place ≡ Some before → here ≡ state place
+    → told ≡ differ (seen_of before) (seen_of here) → told ≡ differ (seen_at (state_at states) place) (seen_at state place)
+told_differs states place before here state told e f h =
+    h ∙ ap (λ (x : State). differ (seen_of x) (seen_of here)) (sym (get_or_from_slice_get states place before pending e)) ∙ ap (λ (x : State). differ (seen_of (state_at states place)) (seen_of x)) f

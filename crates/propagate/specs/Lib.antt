@@ -1,0 +1,3 @@
+pub mod Completions
+pub mod Reach
+pub mod Patched

@@ -1,0 +1,104 @@
+//! The stages of one rank, computed together by a runner.
+ghost use Rattle.std.specs.Prelude.{◌≡◌, ◌<◌, ◌≤◌, ◌+◌, ◌^◌, IfOk, IfErr, OnOk, OnErr, length, map, slice_index_or};
+ghost use Rattle.std.specs.List.{All, Contains};
+ghost use Rattle.stage_graph.specs.Plain.{stage_at, IsLive};
+ghost use Rattle.stage_ops.specs.States.{state_at, seen_of, IsBy};
+ghost use Rattle.level_pool.specs.declared.fault.PoolFault.TheVariants.{Memory};
+ghost use Rattle.propagate.specs.Reach.{come_to, Climbs};
+
+use crate::representation::StateRepresentation;
+use crate::states::States;
+use level_pool::{PoolFault, Runner};
+use stage_graph::Graph;
+use stage_ops::{Meter, Pass, StageOps, State};
+use std::alloc::{AllocError, Global};
+use std::marker::{Send, Sync};
+
+/// One pass for each place, in the places' order.
+fn passes_for<N>(
+    alloc: Global,
+    meter: &mut Meter<N>,
+    level: &[u32],
+) -> Result<Vec<Pass<N>>, AllocError>
+    requires { meter.old + length level.now < 2 ^ 64 }
+    ensures places { IfOk result (λ passes. passes.items ≡ level.now) }
+    ensures counted { OnOk result (meter.new ≡ meter.old + length level.now) }
+    ensures refused { OnErr result (meter.new ≤ meter.old + length level.now) }
+{
+    let mut passes = Vec::with_capacity(alloc, level.len())?;
+    for place in level {
+        passes.push(meter.pass(*place))?;
+    }
+    Ok(passes)
+}
+
+/// The pass of this place, among those of a level.
+fn pass_at<'a, N>(level: &[u32], passes: &'a [Pass<N>], place: u32) -> &'a Pass<N>
+    requires climbs { Climbs level.now }
+    requires here { Contains level.now place }
+    requires passes { passes.now ≡ level.now }
+    ensures { result.now ≡ place }
+{
+    match level.binary_search(&place) {
+        Ok(at) => &passes[at],
+        Err(_) => unreachable!(),
+    }
+}
+
+/// What the stage at a place of a level comes to, by its pass.
+fn compute_at<R: StateRepresentation, N, O: StageOps<N>>(
+    graph: &Graph<R>,
+    level: &[u32],
+    passes: &[Pass<N>],
+    ops: &O,
+    states: &States<R>,
+    place: u32,
+) -> State
+    requires climbs { Climbs level.now }
+    requires here { Contains level.now place }
+    requires live { All (IsLive graph.now.places) level.now }
+    requires passes { passes.now ≡ level.now }
+    requires count { length states.now ≡ length graph.now.places }
+    requires moments { All (λ state. IsBy (2 ^ 62) (seen_of state)) states.now }
+    ensures { result ≡ come_to (O.step ops.now graph.now.mode) (stage_at graph.now.places place) (state_at states.now) }
+{
+    let Some(stage) = graph.stage(place) else {
+        unreachable!()
+    };
+    ops.compute(graph.mode(), stage, pass_at(level, passes, place), states)
+}
+
+/// What the stages of a level come to, each on the states before the level and by a pass of its own.
+pub(crate) fn compute_level<R: StateRepresentation, N: Sync, O: StageOps<N> + Sync, W: Runner>(
+    alloc: Global,
+    runner: &W,
+    graph: &Graph<R>,
+    level: &[u32],
+    ops: &O,
+    meter: &mut Meter<N>,
+    states: &States<R>,
+) -> Result<Vec<State>, PoolFault>
+    requires climbs { Climbs level.now }
+    requires live { All (IsLive graph.now.places) level.now }
+    requires count { length states.now ≡ length graph.now.places }
+    requires moments { All (λ state. IsBy (2 ^ 62) (seen_of state)) states.now }
+    requires room { meter.old + length level.now < 2 ^ 64 }
+    ensures states { IfOk result (λ results. results.items
+        ≡ map (λ place. come_to (O.step ops.now graph.now.mode) (stage_at graph.now.places place) (state_at states.now)) level.now) }
+    ensures counted { OnOk result (meter.new ≡ meter.old + length level.now) }
+    ensures refused { OnErr result (meter.new ≤ meter.old + length level.now) }
+    ensures fault { IfErr result (λ fault. fault ≡ Memory) }
+{
+    let taken = passes_for(alloc, meter, level)?;
+    let passes = taken.as_slice();
+    runner.run(
+        alloc,
+        level,
+        &|place: u32| -> State
+            requires { Climbs level.now × Contains level.now place × All (IsLive graph.now.places) level.now
+                × (passes.now ≡ level.now) × (length states.now ≡ length graph.now.places)
+                × All (λ state. IsBy (2 ^ 62) (seen_of state)) states.now }
+            ensures { result ≡ come_to (O.step ops.entry.now graph.entry.now.mode) (stage_at graph.entry.now.places place) (state_at states.entry.now) }
+        { compute_at(graph, level, passes, ops, states, place) },
+    )
+}

@@ -1,0 +1,15 @@
+//! Change propagation: exactly the stages that an edit can reach, once each.
+#![tactic(auto)]
+
+mod completions;
+mod levels;
+mod patched;
+mod readers;
+mod reads;
+mod representation;
+mod spread;
+mod states;
+
+pub use patched::{Old, Patched, propagate};
+pub use representation::StateRepresentation;
+pub use states::States;

@@ -1,0 +1,95 @@
+//! Edits of a graph with its order and its states.
+ghost use Rattle.std.specs.Prelude.{◌≡◌, ◌≤◌, ◌+◌, ◌^◌, IfOk, IfErr, OnErr, Ok, Err, vec_len};
+ghost use Rattle.stage_graph.specs.Changes.{changed, IsNewCycle, IsSettled};
+ghost use Rattle.stage_graph.specs.Walk.{IsRanked};
+ghost use Rattle.propagate.specs.Reach.{AreStates};
+ghost use Rattle.propagate.specs.Patched.{touched_by, IsCountOf};
+
+use crate::representation::StateRepresentation;
+use crate::spread::propagate_change;
+use crate::states::States;
+use level_pool::{PoolFault, Runner};
+use rank_order::{Order, PatchFault};
+use share_tree::Held;
+use stage_graph::{Edits, Fault, Graph};
+use stage_ops::{Meter, StageOps};
+use std::alloc::Global;
+use std::marker::Sync;
+use std::ops::Deref;
+
+/// A graph with its own order and its own states.
+#[derive(Clone, Copy)]
+pub struct Old<'a, R: StateRepresentation> {
+    pub graph: &'a Held<Graph<R>>,
+    pub order: &'a Order<R>,
+    pub states: &'a States<R>,
+}
+
+/// What a list of edits makes of a graph, its order and its states.
+#[derive(Drop)]
+pub struct Patched<R: StateRepresentation> {
+    pub graph: Held<Graph<R>>,
+    pub order: Order<R>,
+    pub states: States<R>,
+    /// The stages that were computed, by rank and then by place.
+    pub touched: Vec<u32>,
+}
+
+/// The graph that a list of edits makes, with its order and its states. The stages that the edits can reach are computed again, each
+/// once, and no others: a stage is reached if an edit speaks of it, or if it read one whose outcome, moment or blamed source changed.
+///
+/// It is refused as [`Graph::apply`] is, or for want of memory. The meter then stays, unless the changed graph was ranked already.
+pub fn propagate<R: StateRepresentation, N: Sync, O: StageOps<N> + Sync, W: Runner>(
+    alloc: Global,
+    old: Old<'_, R>,
+    edits: &Edits,
+    ops: &O,
+    runner: &W,
+    meter: &mut Meter<N>,
+) -> Result<Patched<R>, Fault>
+    requires ranked { IsRanked old.graph.now.places }
+    requires order { old.order.now.graph ≡ old.graph.now }
+    requires states { AreStates (O.step ops.now old.graph.now.mode) old.graph.now.places old.states.now }
+    requires room { meter.old ≤ 2 ^ 63 }
+    ensures graph { IfOk result (λ patched. changed edits.now old.entry.graph.now ≡ Ok patched.graph) }
+    ensures ranked { IfOk result (λ patched. IsRanked patched.graph.places) }
+    ensures order { IfOk result (λ patched. patched.order.graph ≡ patched.graph) }
+    // The states are those of evaluation from scratch.
+    ensures states { IfOk result (λ patched. AreStates (O.step ops.now patched.graph.mode) patched.graph.places patched.states) }
+    ensures touched { IfOk result (λ patched. patched.touched.items
+        ≡ touched_by (O.step ops.now patched.graph.mode) edits.now old.entry.graph.now.places patched.graph.places) }
+    // One pass was taken for each touched stage.
+    ensures counted { IfOk result (λ patched. meter.new ≡ meter.old + vec_len patched.touched) }
+    ensures fault { IfErr result (λ fault. IsSettled (IsNewCycle edits.now) (Err fault) (changed edits.now old.entry.graph.now)) }
+    ensures refused { OnErr result (IsCountOf (λ graph. touched_by (O.step ops.now graph.mode) edits.now old.entry.graph.now.places graph.places)
+        (changed edits.now old.entry.graph.now) meter.old meter.new) }
+{
+    let before = old.graph.deref();
+    let changed = match before.change(alloc, edits) {
+        Ok(changed) => changed,
+        Err(fault) => return Err(fault),
+    };
+    let _ = before.len();
+    let _ = changed.len();
+    let graph = Held::new(alloc, changed)?;
+    let after = graph.deref();
+    let order = match old.order.patch(alloc, &graph, edits) {
+        Ok(order) => order,
+        Err(PatchFault::Cycle(path)) => return Err(Fault::Cycle(path)),
+        Err(PatchFault::Memory) => return Err(Fault::Memory),
+    };
+    let edited = edits.edited_places(alloc, before, after)?;
+    let places = edited.as_slice();
+    match propagate_change(
+        alloc, before, old.states, after, &order, places, ops, runner, meter,
+    ) {
+        Ok(reached) => Ok(Patched {
+            graph,
+            order,
+            states: reached.states,
+            touched: reached.touched,
+        }),
+        Err(PoolFault::Memory) => Err(Fault::Memory),
+        Err(PoolFault::NoThread) => unreachable!(),
+    }
+}

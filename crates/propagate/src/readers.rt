@@ -1,0 +1,133 @@
+//! Marks of what has to be computed: the edited stages, and those that read a stage which changed.
+ghost use Rattle.std.specs.Prelude.{◌≡◌, ◌<◌, ◌&&◌, ◌||◌, ◌==◌, ℕ, List, IfOk, OnOk, All, is_some, length, map};
+ghost use Rattle.std.specs.List.{list_any};
+ghost use Rattle.stage_graph.specs.Plain.{stage_at, feeds_at, IsLive};
+ghost use Rattle.stage_graph.specs.Walk.{rank};
+ghost use Rattle.stage_ops.specs.declared.state.State.{State};
+ghost use Rattle.stage_ops.specs.States.{state_at};
+ghost use Rattle.rank_order.specs.Lists.{is_among};
+ghost use Rattle.rank_order.specs.Marks.{is_marked, AreMarks};
+ghost use Rattle.stage_graph.specs.Plain.{dependents};
+ghost use Rattle.propagate.specs.Reach.{has_read, is_told};
+
+use crate::completions::differ;
+use crate::reads::has_read;
+use crate::representation::StateRepresentation;
+use crate::states::States;
+use rank_order::{Marks, Order, OrderRepresentation};
+use stage_graph::Graph;
+use stage_ops::{Look, State};
+use std::alloc::{AllocError, Global};
+
+/// The places whose stages have the stage at a place as a feed.
+fn users_of<R: OrderRepresentation>(order: &Order<R>, place: u32) -> &[u32]
+    requires { IsLive order.now.graph.places place }
+    ensures { result.now ≡ dependents order.now.graph.places place }
+{
+    match order.dependents(place) {
+        Ok(users) => users,
+        Err(_) => unreachable!(),
+    }
+}
+
+/// Marks a place, if a stage stands there.
+fn mark<R: OrderRepresentation>(
+    marks: &mut Marks,
+    order: &Order<R>,
+    place: u32,
+) -> Result<(), AllocError>
+    ensures marked { OnOk result ((other : ℕ) → is_marked (rank order.now.graph.places) marks.new other
+        ≡ (is_marked (rank order.now.graph.places) marks.old other || (is_some (stage_at order.now.graph.places place) && other == place))) }
+    ensures marks { OnOk result (AreMarks (rank order.now.graph.places) marks.old → AreMarks (rank order.now.graph.places) marks.new) }
+{
+    match order.rank(place) {
+        Ok(rank) => marks.insert(rank, place),
+        Err(_) => Ok(()),
+    }
+}
+
+/// The marks of the edited places where stages stand.
+pub(crate) fn first_marks<R: OrderRepresentation>(
+    alloc: Global,
+    order: &Order<R>,
+    edited: &[u32],
+) -> Result<Marks, AllocError>
+    ensures marked { IfOk result (λ marks. (place : ℕ) → is_marked (rank order.now.graph.places) marks place
+        ≡ (is_some (stage_at order.now.graph.places place) && is_among place edited.now)) }
+    ensures marks { IfOk result (AreMarks (rank order.now.graph.places)) }
+{
+    let mut marks = Marks::new(alloc);
+    for place in edited {
+        mark(&mut marks, order, *place)?;
+    }
+    Ok(marks)
+}
+
+/// Whether the stage at a place has read a feed.
+fn is_reader<R: StateRepresentation>(
+    graph: &Graph<R>,
+    states: &States<R>,
+    feed: u32,
+    place: u32,
+) -> bool
+    requires { length states.now ≡ length graph.now.places }
+    ensures { result ≡ has_read graph.now.places (state_at states.now) feed place }
+{
+    match graph.stage(place) {
+        Some(stage) => has_read(stage, states.state(place).reads, feed),
+        None => false,
+    }
+}
+
+/// Marks the stages that have read a feed.
+fn mark_readers<R: StateRepresentation>(
+    marks: &mut Marks,
+    graph: &Graph<R>,
+    order: &Order<R>,
+    states: &States<R>,
+    feed: u32,
+) -> Result<(), AllocError>
+    requires order { order.now.graph ≡ graph.now }
+    requires count { length states.now ≡ length graph.now.places }
+    requires live { IsLive graph.now.places feed }
+    ensures marked { OnOk result ((place : ℕ) → is_marked (rank graph.now.places) marks.new place
+        ≡ (is_marked (rank graph.now.places) marks.old place
+        || (is_among feed (feeds_at graph.now.places place) && has_read graph.now.places (state_at states.now) feed place))) }
+    ensures marks { OnOk result (AreMarks (rank graph.now.places) marks.old → AreMarks (rank graph.now.places) marks.new) }
+{
+    let users = users_of(order, feed);
+    for user in users {
+        if is_reader(graph, states, feed, *user) {
+            mark(marks, order, *user)?;
+        }
+    }
+    Ok(())
+}
+
+/// Marks the stages that have read a place of the level which comes to something else than before.
+pub(crate) fn mark_level<R: StateRepresentation>(
+    marks: &mut Marks,
+    graph: &Graph<R>,
+    order: &Order<R>,
+    states: &States<R>,
+    level: &[u32],
+    results: &[State],
+) -> Result<(), AllocError>
+    requires order { order.now.graph ≡ graph.now }
+    requires count { length states.now ≡ length graph.now.places }
+    requires live { All (IsLive graph.now.places) level.now }
+    requires within { All (λ place. place < length states.now) level.now }
+    requires each { length results.now ≡ length level.now }
+    ensures marked { OnOk result ((state : ℕ → State) → results.now ≡ map state level.now → (place : ℕ)
+        → is_marked (rank graph.now.places) marks.new place
+        ≡ (is_marked (rank graph.now.places) marks.old place || list_any (is_told graph.now.places (state_at states.now) state place) level.now)) }
+    ensures marks { OnOk result (AreMarks (rank graph.now.places) marks.old → AreMarks (rank graph.now.places) marks.new) }
+{
+    for at in 0..level.len() {
+        let place = level[at];
+        if differ(&states.state(place), &results[at]) {
+            mark_readers(marks, graph, order, states, place)?;
+        }
+    }
+    Ok(())
+}

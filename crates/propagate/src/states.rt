@@ -1,0 +1,176 @@
+//! The states of a graph's places, in a list that keeps its old self.
+ghost use Rattle.std.specs.Prelude.{◌≡◌, ◌<◌, ◌≤◌, ◌++◌, ◌∷◌, [], ℕ, length, slice_get, slice_set, IfOk, OnOk, All, map, if◌then◌else◌};
+ghost use Rattle.rank_order.specs.Lists.{is_among};
+ghost use Rattle.stage_ops.specs.declared.state.State.{State};
+ghost use Rattle.stage_graph.specs.Plain.{stage_at};
+ghost use Rattle.stage_ops.specs.States.{pending, state_at};
+ghost use Rattle.scratch_eval.specs.Answers.{answer_at, state_of, AreAnswers};
+ghost use Rattle.propagate.specs.Reach.{is_emptied, Step, AreStates};
+
+use crate::representation::StateRepresentation;
+use scratch_eval::Answers;
+use share_tree::{Again, Held, KeepFault, Keeps};
+use stage_graph::Graph;
+use stage_ops::{Look, State};
+use std::alloc::{AllocError, Global};
+use std::marker::Model;
+use std::ops::Deref;
+
+/// The state of each place. Contracts see the list.
+#[derive(Drop)]
+pub struct States<R: StateRepresentation> {
+    list: R::States,
+}
+
+impl<R: StateRepresentation> Model for States<R> {
+    ghost use Rattle.std.specs.Prelude.{List};
+    ghost use Rattle.stage_ops.specs.declared.state.State.{State};
+
+    ghost Value = { List State };
+
+    ghost view = { λ states. R.States.items states.list };
+}
+
+impl<R: StateRepresentation> Look for States<R> {
+    ghost states = { λ states. states };
+
+    /// Takes no memory.
+    fn state(&self, place: u32) -> State {
+        match self.list.get(place as usize) {
+            Some(held) => *held.deref(),
+            None => unreachable!(),
+        }
+    }
+}
+
+/// The state that answers tell of a place: pending where no stage stands.
+fn told(answers: &Answers, place: u32) -> State
+    ensures { result ≡ state_of (answer_at answers.now place) }
+{
+    match answers.state(place) {
+        Ok(state) => state,
+        Err(_) => State::PENDING,
+    }
+}
+
+impl<R: StateRepresentation> Again for States<R> {
+    fn again(&self) -> Result<States<R>, AllocError> {
+        Ok(States {
+            list: self.list.again()?,
+        })
+    }
+}
+
+impl<R: StateRepresentation> States<R> {
+    /// The states of a graph, by the answers of its evaluation from scratch.
+    pub fn from_answers(
+        alloc: Global,
+        graph: &Graph<R>,
+        answers: &Answers,
+    ) -> Result<States<R>, AllocError>
+        ensures { IfOk result (λ states. (step : Step) → AreAnswers step graph.now.places answers.now → AreStates step graph.now.places states) }
+    {
+        let mut states = States {
+            list: R::States::empty(alloc),
+        };
+        for place in 0..graph.len() as u32 {
+            states.add(alloc, told(answers, place))?;
+        }
+        Ok(states)
+    }
+
+    /// How many places there are. Takes no memory.
+    pub fn len(&self) -> usize
+        ensures count { result ≡ length self.now }
+        ensures limit { result ≤ 65536 }
+    {
+        self.list.len()
+    }
+
+    /// The state at a place; none past the end. Takes no memory.
+    pub fn get(&self, place: u32) -> Option<State>
+        ensures { result ≡ slice_get self.now place }
+    {
+        match self.list.get(place as usize) {
+            Some(held) => Some(*held.deref()),
+            None => None,
+        }
+    }
+
+    /// Sets the state at a place.
+    fn write(&mut self, alloc: Global, place: u32, state: State) -> Result<(), AllocError>
+        requires { place < length self.old }
+        ensures { OnOk result (self.new ≡ slice_set self.old place state) }
+    {
+        let held = Held::new(alloc, state)?;
+        self.list.write(place as usize, held)
+    }
+
+    /// Adds the state of one place more.
+    fn add(&mut self, alloc: Global, state: State) -> Result<(), AllocError>
+        requires { length self.old < 65536 }
+        ensures { OnOk result (self.new ≡ self.old ++ state ∷ []) }
+    {
+        let held = Held::new(alloc, state)?;
+        match self.list.add(held) {
+            Ok(()) => Ok(()),
+            Err(KeepFault::Memory) => Err(AllocError),
+            Err(KeepFault::Full) => unreachable!(),
+        }
+    }
+
+    /// The states with pending ones added, up to this many places.
+    fn grown(&self, alloc: Global, places: usize) -> Result<States<R>, AllocError>
+        requires longer { length self.now ≤ places }
+        requires limit { places ≤ 65536 }
+        ensures count { IfOk result (λ states. length states ≡ places) }
+        ensures states { IfOk result (λ states. (place : ℕ) → state_at states place ≡ state_at self.now place) }
+    {
+        let mut states = self.again()?;
+        for _turn in self.len()..places {
+            states.add(alloc, State::PENDING)?;
+        }
+        Ok(states)
+    }
+
+    /// The states of the graph before, ready for the new one: an added place is pending, and so is an emptied one.
+    pub(crate) fn prepared(
+        &self,
+        alloc: Global,
+        graph: &Graph<R>,
+        edited: &[u32],
+    ) -> Result<States<R>, AllocError>
+        requires longer { length self.now ≤ length graph.now.places }
+        requires within { All (λ place. place < length graph.now.places) edited.now }
+        ensures count { IfOk result (λ states. length states ≡ length graph.now.places) }
+        ensures states { IfOk result (λ states. (place : ℕ)
+            → state_at states place ≡ (if is_emptied graph.now.places edited.now place then pending else state_at self.now place)) }
+    {
+        let mut states = self.grown(alloc, graph.len())?;
+        for place in edited {
+            if graph.stage(*place).is_none() {
+                states.write(alloc, *place, State::PENDING)?;
+            }
+        }
+        Ok(states)
+    }
+
+    /// Sets the states of some places.
+    pub(crate) fn write_level(
+        &mut self,
+        alloc: Global,
+        level: &[u32],
+        results: &[State],
+    ) -> Result<(), AllocError>
+        requires within { All (λ place. place < length self.old) level.now }
+        requires each { length results.now ≡ length level.now }
+        ensures count { OnOk result (length self.new ≡ length self.old) }
+        ensures states { OnOk result ((state : ℕ → State) → results.now ≡ map state level.now → (place : ℕ)
+            → state_at self.new place ≡ (if is_among place level.now then state place else state_at self.old place)) }
+    {
+        for at in 0..level.len() {
+            self.write(alloc, level[at], results[at])?;
+        }
+        Ok(())
+    }
+}
