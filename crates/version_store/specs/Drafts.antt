@@ -1,11 +1,13 @@
 -- What drafting a version gives.
-use Rattle.std.specs.Prelude.{◌≡◌, List, Result, Ok, Err}
+use Rattle.std.specs.Prelude.{ℕ, ◌≡◌, List, Result, Ok, Err}
 use Rattle.stage_graph.specs.declared.edit.Edit.{Edit}
 use Rattle.stage_graph.specs.declared.fault.Fault.{Fault}
 use Rattle.stage_graph.specs.declared.fault.Fault.TheVariants.{Refused, Cycle, Memory}
 use Rattle.stage_graph.specs.Plain.{PlainGraph}
 use Rattle.stage_graph.specs.Walk.{IsRanked}
 use Rattle.stage_graph.specs.Changes.{changed, IsNewCycle}
+use Rattle.stage_ops.specs.Java.{java_step}
+use Rattle.propagate.specs.Patched.{touched_by, IsCountOf}
 use Rattle.version_store.specs.Plain.{Origin, PlainVersion, PlainDraft}
 
 -- the edits make this graph of the origin's, and it has no cycle
@@ -28,3 +30,7 @@ Drafts version edits (Ok draft) = IsDraftOf version edits draft
 Drafts version edits (Err (Refused refused)) = changed edits version.graph ≡ Err refused
 Drafts version edits (Err (Cycle path)) = (graph : PlainGraph) × (changed edits version.graph ≡ Ok graph) × IsNewCycle edits graph.places path
 Drafts version edits (Err Memory) = Unit {0}
+
+-- what a count of computed stages comes to where the edits of a graph give no draft: it stays where they are refused, and rises by no more than they touch where memory was wanting later
+abbrev pub IsCountAfter : List Edit → PlainGraph → ℕ → ℕ → Type 0
+IsCountAfter edits graph before after = IsCountOf (λ made. touched_by (java_step made.mode) edits graph.places made.places) (changed edits graph) before after

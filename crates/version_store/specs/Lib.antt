@@ -1,3 +1,4 @@
 pub mod Plain
+pub mod Evaluated
 pub mod Queries
 pub mod Drafts

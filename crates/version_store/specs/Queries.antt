@@ -1,5 +1,5 @@
 -- What a version answers about a stage: by its graph alone, evaluated from scratch.
-use Rattle.std.specs.Prelude.{ℕ, Option, Some, None, Result, Ok, Err}
+use Rattle.std.specs.Prelude.{ℕ, List, [], Option, Some, None, Result, Ok, Err}
 use Rattle.std.specs.Option.{option_map, option_and_then}
 use Rattle.act_expr.specs.declared.outcome.Outcome.{Outcome}
 use Rattle.stage_graph.specs.declared.stage.Stage.{Stage}
@@ -8,8 +8,9 @@ use Rattle.stage_ops.specs.declared.state.State.{State}
 use Rattle.stage_ops.specs.declared.state.Done.{Done}
 use Rattle.stage_ops.specs.Evaluation.{at}
 use Rattle.stage_ops.specs.Java.{java_step}
-use Rattle.scratch_eval.specs.declared.answers.NoStage.{NoStage}
-use Rattle.version_store.specs.Plain.{Origin}
+use Rattle.scratch_eval.specs.declared.fault.NoStage.{NoStage}
+use Rattle.propagate.specs.Patched.{touched_by}
+use Rattle.version_store.specs.Plain.{Origin, PlainVersion}
 use Rattle.version_store.specs.declared.before.Before.{Before}
 use Rattle.version_store.specs.declared.before.Before.TheVariants as stood
 
@@ -56,3 +57,12 @@ before (Some origin) place = held_by origin.graph place (stage_at origin.graph.p
 abbrev pub found : Option ℕ → Result ℕ NoStage
 found None = Err (record {})
 found (Some place) = Ok place
+
+-- the stages of a graph that the edits of its origin touch: those that they speak of, and those that read one at which the outcome, the moment or the blamed source is another than it was
+abbrev pub touched_in : Option Origin → PlainGraph → List ℕ
+touched_in None graph = []
+touched_in (Some origin) graph = touched_by (java_step graph.mode) origin.edits origin.graph.places graph.places
+
+-- the stages that the version's edits touch, by rank and then by place; none of version 0
+abbrev pub touched_of : PlainVersion → List ℕ
+touched_of version = touched_in version.origin version.graph

@@ -1,24 +1,27 @@
 //! Drafts: a version's graph with edits applied, before it is a version itself.
-ghost use Rattle.std.specs.Prelude.{◌≡◌, IfOk};
+ghost use Rattle.std.specs.Prelude.{◌≡◌, Some, IfOk};
 ghost use Rattle.version_store.specs.Plain.{numbered};
 ghost use Rattle.version_store.specs.Drafts.{IsMadeBy};
+ghost use Rattle.version_store.specs.Queries.{touched_in};
 
 use crate::evaluated::Evaluated;
 use crate::origin::Origin;
 use crate::version::Version;
+use propagate::StateRepresentation;
 use share_tree::{Again, Held};
-use stage_graph::{Edits, Graph, Representation};
+use stage_graph::{Edits, Graph, Places};
 use std::alloc::AllocError;
 use std::marker::Model;
 
 /// A version's graph with edits applied, which has no number yet.
 #[derive(Drop)]
-pub struct Draft<R: Representation> {
+pub struct Draft<R: StateRepresentation> {
     origin: Origin<R>,
     graph: Held<Evaluated<R>>,
+    touched: Held<Places>,
 }
 
-impl<R: Representation> Model for Draft<R> {
+impl<R: StateRepresentation> Model for Draft<R> {
     ghost use Rattle.version_store.specs.Plain.{PlainDraft};
 
     ghost Value = { PlainDraft };
@@ -28,14 +31,32 @@ impl<R: Representation> Model for Draft<R> {
 
     ghost coded = { Prim.hlevel (codes, coded_expression) };
 
+    ghost use Rattle.std.specs.Prelude.{◌≡◌, Some};
     ghost use Rattle.version_store.specs.Drafts.{IsMadeBy};
+    ghost use Rattle.version_store.specs.Queries.{touched_in};
 
     ghost view = { λ draft. record { origin = draft.origin; graph = draft.graph } };
 
-    ghost invariant = { λ draft. IsMadeBy draft.origin draft.graph };
+    ghost invariant = { λ draft. IsMadeBy draft.origin draft.graph × (draft.touched ≡ touched_in (Some draft.origin) draft.graph) };
 }
 
-impl<R: Representation> Draft<R> {
+impl<R: StateRepresentation> Draft<R> {
+    pub(crate) fn new(
+        origin: Origin<R>,
+        graph: Held<Evaluated<R>>,
+        touched: Held<Places>,
+    ) -> Draft<R>
+        requires made { IsMadeBy origin graph }
+        requires touched { touched ≡ touched_in (Some origin) graph }
+        ensures { result ≡ record { origin = origin; graph = graph } }
+    {
+        Draft {
+            origin,
+            graph,
+            touched,
+        }
+    }
+
     /// The number of the version that was edited.
     pub fn base(&self) -> u32
         ensures { result ≡ self.now.origin.number }
@@ -62,6 +83,9 @@ impl<R: Representation> Draft<R> {
     pub fn numbered(&self, number: u32) -> Result<Version<R>, AllocError>
         ensures { IfOk result (λ version. version ≡ numbered self.now number) }
     {
-        Ok(Version::made(number, self.graph.again()?, self.origin.again()?))
+        let graph = self.graph.again()?;
+        let origin = self.origin.again()?;
+        let touched = self.touched.again()?;
+        Ok(Version::made(number, graph, origin, touched))
     }
 }

@@ -1,28 +1,38 @@
-//! A graph with what its stages come to.
-ghost use Rattle.std.specs.Prelude.{◌≡◌, ◌≤◌, ◌^◌, IfOk};
-ghost use Rattle.stage_graph.specs.Plain.{stage_at};
+//! A graph with its order and with what its stages come to.
+ghost use Rattle.std.specs.Prelude.{◌≡◌, ◌≤◌, ◌+◌, ◌^◌, None, IfOk, IfErr, OnErr, MatchResult, Ok, Err, length};
+ghost use Rattle.stage_graph.specs.Changes.{changed, IsNewCycle, IsSettled};
+ghost use Rattle.stage_graph.specs.Plain.{stage_at, dependents, IsLive};
 ghost use Rattle.stage_graph.specs.Walk.{IsRanked, rank};
+ghost use Rattle.stage_ops.specs.Java.{java_step};
+ghost use Rattle.propagate.specs.Patched.{touched_by};
+ghost use Rattle.version_store.specs.Drafts.{IsCountAfter};
 ghost use Rattle.version_store.specs.Queries.{state_of, told, held, held_by};
 
 use crate::before::Before;
-use scratch_eval::{Answers, NoStage, evaluate};
-use stage_graph::{Graph, Representation};
+use level_pool::Runner;
+use propagate::{Old, StateRepresentation, States, propagate};
+use rank_order::Order;
+use scratch_eval::{NoStage, evaluate};
+use share_tree::Held;
+use stage_graph::{Edits, Fault, Graph, Places};
 use stage_ops::{Done, JavaOps, Meter, State};
 use std::alloc::{AllocError, Global};
-use std::marker::Model;
+use std::marker::{Model, Sync};
+use std::ops::Deref;
 
 /// The marker of the meter that counts the stages of version 0.
 #[derive(Drop)]
 struct FirstEvaluation;
 
-/// A graph with what its stages come to. Contracts see the graph.
+/// A graph with its order and with what its stages come to. Contracts see the graph.
 #[derive(Drop)]
-pub(crate) struct Evaluated<R: Representation> {
-    graph: Graph<R>,
-    answers: Answers,
+pub(crate) struct Evaluated<R: StateRepresentation> {
+    graph: Held<Graph<R>>,
+    order: Order<R>,
+    states: States<R>,
 }
 
-impl<R: Representation> Model for Evaluated<R> {
+impl<R: StateRepresentation> Model for Evaluated<R> {
     ghost use Rattle.stage_graph.specs.Plain.{PlainGraph};
 
     ghost Value = { PlainGraph };
@@ -32,16 +42,21 @@ impl<R: Representation> Model for Evaluated<R> {
 
     ghost coded = { Prim.hlevel (codes, coded_expression) };
 
-    ghost use Rattle.stage_graph.specs.Walk.{IsRanked};
-    ghost use Rattle.stage_ops.specs.Java.{java_step};
-    ghost use Rattle.scratch_eval.specs.Answers.{AreAnswers};
+    ghost use Rattle.version_store.specs.Evaluated.{IsEvaluated};
 
     ghost view = { λ evaluated. evaluated.graph };
 
-    ghost invariant = { λ evaluated. IsRanked evaluated.graph.places × AreAnswers (java_step evaluated.graph.mode) evaluated.graph.places evaluated.answers };
+    ghost invariant = { λ evaluated. IsEvaluated evaluated.graph evaluated.order evaluated.states };
 }
 
-impl<R: Representation> Evaluated<R> {
+/// What a list of edits makes of an evaluated graph, and the places of the stages that were computed.
+#[derive(Drop)]
+pub(crate) struct Edited<R: StateRepresentation> {
+    pub(crate) graph: Evaluated<R>,
+    pub(crate) touched: Places,
+}
+
+impl<R: StateRepresentation> Evaluated<R> {
     /// The graph, evaluated from scratch.
     pub(crate) fn load(alloc: Global, graph: Graph<R>) -> Result<Evaluated<R>, AllocError>
         requires { IsRanked graph.places }
@@ -49,7 +64,49 @@ impl<R: Representation> Evaluated<R> {
     {
         let mut meter = Meter::new(FirstEvaluation);
         let answers = evaluate(alloc, &graph, &JavaOps, &mut meter)?;
-        Ok(Evaluated { graph, answers })
+        let states = States::from_answers(alloc, &graph, &answers)?;
+        let graph = Held::new(alloc, graph)?;
+        let order = Order::build(alloc, &graph)?;
+        Ok(Evaluated {
+            graph,
+            order,
+            states,
+        })
+    }
+
+    /// What a list of edits makes of the graph. Only the stages that the edits can reach are computed, each once.
+    pub(crate) fn edited<N: Sync, W: Runner>(
+        &self,
+        alloc: Global,
+        edits: &Edits,
+        runner: &W,
+        meter: &mut Meter<N>,
+    ) -> Result<Edited<R>, Fault>
+        requires { meter.old ≤ 2 ^ 63 }
+        ensures graph { IfOk result (λ edited. changed edits.now self.now ≡ Ok edited.graph) }
+        ensures ranked { IfOk result (λ edited. IsRanked edited.graph.places) }
+        ensures touched { IfOk result (λ edited. edited.touched
+            ≡ touched_by (java_step edited.graph.mode) edits.now self.now.places edited.graph.places) }
+        ensures counted { IfOk result (λ edited. meter.new ≡ meter.old + length edited.touched) }
+        ensures fault { IfErr result (λ fault. IsSettled (IsNewCycle edits.now) (Err fault) (changed edits.now self.now)) }
+        ensures refused { OnErr result (IsCountAfter edits.now self.now meter.old meter.new) }
+    {
+        let old = Old {
+            graph: &self.graph,
+            order: &self.order,
+            states: &self.states,
+        };
+        match propagate(alloc, old, edits, &JavaOps, runner, meter) {
+            Ok(patched) => Ok(Edited {
+                graph: Evaluated {
+                    graph: patched.graph,
+                    order: patched.order,
+                    states: patched.states,
+                },
+                touched: Places::from_vec(patched.touched),
+            }),
+            Err(fault) => Err(fault),
+        }
     }
 
     /// The graph, which has no cycle.
@@ -57,22 +114,50 @@ impl<R: Representation> Evaluated<R> {
         ensures graph { result.now ≡ self.now }
         ensures ranked { IsRanked self.now.places }
     {
-        let _ = &self.answers;
-        &self.graph
+        let _ = &self.states;
+        self.graph.deref()
+    }
+
+    /// What a place comes to: pending where no stage stands.
+    pub(crate) fn state_at(&self, place: u32) -> State
+        ensures { result ≡ state_of self.now place }
+    {
+        match self.states.get(place) {
+            Some(state) => state,
+            None => State::PENDING,
+        }
     }
 
     /// What the stage at a place comes to.
     pub(crate) fn state(&self, place: u32) -> Result<State, NoStage>
         ensures { result ≡ told self.now place (state_of self.now place) }
     {
-        self.answers.state(place)
+        match self.graph().stage(place) {
+            Some(_) => Ok(self.state_at(place)),
+            None => Err(NoStage),
+        }
     }
 
     /// The rank of the stage at a place.
     pub(crate) fn rank(&self, place: u32) -> Result<u32, NoStage>
         ensures { result ≡ told self.now place (rank self.now.places place) }
     {
-        self.answers.rank(place)
+        match self.order.rank(place) {
+            Ok(rank) => Ok(rank),
+            Err(_) => Err(NoStage),
+        }
+    }
+
+    /// The places whose stages have the stage at a place as a feed, in order.
+    pub(crate) fn dependents(&self, place: u32) -> Result<&[u32], NoStage>
+        ensures { MatchResult result
+            (λ users. (users.now ≡ dependents self.now.places place) × IsLive self.now.places place)
+            (λ _. stage_at self.now.places place ≡ None) }
+    {
+        match self.order.dependents(place) {
+            Ok(users) => Ok(users),
+            Err(_) => Err(NoStage),
+        }
     }
 
     /// What the stage at a place holds.

@@ -1,16 +1,21 @@
 //! Versions of a graph, and drafts of them.
+//!
+//! A [`Version`] is a graph under its number, with the rank, the dependents and the state of each of its stages.
+//! [`Version::load`] evaluates the graph from scratch. [`Version::draft`] applies a list of edits and computes only
+//! the stages that they can reach; [`Draft::numbered`] makes a version of the draft. A version shares with its
+//! parent what the edits leave alone, and answers as if its graph had been evaluated from scratch.
 #![tactic(auto)]
 
 mod before;
+mod blame;
 mod draft;
+mod drafting;
 mod evaluated;
 mod origin;
 mod version;
 
 pub use before::Before;
 pub use draft::Draft;
-pub use scratch_eval::NoStage;
+pub use propagate::StateRepresentation;
+pub use scratch_eval::{NoStage, QueryFault};
 pub use version::Version;
-
-#[cfg(test)]
-mod tests;

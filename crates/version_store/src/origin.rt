@@ -4,20 +4,21 @@ ghost use Rattle.version_store.specs.Queries.{before};
 
 use crate::before::Before;
 use crate::evaluated::Evaluated;
+use propagate::StateRepresentation;
 use share_tree::{Again, Held};
-use stage_graph::{Edits, Graph, Representation};
+use stage_graph::{Edits, Graph};
 use std::alloc::AllocError;
 use std::marker::Model;
 
 /// Where a version comes from: its parent, by number and graph, and the edits that were applied to it.
 #[derive(Drop)]
-pub(crate) struct Origin<R: Representation> {
+pub(crate) struct Origin<R: StateRepresentation> {
     number: u32,
     graph: Held<Evaluated<R>>,
     edits: Held<Edits>,
 }
 
-impl<R: Representation> Model for Origin<R> {
+impl<R: StateRepresentation> Model for Origin<R> {
     ghost use Rattle.version_store.specs.Plain.{Origin as PlainOrigin};
 
     ghost Value = { PlainOrigin };
@@ -30,7 +31,17 @@ impl<R: Representation> Model for Origin<R> {
     ghost view = { λ origin. record { number = origin.number; graph = origin.graph; edits = origin.edits } };
 }
 
-impl<R: Representation> Origin<R> {
+impl<R: StateRepresentation> Origin<R> {
+    pub(crate) fn new(number: u32, graph: Held<Evaluated<R>>, edits: Held<Edits>) -> Origin<R>
+        ensures { result ≡ record { number = number; graph = graph; edits = edits } }
+    {
+        Origin {
+            number,
+            graph,
+            edits,
+        }
+    }
+
     /// The number of the parent.
     pub(crate) fn number(&self) -> u32
         ensures { result ≡ self.now.number }
@@ -60,7 +71,7 @@ impl<R: Representation> Origin<R> {
     }
 }
 
-impl<R: Representation> Again for Origin<R> {
+impl<R: StateRepresentation> Again for Origin<R> {
     fn again(&self) -> Result<Origin<R>, AllocError> {
         Ok(Origin {
             number: self.number,

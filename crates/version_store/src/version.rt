@@ -1,31 +1,35 @@
 //! Versions: a graph under its number.
-ghost use Rattle.std.specs.Prelude.{◌≡◌, IfOk};
-ghost use Rattle.stage_graph.specs.Plain.{place_named};
+ghost use Rattle.std.specs.Prelude.{◌≡◌, None, Some, IfOk, MatchResult};
+ghost use Rattle.stage_graph.specs.Plain.{place_named, stage_at, dependents, IsLive};
 ghost use Rattle.stage_graph.specs.Walk.{IsRanked, rank};
 ghost use Rattle.stage_ops.specs.Joins.{joined};
+ghost use Rattle.stage_ops.specs.Java.{java_step};
+ghost use Rattle.scratch_eval.specs.Queries.{AnswersOrMemory, chain_at};
 ghost use Rattle.version_store.specs.Plain.{opening_version, numbered, parent_of};
-ghost use Rattle.version_store.specs.Queries.{state_of, told, found, outcome_in, moment_in, start_in, before};
+ghost use Rattle.version_store.specs.Queries.{state_of, told, found, outcome_in, moment_in, start_in, before, touched_in, touched_of};
 
 use crate::before::Before;
 use crate::evaluated::Evaluated;
 use crate::origin::Origin;
 use act_expr::Outcome;
-use scratch_eval::NoStage;
+use propagate::StateRepresentation;
+use scratch_eval::{NoStage, QueryFault};
 use share_tree::{Again, Held};
-use stage_graph::{Graph, Representation};
+use stage_graph::{Graph, Places};
 use stage_ops::{Join, State, join};
 use std::alloc::{AllocError, Global};
 use std::marker::Model;
 
 /// A graph under its number.
 #[derive(Drop)]
-pub struct Version<R: Representation> {
+pub struct Version<R: StateRepresentation> {
     number: u32,
     graph: Held<Evaluated<R>>,
     origin: Option<Origin<R>>,
+    touched: Held<Places>,
 }
 
-impl<R: Representation> Model for Version<R> {
+impl<R: StateRepresentation> Model for Version<R> {
     ghost use Rattle.version_store.specs.Plain.{PlainVersion};
 
     ghost Value = { PlainVersion };
@@ -35,20 +39,26 @@ impl<R: Representation> Model for Version<R> {
 
     ghost coded = { Prim.hlevel (codes, coded_expression) };
 
+    ghost use Rattle.std.specs.Prelude.{◌≡◌};
+    ghost use Rattle.version_store.specs.Queries.{touched_in};
+
     ghost view = { λ version. record { number = version.number; graph = version.graph; origin = version.origin } };
+
+    ghost invariant = { λ version. version.touched ≡ touched_in version.origin version.graph };
 }
 
-impl<R: Representation> Again for Version<R> {
+impl<R: StateRepresentation> Again for Version<R> {
     fn again(&self) -> Result<Version<R>, AllocError> {
         Ok(Version {
             number: self.number,
             graph: self.graph.again()?,
             origin: self.origin.again()?,
+            touched: self.touched.again()?,
         })
     }
 }
 
-impl<R: Representation> Version<R> {
+impl<R: StateRepresentation> Version<R> {
     /// The graph as version 0.
     pub fn load(alloc: Global, graph: Graph<R>) -> Result<Version<R>, AllocError>
         requires { IsRanked graph.places }
@@ -58,18 +68,33 @@ impl<R: Representation> Version<R> {
             number: 0,
             graph: Held::new(alloc, Evaluated::load(alloc, graph)?)?,
             origin: None,
+            touched: Held::new(alloc, Places::new(alloc))?,
         })
     }
 
     /// The version that a draft becomes.
-    pub(crate) fn made(number: u32, graph: Held<Evaluated<R>>, origin: Origin<R>) -> Version<R>
+    pub(crate) fn made(
+        number: u32,
+        graph: Held<Evaluated<R>>,
+        origin: Origin<R>,
+        touched: Held<Places>,
+    ) -> Version<R>
+        requires { touched ≡ touched_in (Some origin) graph }
         ensures { result ≡ numbered (record { origin = origin; graph = graph }) number }
     {
         Version {
             number,
             graph,
             origin: Some(origin),
+            touched,
         }
+    }
+
+    /// The graph with what its stages come to.
+    pub(crate) fn evaluated(&self) -> &Held<Evaluated<R>>
+        ensures { result.now ≡ self.now.graph }
+    {
+        &self.graph
     }
 
     /// The version's number.
@@ -161,6 +186,31 @@ impl<R: Representation> Version<R> {
         ensures { result ≡ told self.now.graph place (rank self.now.graph.places place) }
     {
         self.graph.rank(place)
+    }
+
+    /// The places whose stages have the stage at a place among their feeds, each once, in order.
+    pub fn dependents(&self, place: u32) -> Result<&[u32], NoStage>
+        ensures { MatchResult result
+            (λ users. (users.now ≡ dependents self.now.graph.places place) × IsLive self.now.graph.places place)
+            (λ _. stage_at self.now.graph.places place ≡ None) }
+    {
+        self.graph.dependents(place)
+    }
+
+    /// The stages that the version's edits touch: those that they speak of, and those that read one whose outcome,
+    /// moment or blamed source is another than in the parent; by rank, and then by place. There are none of version 0.
+    pub fn touched(&self) -> &[u32]
+        ensures { result.now ≡ touched_of self.now }
+    {
+        self.touched.as_slice()
+    }
+
+    /// The chain of blame of the stage at a place: none unless it completed exceptionally, else the stage itself, and
+    /// then the chain of the source whose exception it handed on.
+    pub fn blame(&self, alloc: Global, place: u32) -> Result<Places, QueryFault>
+        ensures { AnswersOrMemory (chain_at (java_step self.now.graph.mode) self.now.graph.places place) result }
+    {
+        self.graph.blame(alloc, place)
     }
 
     /// What the stage at a place was in the parent.
