@@ -1,1 +1,2 @@
+pub mod LinesOfOne
 pub mod LinesOfPlaces

@@ -1,5 +1,5 @@
 -- The lines of the places that are left.
-use Rattle.std.proofs.Common.{◌≡◌, ℕ, ◌+◌, ◌-◌, ◌<◌, suc, zero, Bool, true, false, cond, List, [], ◌∷◌, ◌++◌, arith, refl, sym, ap, ◌∙◌, subst, append_assoc, Option, Result, Ok, Err, OnErr}
+use Rattle.std.proofs.Common.{◌≡◌, ℕ, ◌+◌, ◌-◌, ◌<◌, suc, zero, Bool, true, false, cond, List, [], ◌∷◌, ◌++◌, arith, sym, ap, ◌∙◌, subst, append_assoc, length, drop, get_or, drop-cons, add-one, Option, Result, Ok, Err, OnErr}
 use Rattle.std.proofs.KnownBytes.{Appends-trans}
 use Rattle.std.specs.List.{count_by, flat_map, range_with_len, sum_by}
 use Rattle.std.proofs.lemmas.List.Sums.{sum_by-append}
@@ -20,6 +20,12 @@ pub next_place : (line : ℕ → List ℕ) (place end : ℕ) → place < end
 next_place line place end before_end =
     let one_more : end - place ≡ suc (end - (place + 1)) = omega arith in ap (λ n. flat_map line (range_with_len place n)) one_more
 
+-- the same of listed places
+pub next_of : (line : ℕ → List ℕ) (places : List ℕ) (i d : ℕ) → i < length places
+    → flat_map line (drop i places) ≡ line (get_or places i d) ++ flat_map line (drop (i + 1) places)
+next_of line places i d within =
+    ap (flat_map line) (drop-cons places i d within ∙ ap (λ n. get_or places i d ∷ drop n places) (sym (add-one i)))
+
 -- a prefix of the next piece
 pub stops_in_next : (a b c : Option (List ℕ)) (text rest piece more : List ℕ) → AppendsBut rest a b text → rest ≡ piece ++ more → AppendsPrefix b c piece → AppendsPrefix a c text
 stops_in_next a b c text rest piece more so_far next (left, here) = (
@@ -38,6 +44,10 @@ writes_on a b c text rest piece more so_far next here = record {
   appends = Appends-trans a b c _ _ so_far.appends here;
   whole = so_far.whole ∙ ap (λ l. so_far.written ++ l) next ∙ sym (append_assoc so_far.written piece more);
 }
+
+-- what stands in a line that was cleared, once its text was put there
+pub in_the_line : (bytes line cleared text : List ℕ) → bytes ≡ line → line ≡ cleared ++ text → cleared ≡ [] → bytes ≡ text
+in_the_line bytes line cleared text are is empty = are ∙ is ∙ ap (λ l. l ++ text) empty
 
 -- a header in an empty line, and then the lines
 pub with_header : (line cleared header lines : List ℕ) → line ≡ cleared ++ header → cleared ≡ [] → line ++ lines ≡ header ++ lines

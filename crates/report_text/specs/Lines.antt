@@ -1,4 +1,4 @@
--- The reports that go over all places: a header, and then a line for each place or for some of them.
+-- The reports of a header, and then a line for each place or for some of them.
 use Rattle.std.specs.Prelude.{ℕ, Bool, List, ◌++◌, is_some, count_by}
 use Rattle.std.specs.List.{flat_map}
 use Rattle.stage_graph.specs.Plain.{stage_at, all_places}
@@ -29,5 +29,6 @@ place_line States version place = line_of (stage_line version.graph) place (stag
 place_line Times version place = line_of (times_line version.graph) place (stage_at version.graph.places place)
 place_line Shifts version place = line_of (drift_line version) place (stage_at version.graph.places place)
 
+-- a report that goes over all places
 abbrev pub lines_text : Lines → PlainVersion → List ℕ
 lines_text lines version = header lines version (line_count lines version) ++ flat_map (place_line lines version) (all_places version.graph.places)

@@ -1,18 +1,22 @@
 -- The texts of the reports, each as one chain in the order in which it is written.
-use Rattle.std.specs.Prelude.{ℕ, ◌-◌, List, [], ◌∷◌, ◌++◌, Option, None, Some, codes, is_some, count_by, nat_lt, if◌then◌else◌}
+use Rattle.std.specs.Prelude.{ℕ, ◌-◌, List, [], ◌∷◌, ◌++◌, Option, None, Some, codes, is_some, count_by, length, nat_lt, if◌then◌else◌}
 use Rattle.std.specs.List.{flat_map}
 use Rattle.std.specs.Fmt.{decimal}
 use Rattle.act_expr.specs.declared.outcome.Mode.{Mode}
 use Rattle.act_expr.specs.declared.outcome.Mode.TheVariants.{Computed, Literal}
+use Rattle.act_expr.specs.OutcomeText.{outcome_text}
 use Rattle.stage_graph.specs.declared.stage.Stage.{Stage}
-use Rattle.stage_graph.specs.Plain.{PlainGraph, stage_at, all_places}
+use Rattle.stage_graph.specs.Plain.{PlainGraph, stage_at, all_places, dependents}
 use Rattle.stage_graph.specs.Texts.{op_text}
 use Rattle.stage_graph.specs.Walk.{rank}
-use Rattle.stage_ops.specs.Texts.{state_text}
+use Rattle.stage_ops.specs.Java.{java_step}
+use Rattle.stage_ops.specs.Joins.{joined}
+use Rattle.stage_ops.specs.Texts.{state_text, join_text}
+use Rattle.scratch_eval.specs.Blame.{chain}
 use Rattle.version_store.specs.declared.before.Before.{Before}
 use Rattle.version_store.specs.declared.before.Before.TheVariants as stood
 use Rattle.version_store.specs.Plain.{PlainVersion, parent_of}
-use Rattle.version_store.specs.Queries.{state_of, moment_in, start_in, before}
+use Rattle.version_store.specs.Queries.{state_of, moment_in, start_in, before, touched_of}
 use Rattle.report_text.specs.declared.shift.Shift.{Shift}
 use Rattle.report_text.specs.declared.shift.Shift.TheVariants.{Later, Earlier}
 
@@ -45,6 +49,25 @@ each_stage line places = flat_map (λ place. line_of line place (stage_at places
 -- how many stages are live
 abbrev pub live_count : List (Option Stage) → ℕ
 live_count places = count_by (λ place. is_some (stage_at places place)) (all_places places)
+
+-- ---- lists of stages
+
+abbrev pub name_of : Option Stage → List ℕ
+name_of None = []
+name_of (Some stage) = stage.name
+
+-- a space, and the name of the stage at a place
+abbrev pub spaced_name : List (Option Stage) → ℕ → List ℕ
+spaced_name places place = codes " " ++ name_of (stage_at places place)
+
+-- the names of the stages at these places, with a space before each; a dash for none
+abbrev pub names_text : List (Option Stage) → List ℕ → List ℕ
+names_text places [] = codes " -"
+names_text places (first ∷ others) = flat_map (spaced_name places) (first ∷ others)
+
+-- TITLE NAMES
+abbrev pub names_line : List ℕ → List (Option Stage) → List ℕ → List ℕ
+names_line title places listed = title ++ names_text places listed ++ line_end
 
 -- ---- all: every live stage
 
@@ -115,3 +138,41 @@ drift_header version count = comparison (codes "drift") version ++ codes " moved
 
 abbrev pub drift_text : PlainVersion → List ℕ
 drift_text version = drift_header version (shifted_count version) ++ each_stage (drift_line version) version.graph.places
+
+-- ---- changes: the stages that the edits touch
+
+-- what a stage was in the parent
+abbrev pub before_text : Before → List ℕ
+before_text stood.Absent = codes "absent"
+before_text stood.Pending = codes "pending"
+before_text (stood.Done outcome moment) = outcome_text outcome ++ codes " at " ++ decimal moment
+
+-- NAME OLD -> NEW
+abbrev pub change_line : PlainVersion → ℕ → Stage → List ℕ
+change_line version place stage =
+    stage.name ++ codes " " ++ before_text (before version.origin place) ++ codes " -> " ++ state_text (state_of version.graph place) ++ line_end
+
+abbrev pub change_at : PlainVersion → ℕ → List ℕ
+change_at version place = line_of (change_line version) place (stage_at version.graph.places place)
+
+-- changes of version N from P touched K
+abbrev pub changes_header : PlainVersion → ℕ → List ℕ
+changes_header version count = comparison (codes "changes") version ++ codes " touched " ++ decimal count ++ line_end
+
+abbrev pub changes_text : PlainVersion → List ℕ
+changes_text version = changes_header version (length (touched_of version)) ++ flat_map (change_at version) (touched_of version)
+
+-- ---- blame: how a stage came by its exception
+
+abbrev pub blame_text : PlainGraph → ℕ → List ℕ
+blame_text graph place = names_line (codes "blame") graph.places (chain (java_step graph.mode) graph.places place)
+
+-- ---- one: a stage, its feeds and its dependents
+
+abbrev pub join_line : PlainGraph → ℕ → List ℕ
+join_line graph place = codes "join " ++ join_text (joined (state_of graph place)) ++ line_end
+
+abbrev pub one_text : PlainGraph → ℕ → Stage → List ℕ
+one_text graph place stage =
+    stage_line graph place stage ++ names_line (codes "sources") graph.places stage.sources ++ names_line (codes "inner") graph.places stage.inner
+    ++ names_line (codes "dependents") graph.places (dependents graph.places place) ++ join_line graph place

@@ -1,22 +1,22 @@
-//! The first lines of the reports that go over all places.
+//! The first lines of the reports of a header and lines.
 ghost use Rattle.std.specs.Prelude.{◌≡◌, ◌++◌, OnOk, string_bytes};
 ghost use Rattle.version_store.specs.Plain.{parent_of};
 ghost use Rattle.report_text.specs.Lines.{header};
-ghost use Rattle.report_text.specs.Texts.{all_header, comparison, drift_header, number_or_dash, times_header};
+ghost use Rattle.report_text.specs.Texts.{all_header, changes_header, comparison, drift_header, number_or_dash, times_header};
 
 use crate::lines::Lines;
 use crate::words::mode_text;
-use stage_graph::Representation;
+use propagate::StateRepresentation;
 use std::alloc::AllocError;
 use std::fmt::Write;
 use version_store::Version;
 
 /// Puts the first line of a report, with the count of the others, at the end of a text.
-pub(crate) fn push_header<R: Representation>(
+pub(crate) fn push_header<R: StateRepresentation>(
     line: &mut String,
     lines: Lines,
     version: &Version<R>,
-    count: u32,
+    count: usize,
 ) -> Result<(), AllocError>
     ensures { OnOk result (string_bytes line.new ≡ string_bytes line.old ++ header lines version.now count) }
 {
@@ -28,7 +28,10 @@ pub(crate) fn push_header<R: Representation>(
 }
 
 // The number of the parent, or a dash.
-fn push_parent<R: Representation>(line: &mut String, version: &Version<R>) -> Result<(), AllocError>
+fn push_parent<R: StateRepresentation>(
+    line: &mut String,
+    version: &Version<R>,
+) -> Result<(), AllocError>
     ensures { OnOk result (string_bytes line.new ≡ string_bytes line.old ++ number_or_dash (parent_of version.now)) }
 {
     match version.parent() {
@@ -37,10 +40,10 @@ fn push_parent<R: Representation>(line: &mut String, version: &Version<R>) -> Re
     }
 }
 
-fn push_all_header<R: Representation>(
+fn push_all_header<R: StateRepresentation>(
     line: &mut String,
     version: &Version<R>,
-    count: u32,
+    count: usize,
 ) -> Result<(), AllocError>
     ensures { OnOk result (string_bytes line.new ≡ string_bytes line.old ++ all_header version.now count) }
 {
@@ -51,10 +54,10 @@ fn push_all_header<R: Representation>(
     writeln!(line, " mode {mode} stages {count}")
 }
 
-fn push_times_header<R: Representation>(
+fn push_times_header<R: StateRepresentation>(
     line: &mut String,
     version: &Version<R>,
-    count: u32,
+    count: usize,
 ) -> Result<(), AllocError>
     ensures { OnOk result (string_bytes line.new ≡ string_bytes line.old ++ times_header version.now count) }
 {
@@ -63,7 +66,7 @@ fn push_times_header<R: Representation>(
 }
 
 // What a report compares: TITLE of version N from P.
-fn push_comparison<R: Representation>(
+fn push_comparison<R: StateRepresentation>(
     line: &mut String,
     title: &str,
     version: &Version<R>,
@@ -75,13 +78,25 @@ fn push_comparison<R: Representation>(
     push_parent(line, version)
 }
 
-fn push_drift_header<R: Representation>(
+fn push_drift_header<R: StateRepresentation>(
     line: &mut String,
     version: &Version<R>,
-    count: u32,
+    count: usize,
 ) -> Result<(), AllocError>
     ensures { OnOk result (string_bytes line.new ≡ string_bytes line.old ++ drift_header version.now count) }
 {
     push_comparison(line, "drift", version)?;
     writeln!(line, " moved {count}")
+}
+
+/// Puts the first line of the report of touched stages at the end of a text.
+pub(crate) fn push_changes_header<R: StateRepresentation>(
+    line: &mut String,
+    version: &Version<R>,
+    count: usize,
+) -> Result<(), AllocError>
+    ensures { OnOk result (string_bytes line.new ≡ string_bytes line.old ++ changes_header version.now count) }
+{
+    push_comparison(line, "changes", version)?;
+    writeln!(line, " touched {count}")
 }

@@ -1,14 +1,15 @@
 //! Reports of a version, written to a sink a line at a time.
 #![tactic(auto)]
 
+mod blame;
+mod changes;
 mod fault;
 mod headers;
 mod lines;
+mod one;
 mod queries;
 mod reporting;
 mod shift;
-#[cfg(test)]
-mod tests;
 mod what;
 mod words;
 mod writing;

@@ -1,4 +1,4 @@
-//! The lines of the reports that go over all places.
+//! The lines of the reports of a header and lines.
 ghost use Rattle.std.specs.Prelude.{◌≡◌, ◌++◌, Some, OnOk, string_bytes};
 ghost use Rattle.stage_graph.specs.Plain.{stage_at};
 ghost use Rattle.report_text.specs.Lines.{has_line, line_count, place_line};
@@ -7,7 +7,8 @@ ghost use Rattle.report_text.specs.Texts.{drift_line, stage_line, times_line};
 use crate::queries::{rank_of, start_of, state_of};
 use crate::shift::Shift;
 use crate::words::push_number_or_dash;
-use stage_graph::{Representation, Stage};
+use propagate::StateRepresentation;
+use stage_graph::Stage;
 use std::alloc::AllocError;
 use std::fmt::Write;
 use version_store::Version;
@@ -24,7 +25,7 @@ pub(crate) enum Lines {
 }
 
 /// How many places have a line.
-pub(crate) fn line_count<R: Representation>(lines: Lines, version: &Version<R>) -> u32
+pub(crate) fn line_count<R: StateRepresentation>(lines: Lines, version: &Version<R>) -> usize
     ensures { result ≡ line_count lines version.now }
 {
     let mut count = 0;
@@ -37,7 +38,7 @@ pub(crate) fn line_count<R: Representation>(lines: Lines, version: &Version<R>) 
 }
 
 // Whether a place has a line.
-fn has_line<R: Representation>(lines: Lines, version: &Version<R>, place: u32) -> bool
+fn has_line<R: StateRepresentation>(lines: Lines, version: &Version<R>, place: u32) -> bool
     ensures { result ≡ has_line lines version.now place }
 {
     match lines {
@@ -47,7 +48,7 @@ fn has_line<R: Representation>(lines: Lines, version: &Version<R>, place: u32) -
 }
 
 /// Puts the line of a place at the end of a text, or nothing where it has none.
-pub(crate) fn push_line<R: Representation>(
+pub(crate) fn push_line<R: StateRepresentation>(
     line: &mut String,
     lines: Lines,
     version: &Version<R>,
@@ -65,7 +66,7 @@ pub(crate) fn push_line<R: Representation>(
     }
 }
 
-fn push_stage<R: Representation>(
+pub(crate) fn push_stage<R: StateRepresentation>(
     line: &mut String,
     version: &Version<R>,
     place: u32,
@@ -81,7 +82,7 @@ fn push_stage<R: Representation>(
     writeln!(line, "{name} {op} rank {rank} {state}")
 }
 
-fn push_times<R: Representation>(
+fn push_times<R: StateRepresentation>(
     line: &mut String,
     version: &Version<R>,
     place: u32,
@@ -98,7 +99,7 @@ fn push_times<R: Representation>(
     writeln!(line, " queued {queued} runs {runs}")
 }
 
-fn push_drift<R: Representation>(
+fn push_drift<R: StateRepresentation>(
     line: &mut String,
     version: &Version<R>,
     place: u32,

@@ -1,14 +1,19 @@
 //! What is asked of a version about a stage that is known to be live.
-ghost use Rattle.std.specs.Prelude.{◌≡◌};
-ghost use Rattle.stage_graph.specs.Plain.{IsLive};
+ghost use Rattle.std.specs.Prelude.{◌≡◌, IfOk};
+ghost use Rattle.stage_graph.specs.Plain.{IsLive, dependents};
 ghost use Rattle.stage_graph.specs.Walk.{rank};
-ghost use Rattle.version_store.specs.Queries.{start_in, state_of};
+ghost use Rattle.stage_ops.specs.Java.{java_step};
+ghost use Rattle.stage_ops.specs.Joins.{joined};
+ghost use Rattle.scratch_eval.specs.Blame.{chain};
+ghost use Rattle.version_store.specs.Queries.{before, start_in, state_of};
 
-use stage_graph::Representation;
-use stage_ops::State;
-use version_store::Version;
+use propagate::StateRepresentation;
+use stage_graph::Places;
+use stage_ops::{Join, State};
+use std::alloc::{AllocError, Global};
+use version_store::{Before, QueryFault, Version};
 
-pub(crate) fn rank_of<R: Representation>(version: &Version<R>, place: u32) -> u32
+pub(crate) fn rank_of<R: StateRepresentation>(version: &Version<R>, place: u32) -> u32
     requires { IsLive version.now.graph.places place }
     ensures { result ≡ rank version.now.graph.places place }
 {
@@ -18,7 +23,7 @@ pub(crate) fn rank_of<R: Representation>(version: &Version<R>, place: u32) -> u3
     }
 }
 
-pub(crate) fn state_of<R: Representation>(version: &Version<R>, place: u32) -> State
+pub(crate) fn state_of<R: StateRepresentation>(version: &Version<R>, place: u32) -> State
     requires { IsLive version.now.graph.places place }
     ensures { result ≡ state_of version.now.graph place }
 {
@@ -28,12 +33,60 @@ pub(crate) fn state_of<R: Representation>(version: &Version<R>, place: u32) -> S
     }
 }
 
-pub(crate) fn start_of<R: Representation>(version: &Version<R>, place: u32) -> Option<u64>
+pub(crate) fn start_of<R: StateRepresentation>(version: &Version<R>, place: u32) -> Option<u64>
     requires { IsLive version.now.graph.places place }
     ensures { result ≡ start_in (state_of version.now.graph place) }
 {
     match version.start(place) {
         Ok(start) => start,
+        Err(_) => unreachable!(),
+    }
+}
+
+/// What the stage was in the parent.
+pub(crate) fn before_of<R: StateRepresentation>(version: &Version<R>, place: u32) -> Before
+    requires { IsLive version.now.graph.places place }
+    ensures { result ≡ before version.now.origin place }
+{
+    match version.before(place) {
+        Ok(before) => before,
+        Err(_) => unreachable!(),
+    }
+}
+
+/// The places of the chain of blame.
+pub(crate) fn chain_of<R: StateRepresentation>(
+    alloc: Global,
+    version: &Version<R>,
+    place: u32,
+) -> Result<Places, AllocError>
+    requires { IsLive version.now.graph.places place }
+    ensures { IfOk result (λ places. places ≡ chain (java_step version.now.graph.mode) version.now.graph.places place) }
+{
+    match version.blame(alloc, place) {
+        Ok(chain) => Ok(chain),
+        Err(QueryFault::Memory) => Err(AllocError),
+        Err(QueryFault::NoStage) => unreachable!(),
+    }
+}
+
+/// The places of the stages that have the stage as a feed.
+pub(crate) fn dependents_of<R: StateRepresentation>(version: &Version<R>, place: u32) -> &[u32]
+    requires { IsLive version.now.graph.places place }
+    ensures { result.now ≡ dependents version.now.graph.places place }
+{
+    match version.dependents(place) {
+        Ok(dependents) => dependents,
+        Err(_) => unreachable!(),
+    }
+}
+
+pub(crate) fn join_of<R: StateRepresentation>(version: &Version<R>, place: u32) -> Join
+    requires { IsLive version.now.graph.places place }
+    ensures { result ≡ joined (state_of version.now.graph place) }
+{
+    match version.join(place) {
+        Ok(join) => join,
         Err(_) => unreachable!(),
     }
 }

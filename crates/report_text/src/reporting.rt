@@ -4,11 +4,14 @@ ghost use Rattle.std.specs.Io.KnownBytes.{Appends};
 ghost use Rattle.text_io.specs.Sink.{AppendsPrefix};
 ghost use Rattle.report_text.specs.Reports.{failed_writes, text};
 
+use crate::blame::write_blame;
+use crate::changes::write_changes;
 use crate::fault::ReportFault;
 use crate::lines::Lines;
+use crate::one::write_one;
 use crate::what::What;
 use crate::writing::write_lines;
-use stage_graph::Representation;
+use propagate::StateRepresentation;
 use std::alloc::Global;
 use text_io::Sink;
 use version_store::Version;
@@ -17,7 +20,7 @@ use version_store::Version;
 ///
 /// Errors: `NoStage` where the report asks for a stage that is not live, and then nothing is
 /// written; `Write` where a write failed or took nothing; `Memory`.
-pub fn report<R: Representation, S: Sink>(
+pub fn report<R: StateRepresentation, S: Sink>(
     alloc: Global,
     version: &Version<R>,
     what: What,
@@ -32,6 +35,9 @@ pub fn report<R: Representation, S: Sink>(
     let mut line = String::new(alloc);
     match what {
         What::All => write_lines(&mut line, Lines::States, version, sink),
+        What::One(place) => write_one(&mut line, version, place, sink),
+        What::Blame(place) => write_blame(alloc, &mut line, version, place, sink),
+        What::Changes => write_changes(&mut line, version, sink),
         What::Drift => write_lines(&mut line, Lines::Shifts, version, sink),
         What::Times => write_lines(&mut line, Lines::Times, version, sink),
     }

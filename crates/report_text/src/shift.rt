@@ -2,7 +2,7 @@
 ghost use Rattle.std.specs.Prelude.{◌≡◌};
 ghost use Rattle.report_text.specs.Texts.{shift_at, shift_since};
 
-use stage_graph::Representation;
+use propagate::StateRepresentation;
 use std::fmt;
 use version_store::{Before, Version};
 
@@ -40,7 +40,7 @@ impl Shift {
     }
 
     /// The shift of the stage at a place, if it completes at another moment than in the parent.
-    pub(crate) fn at<R: Representation>(version: &Version<R>, place: u32) -> Option<Shift>
+    pub(crate) fn at<R: StateRepresentation>(version: &Version<R>, place: u32) -> Option<Shift>
         ensures { result ≡ shift_at version.now place }
     {
         match (version.before(place), version.moment(place)) {

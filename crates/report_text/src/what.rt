@@ -5,6 +5,12 @@
 pub enum What {
     /// Each live stage: its operation, rank and state.
     All,
+    /// The stage at a place, the names of its feeds and dependents, and what `join` answers.
+    One(u32),
+    /// How the stage at a place came by its exception.
+    Blame(u32),
+    /// Each stage that the edits touched: what it was in the parent, and what it is here.
+    Changes,
     /// Each stage that completes at another moment than in the parent: how much later or earlier.
     Drift,
     /// Each live stage: when its action started, and how long it was queued and ran.

@@ -1,8 +1,10 @@
 //! The parts of a line, each put at the end of a text.
 ghost use Rattle.std.specs.Prelude.{◌≡◌, ◌++◌, OnOk, string_bytes};
-ghost use Rattle.report_text.specs.Texts.{mode_text, number_or_dash};
+ghost use Rattle.stage_graph.specs.Plain.{stage_at};
+ghost use Rattle.report_text.specs.Texts.{mode_text, name_of, names_line, names_text, number_or_dash};
 
 use act_expr::Mode;
+use stage_graph::{Graph, Representation};
 use std::alloc::AllocError;
 use std::fmt::Write;
 
@@ -21,5 +23,46 @@ pub(crate) fn push_number_or_dash(line: &mut String, number: Option<u64>) -> Res
     match number {
         Some(number) => write!(line, "{number}"),
         None => line.push_str("-"),
+    }
+}
+
+/// A title, and the names of the stages at these places.
+pub(crate) fn push_names_line<R: Representation>(
+    line: &mut String,
+    title: &str,
+    graph: &Graph<R>,
+    places: &[u32],
+) -> Result<(), AllocError>
+    ensures { OnOk result (string_bytes line.new ≡ string_bytes line.old ++ names_line title.now graph.now.places places.now) }
+{
+    line.push_str(title)?;
+    push_names(line, graph, places)?;
+    line.push_str("\n")
+}
+
+fn push_names<R: Representation>(
+    line: &mut String,
+    graph: &Graph<R>,
+    places: &[u32],
+) -> Result<(), AllocError>
+    ensures { OnOk result (string_bytes line.new ≡ string_bytes line.old ++ names_text graph.now.places places.now) }
+{
+    if places.is_empty() {
+        return line.push_str(" -");
+    }
+    for place in places {
+        line.push_str(" ")?;
+        line.push_str(name_of(graph, *place))?;
+    }
+    Ok(())
+}
+
+// The name of the stage at a place.
+fn name_of<R: Representation>(graph: &Graph<R>, place: u32) -> &str
+    ensures { result.now ≡ name_of (stage_at graph.now.places place) }
+{
+    match graph.stage(place) {
+        Some(stage) => stage.name.as_str(),
+        None => "",
     }
 }

@@ -1,4 +1,4 @@
-//! The loop that writes a header and then a line for each place.
+//! The loops that write a header and then a line for each place.
 ghost use Rattle.std.specs.Prelude.{◌≡◌, ◌≢◌, ◌+◌, ◌-◌, ◌^◌, ◌<◌, ◌++◌, OnOk, OnErr, string_bytes};
 ghost use Rattle.std.specs.List.{flat_map};
 ghost use Rattle.std.specs.Io.KnownBytes.{Appends};
@@ -10,12 +10,12 @@ ghost use Rattle.report_text.specs.Reports.{failed_writes};
 use crate::fault::ReportFault;
 use crate::headers::push_header;
 use crate::lines::{Lines, line_count, push_line};
-use stage_graph::Representation;
+use propagate::StateRepresentation;
 use text_io::Sink;
 use version_store::Version;
 
 /// Writes the header and the lines of a report that goes over all places.
-pub(crate) fn write_lines<R: Representation, S: Sink>(
+pub(crate) fn write_lines<R: StateRepresentation, S: Sink>(
     line: &mut String,
     lines: Lines,
     version: &Version<R>,
@@ -33,7 +33,7 @@ pub(crate) fn write_lines<R: Representation, S: Sink>(
 }
 
 // Writes the header, which stands in the line's room, and then the line of each place.
-fn write_each_place<R: Representation, S: Sink>(
+fn write_each_place<R: StateRepresentation, S: Sink>(
     line: &mut String,
     lines: Lines,
     version: &Version<R>,
@@ -54,8 +54,8 @@ fn write_each_place<R: Representation, S: Sink>(
     Ok(())
 }
 
-// Writes the line of a place.
-fn write_place<R: Representation, S: Sink>(
+/// Writes the line of a place, or nothing where it has none.
+pub(crate) fn write_place<R: StateRepresentation, S: Sink>(
     line: &mut String,
     lines: Lines,
     version: &Version<R>,
