@@ -1,0 +1,12 @@
+pub mod Added
+pub mod Booked
+pub mod Commits
+pub mod Cycles
+pub mod Drafting
+pub mod Foreign
+pub mod Leads
+pub mod Legal
+pub mod Maps
+pub mod Runs
+pub mod Spans
+pub mod Standing

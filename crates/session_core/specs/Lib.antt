@@ -1,0 +1,12 @@
+pub mod Adding
+pub mod Applied
+pub mod Headline
+pub mod Kept
+pub mod Log
+pub mod Machine
+pub mod MachineView
+pub mod Ready
+pub mod Refusals
+pub mod Runs
+pub mod Standing
+pub mod TableView

@@ -1,0 +1,110 @@
+//! A list of events, taken one after the other.
+ghost use Rattle.std.specs.Prelude.{◌≡◌, ◌++◌, List, IfOk, OnErr};
+ghost use Rattle.session_core.specs.declared.event.Event.TheVariants.{Commit};
+ghost use Rattle.session_core.specs.declared.event.Reply.TheVariants.{Committed};
+ghost use Rattle.session_core.specs.declared.event.Reply.{Reply};
+ghost use Rattle.session_core.specs.Applied.{DraftsOrRefuses};
+ghost use Rattle.session_core.specs.Runs.{Replies, Runs, TakesOrStays};
+ghost use Rattle.session_core.specs.TableView.{IsSame, reply_of};
+
+use crate::event::{Event, Reply};
+use crate::refusal::{TableFault, of_fault};
+use crate::table::Table;
+use level_pool::Runner;
+use share_tree::Held;
+use stage_graph::Edits;
+use stage_ops::Meter;
+use std::alloc::{AllocError, Global};
+use version_store::{Draft, StateRepresentation, Version};
+
+/// The marker of the meter of one commit.
+#[derive(Drop)]
+struct OneCommit;
+
+/// Takes the events one after the other, as client 0, and adds the replies to the list. A commit is drafted on its base
+/// first, so that 52 and the refusals of the edits come before 51, 53 and 55, and have no entry in the history. Where
+/// memory is wanting for an event, its reply is refused by 90, and the others are taken all the same. An error comes
+/// before the first event.
+pub fn run<R: StateRepresentation, W: Runner>(
+    alloc: Global,
+    table: &mut Table<R>,
+    events: &[Event],
+    runner: &W,
+    replies: &mut Vec<Reply>,
+) -> Result<(), AllocError>
+    ensures ran { IfOk result (λ _. (given : List Reply) × (replies.new.items ≡ replies.old.items ++ given) × Runs table.old events.now given table.new) }
+    ensures kept { OnErr result (IsSame table.old table.new × (replies.new.items ≡ replies.old.items)) }
+{
+    replies.reserve(events.len())?;
+    for event in events {
+        let reply = table.take(alloc, event, runner);
+        replies.push_reserved(reply);
+    }
+    Ok(())
+}
+
+/// The draft that a list of edits makes of a version.
+fn draft_of<R: StateRepresentation, W: Runner>(
+    alloc: Global,
+    version: &Version<R>,
+    edit: &Held<Edits>,
+    runner: &W,
+) -> Result<Draft<R>, TableFault>
+    ensures { DraftsOrRefuses version.now edit.now result }
+{
+    let _ = edit.as_slice();
+    let mut meter = Meter::new(OneCommit);
+    match version.draft(alloc, edit, runner, &mut meter) {
+        Ok(draft) => Ok(draft),
+        Err(fault) => Err(of_fault(&fault)),
+    }
+}
+
+impl<R: StateRepresentation> Table<R> {
+    /// Takes one event.
+    fn take<W: Runner>(&mut self, alloc: Global, event: &Event, runner: &W) -> Reply
+        ensures { Replies self.old event.now result self.new }
+    {
+        match event {
+            Event::Open { session, version } => match self.open(0, *session, *version) {
+                Ok(()) => Reply::Opened(*version),
+                Err(fault) => Reply::Refused(fault.refusal()),
+            },
+            Event::Head { session } => match self.head(0, *session) {
+                Ok(version) => Reply::At(version.number()),
+                Err(fault) => Reply::Refused(fault.refusal()),
+            },
+            Event::Commit {
+                session,
+                base,
+                edit,
+            } => match self.edit(alloc, *session, *base, edit, runner) {
+                Ok(number) => Reply::Committed(number),
+                Err(fault) => Reply::Refused(fault.refusal()),
+            },
+            Event::Undo { session } => match self.undo(0, *session) {
+                Ok(number) => Reply::Undone(number),
+                Err(fault) => Reply::Refused(fault.refusal()),
+            },
+            Event::Close { session } => match self.close(0, *session) {
+                Ok(()) => Reply::Closed,
+                Err(fault) => Reply::Refused(fault.refusal()),
+            },
+        }
+    }
+
+    /// Drafts the base, which is one of the table's own versions, and commits the draft.
+    fn edit<W: Runner>(
+        &mut self,
+        alloc: Global,
+        session: u32,
+        base: u32,
+        edit: &Held<Edits>,
+        runner: &W,
+    ) -> Result<u32, TableFault>
+        ensures { TakesOrStays self.old (Commit session base edit.now) (reply_of Committed result) self.new }
+    {
+        let draft = draft_of(alloc, self.version(base)?, edit, runner)?;
+        self.commit_own(0, session, &draft)
+    }
+}
