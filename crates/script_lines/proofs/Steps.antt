@@ -1,9 +1,9 @@
 -- What is written while a script is read.
 use Rattle.std.proofs.Common.{◌≡◌, ℕ, ◌+◌, ◌-◌, ◌≤◌, min, arith, length-append, length-take-le, length-take, Bool, List, [], ◌∷◌, ◌++◌, length, take, refl, sym, ap, ◌∙◌, subst, append_assoc, append-nil, Option, Result, Ok, Err, OnErr, IfErr}
 use Rattle.std.specs.Io.KnownBytes.{Appends, Keeps, Consumes, IsAtEnd}
-use Rattle.std.specs.List.{cons_option, flat_map}
+use Rattle.std.specs.List.{cons_option}
 use Rattle.text_io.specs.Sink.{AppendsPrefix, Advances, StopsShort}
-use Rattle.text_io.proofs.Written.{AppendsPrefix-after, AppendsPrefix-longer, Advances-trans, Advances-at, StopsShort-at, StopsShort-after}
+use Rattle.text_io.proofs.Written.{AppendsPrefix-after, Advances-trans, Advances-at, StopsShort-at, StopsShort-after}
 use Rattle.std.proofs.KnownBytes.{Appends-trans, Appends-kept, Consumes-trans}
 use Rattle.script_lines.specs.Lines.{ScriptLine, IsUnbroken, line_begun, lines_after, lines_of}
 use Rattle.script_lines.specs.Serves.{ReadsEndBy, ServesPart}
@@ -128,7 +128,3 @@ counts_on read buffer count left most so_far within short =
 
 pub short_of : (room : ℕ) (buffer : List ℕ) (len left : ℕ) → room ≡ min left (length buffer) → len ≡ length (take room buffer) → len ≤ left
 short_of room buffer len left is same = let taken = length-take room buffer in omega (arith, is, same, taken)
-
--- an answer to each line by itself
-pub stops_in_answer : (answer : ScriptLine → List ℕ) (line : ScriptLine) (a b : Option (List ℕ)) → AppendsPrefix a b (answer line) → StopsShort (λ lines. flat_map answer (line ∷ lines)) a b
-stops_in_answer answer line a b stop lines = AppendsPrefix-longer a b (answer line) (flat_map answer lines) stop

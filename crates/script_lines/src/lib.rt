@@ -1,13 +1,10 @@
-//! The lines of a script, and the loop that reads them and writes the replies.
+//! The lines of a script: how they are put together from the bytes that come, and what it is to answer them.
 #![tactic(auto)]
 
 mod fault;
 mod line;
 mod partial_line;
-mod serving;
-#[cfg(test)]
-mod tests;
 
 pub use fault::{AnswerFault, ServeFault};
-pub use line::{Line, LineHandler};
-pub use serving::serve_lines;
+pub use line::Line;
+pub use partial_line::{PartialLine, split_line};

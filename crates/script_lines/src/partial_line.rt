@@ -1,31 +1,29 @@
 //! The line that is being read.
-ghost use Rattle.std.specs.Prelude.{◌≡◌, ℕ, List, [], ◌∷◌, ◌++◌, ◌+◌, ◌-◌, ◌^◌, ◌<◌, ◌≤◌, length, OnOk, OnErr};
+ghost use Rattle.std.specs.Prelude.{◌≡◌, ℕ, List, ◌∷◌, ◌++◌, OnOk, IfSome, IsNone};
 ghost use Rattle.std.specs.Option.{option_map};
-ghost use Rattle.std.specs.List.{cons_option};
-ghost use Rattle.text_io.specs.Sink.{Advances, StopsShort};
 ghost use Rattle.script_lines.specs.Lines.{IsUnbroken, line_begun, lines_after, lines_of};
 ghost use Rattle.script_lines.specs.Seen.{seen};
-ghost use Rattle.script_lines.specs.Faults.{failed_writes};
 
-use crate::fault::AnswerFault;
-use crate::line::{Line, LineHandler, is_blank};
+use crate::line::{Line, is_blank};
 use std::alloc::{AllocError, Global};
-use text_io::Sink;
 
-/// The most bytes that a line may have.
-pub(crate) const LONGEST: usize = 65_536;
+// The most bytes that a line may have.
+const LONGEST: usize = 65_536;
 
-// What came of a line so far, up to the longest that is kept.
+/// What came of a line so far.
 #[derive(Drop)]
-pub(crate) struct PartialLine {
-    text: Vec<u8>,
-    is_too_long: bool,
+pub struct PartialLine {
+    /// Its bytes, if they are no more than a line may have.
+    pub text: Vec<u8>,
+    /// Whether there are more.
+    pub is_too_long: bool,
 }
 
 impl PartialLine {
     ghost use Rattle.script_lines.specs.PartialLine.{IsPartialLine, comes_after};
 
-    pub(crate) fn new(alloc: Global) -> PartialLine
+    /// No line yet.
+    pub fn new(alloc: Global) -> PartialLine
         ensures begun { IsPartialLine result }
         ensures nothing { (bytes : List ℕ) → comes_after result bytes ≡ lines_of bytes }
     {
@@ -35,8 +33,8 @@ impl PartialLine {
         }
     }
 
-    // Takes more of the line.
-    pub(crate) fn extend(&mut self, piece: &[u8]) -> Result<(), AllocError>
+    /// Takes more of the line.
+    pub fn extend(&mut self, piece: &[u8]) -> Result<(), AllocError>
         requires begun { IsPartialLine self.old }
         requires unbroken { IsUnbroken piece.now }
         ensures begun { OnOk result (IsPartialLine self.new) }
@@ -52,8 +50,8 @@ impl PartialLine {
         Ok(())
     }
 
-    // The line, if it ends here and is no blank one.
-    fn line(&self) -> Option<Line<'_>>
+    /// The line, if it ends here and is no blank one.
+    pub fn line(&self) -> Option<Line<'_>>
         requires { IsPartialLine self.now }
         ensures { option_map seen result ≡ line_begun self.now.is_too_long self.now.text.items }
     {
@@ -66,48 +64,22 @@ impl PartialLine {
         }
     }
 
-    // Answers the line, which ends here, and begins the next one.
-    pub(crate) fn end<H: LineHandler, S: Sink>(
-        &mut self,
-        handler: &mut H,
-        sink: &mut S,
-    ) -> Result<(), AnswerFault>
+    /// Begins the next line.
+    pub fn clear(&mut self)
         requires begun { IsPartialLine self.old }
-        requires room { S.failures sink.old < 2 ^ 64 - 1 }
-        ensures begun { OnOk result (IsPartialLine self.new) }
-        ensures next { OnOk result ((bytes : List ℕ) → comes_after self.new bytes ≡ lines_of bytes) }
-        ensures ok { OnOk result (Advances
-            (λ lines. H.answers handler.old (cons_option (line_begun self.old.is_too_long self.old.text.items) lines))
-            (H.answers handler.new) (S.held sink.old) (S.held sink.new)) }
-        ensures err { OnErr result (StopsShort
-            (λ lines. H.answers handler.old (cons_option (line_begun self.old.is_too_long self.old.text.items) lines))
-            (S.held sink.old) (S.held sink.new)) }
-        ensures failures { S.failures sink.new ≡ S.failures sink.old + failed_writes result }
+        ensures begun { IsPartialLine self.new }
+        ensures nothing { (bytes : List ℕ) → comes_after self.new bytes ≡ lines_of bytes }
     {
-        answer_any(self.line(), handler, sink)?;
         self.text.clear();
         self.is_too_long = false;
-        Ok(())
     }
 }
 
-// Answers the line, if there is one.
-fn answer_any<H: LineHandler, S: Sink>(
-    line: Option<Line<'_>>,
-    handler: &mut H,
-    sink: &mut S,
-) -> Result<(), AnswerFault>
-    requires { S.failures sink.old < 2 ^ 64 - 1 }
-    ensures ok { OnOk result (Advances
-        (λ lines. H.answers handler.old (cons_option (option_map seen line.entry) lines))
-        (H.answers handler.new) (S.held sink.old) (S.held sink.new)) }
-    ensures err { OnErr result (StopsShort
-        (λ lines. H.answers handler.old (cons_option (option_map seen line.entry) lines))
-        (S.held sink.old) (S.held sink.new)) }
-    ensures failures { S.failures sink.new ≡ S.failures sink.old + failed_writes result }
+/// What stands before the first line end, and what stands after it.
+pub fn split_line(text: &[u8]) -> Option<(&[u8], &[u8])>
+    ensures some { IfSome result (λ parts. IsUnbroken parts.0.now × (text.now ≡ parts.0.now ++ 10 ∷ parts.1.now)) }
+    ensures none { IsNone result → IsUnbroken text.now }
 {
-    match line {
-        Some(line) => handler.answer(line, sink),
-        None => Ok(()),
-    }
+    let end = text.iter().position(|byte| *byte == b'\n')?;
+    Some((&text[..end], &text[end + 1..]))
 }

@@ -1,6 +1,7 @@
 // What ends the program early.
 use crate::report_all::ReportAllFault;
 use recording::Fault as ReadingFault;
+use serve_script::ServeFault;
 use std::alloc::AllocError;
 use std::fmt;
 
@@ -51,6 +52,16 @@ impl From<ReportAllFault> for Fault {
             ReportAllFault::Refused(fault) => Fault::Refused(fault),
             ReportAllFault::Write => Fault::Write,
             ReportAllFault::Memory => Fault::Memory,
+        }
+    }
+}
+
+impl From<ServeFault> for Fault {
+    fn from(fault: ServeFault) -> Fault {
+        match fault {
+            ServeFault::Read => Fault::Read,
+            ServeFault::Write => Fault::Write,
+            ServeFault::Memory => Fault::Memory,
         }
     }
 }

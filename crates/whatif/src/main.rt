@@ -7,18 +7,20 @@ mod fault;
 mod input;
 mod options;
 mod report_all;
-#[cfg(test)]
-mod tests;
 
 use clap::ArgMatches;
 use fault::Fault;
+use level_pool::{OneThread, Runner};
+use recording::read_recording;
 use report_all::report_all;
+use serve_script::serve;
+use stage_graph::{Graph, InShared};
 use std::io::{self, BufWriter};
 use std::process::ExitCode;
-use text_io::{CountedWriter, Sink};
+use text_io::{CountedReader, CountedWriter, Sink};
 
 fn main(rt: HostRuntime) -> ExitCode {
-    match run(&rt) {
+    match run(&rt, &OneThread::new(&rt)) {
         Ok(code) => code,
         Err(fault) => refuse(&rt, &fault),
     }
@@ -35,7 +37,7 @@ fn refuse(rt: &HostRuntime, fault: &Fault) -> ExitCode {
     }
 }
 
-fn run(rt: &HostRuntime) -> Result<ExitCode, Fault> {
+fn run<W: Runner>(rt: &HostRuntime, runner: &W) -> Result<ExitCode, Fault> {
     let alloc = rt.alloc();
     let Ok(words) = std::env::args(rt) else {
         return Err(Fault::Read);
@@ -46,8 +48,10 @@ fn run(rt: &HostRuntime) -> Result<ExitCode, Fault> {
         Ok(matches) => matches,
         Err(error) => return told(rt, &error),
     };
-    if let Some(("report", matches)) = matches.subcommand() {
-        run_report(rt, matches)?;
+    match matches.subcommand() {
+        Some(("report", matches)) => run_report(rt, matches)?,
+        Some(("serve", matches)) => run_serve(rt, runner, matches)?,
+        _ => {}
     }
     Ok(ExitCode::SUCCESS)
 }
@@ -70,6 +74,27 @@ fn run_report(rt: &HostRuntime, matches: &ArgMatches<'_>) -> Result<(), Fault> {
     let mut sink = CountedWriter::new(writer);
     report_all(rt.alloc(), &recording, &mut sink)?;
     flush(&mut sink)
+}
+
+/// Answers a script from standard input, about the recording of a file.
+fn run_serve<W: Runner>(
+    rt: &HostRuntime,
+    runner: &W,
+    matches: &ArgMatches<'_>,
+) -> Result<(), Fault> {
+    let recording = input::recording(rt, matches.get_str("FILE"))?;
+    let graph: Graph<InShared> = match read_recording(rt.alloc(), &recording) {
+        Ok(graph) => graph,
+        Err(fault) => return Err(Fault::Refused(fault)),
+    };
+    let Ok(writer) = BufWriter::new(rt.alloc(), io::writer(rt)) else {
+        return Err(Fault::Memory);
+    };
+    let mut source = CountedReader::new(rt.stdin());
+    let mut sink = CountedWriter::new(writer);
+    let end = serve(rt.alloc(), runner, &mut source, &mut sink, graph);
+    flush(&mut sink)?;
+    Ok(end?)
 }
 
 fn flush<S: Sink>(sink: &mut S) -> Result<(), Fault>

@@ -8,8 +8,13 @@ pub(crate) fn command<'a>(alloc: Global) -> Result<Command<'a>, AllocError> {
     let report = Command::new(alloc, "report")
         .about("Prints each stage of a recording: its rank, its state and its moment")
         .arg(file)?;
+    let file = Arg::new(alloc, "FILE").help("the recording").required(true);
+    let serve = Command::new(alloc, "serve")
+        .about("Answers the steps that come on standard input, one to a line, about a recording")
+        .arg(file)?;
     Command::new(alloc, "whatif")
         .about("A what-if debugger for recorded runs of asynchronous Java services")
         .subcommand_required(true)
-        .subcommand(report)
+        .subcommand(report)?
+        .subcommand(serve)
 }

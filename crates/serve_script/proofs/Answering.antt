@@ -1,0 +1,112 @@
+-- What was written in answer.
+use Rattle.std.proofs.Common.{◌≡◌, ◌∙◌, ℕ, ◌<◌, min, length, take, length-take, arith, Bool, List, [], ◌∷◌, ◌++◌, Option, Some, None, unwrap_or, Result, Ok, Err, OnOk, OnErr, ap, sym, subst, refl}
+use Rattle.std.specs.Io.KnownBytes.{Appends}
+use Rattle.text_io.specs.Sink.{AppendsPrefix, Advances, StopsShort}
+use Rattle.text_io.proofs.Written.{AppendsPrefix-after, AppendsPrefix-longer}
+use Rattle.std.proofs.KnownBytes.{Appends-trans}
+use Rattle.script_lines.specs.Lines.{ScriptLine}
+use Rattle.stage_graph.specs.declared.edit.Edit.{Edit}
+use Rattle.session_core.specs.Machine.{State, step}
+use Rattle.session_core.specs.declared.event.Event.{Event}
+use Rattle.session_core.specs.declared.event.Event.TheVariants.{Head, Commit}
+use Rattle.session_core.specs.declared.event.Reply.{Reply}
+use Rattle.session_core.specs.declared.event.Reply.TheVariants.{Opened, At, Committed, Undone, Closed, Refused}
+use Rattle.serve_script.specs.Answers.{IsAnswered, Answered, answered, answer_event, answer_head, answer_line, answers_from, or_no_stage, told, on_head, after_head}
+use Rattle.recording.specs.Reads.{IsRead}
+use Rattle.recording.specs.declared.fault.Fault.{Fault}
+use Rattle.recording.specs.declared.fault.Fault.TheVariants.{Memory}
+use Rattle.recording.specs.declared.fault.Fault.TheVariants as fault
+use Rattle.recording.specs.declared.step.Step.{Step}
+use Rattle.serve_script.specs.Replies.{reply_line}
+
+-- ---- one line
+
+pub advances : (s t : State) (line : ScriptLine) (a b : Option (List ℕ)) → IsAnswered (answer_line s line) t a b
+    → Advances (λ lines. answers_from s (line ∷ lines)) (answers_from t) a b
+advances s t line a b (is, appends) = record {
+  written = (answer_line s line).0;
+  appends = appends;
+  left = λ lines. ap (λ u. (answer_line s line).0 ++ answers_from u lines) (sym is);
+}
+
+stops_short : (s : State) (line : ScriptLine) (a b : Option (List ℕ)) → AppendsPrefix a b (answer_line s line).0
+    → StopsShort (λ lines. answers_from s (line ∷ lines)) a b
+stops_short s line a b stop lines = AppendsPrefix-longer a b _ (answers_from (answer_line s line).1 lines) stop
+
+pub stops_short_of : {T E : Type 0} (r : Result T E) (s : State) (line : ScriptLine) (a b : Option (List ℕ)) → OnErr r (AppendsPrefix a b (answer_line s line).0)
+    → OnErr r (StopsShort (λ lines. answers_from s (line ∷ lines)) a b)
+stops_short_of (Ok x) s line a b stop = tt
+stops_short_of (Err e) s line a b stop = stops_short s line a b stop
+
+-- ---- a line that names no step
+
+pub fault_read : (fault : Fault) (meant : Result Step Fault) → IsRead (Err fault) meant → (fault ≡ Memory → ⊥) → meant ≡ Err fault
+fault_read (fault.Refused refused) meant read none = absurd read
+fault_read (fault.Cycle path) meant read none = absurd read
+fault_read Memory meant read none = absurd (none refl)
+fault_read fault.TooLong meant read none = read
+fault_read fault.Json meant read none = read
+fault_read (fault.Shape member) meant read none = read
+fault_read fault.ListSize meant read none = read
+
+-- ---- the reply to an event
+
+pub event_told : (s t : State) (event : Event) (listed : Bool) (reply : Reply) → step s event ≡ Some (reply, t)
+    → answer_event s event listed ≡ answered (reply_line t event listed reply) t
+event_told s t event listed reply is = ap (told s event listed) is
+
+-- ---- the reply to edits of the head
+
+pub head_edited : (s t : State) (session base : ℕ) (edits given : List Edit) (listed : Bool) (reply : Reply) → step s (Head session) ≡ Some (reply, t) → reply ≡ At base → given ≡ edits
+    → answer_head s session edits listed ≡ answer_event t (Commit session base given) listed
+head_edited s t session base edits given listed reply is at same =
+    ap (after_head session edits listed s) is ∙ ap (on_head session edits listed t) at ∙ ap (λ e. answer_event t (Commit session base e) listed) (sym same)
+
+other_reply : (session : ℕ) (edits : List Edit) (listed : Bool) (t : State) (reply : Reply) → ((base : ℕ) → reply ≡ At base → ⊥)
+    → on_head session edits listed t reply ≡ answered (reply_line t (Head session) listed reply) t
+other_reply session edits listed t (At base) none = absurd (none base refl)
+other_reply session edits listed t (Opened version) none = refl
+other_reply session edits listed t (Committed version) none = refl
+other_reply session edits listed t (Undone version) none = refl
+other_reply session edits listed t Closed none = refl
+other_reply session edits listed t (Refused refusal) none = refl
+
+pub head_refused : (s t : State) (session : ℕ) (edits : List Edit) (listed : Bool) (reply : Reply) → step s (Head session) ≡ Some (reply, t) → ((base : ℕ) → reply ≡ At base → ⊥)
+    → answer_head s session edits listed ≡ answered (reply_line t (Head session) listed reply) t
+head_refused s t session edits listed reply is none = ap (after_head session edits listed s) is ∙ other_reply session edits listed t reply none
+
+-- ---- parts of answers
+
+pub all_of : {T E : Type 0} (r : Result T E) (x y : Answered) (t : State) (a b : Option (List ℕ)) → y ≡ x → OnOk r (IsAnswered x t a b) → OnOk r (IsAnswered y t a b)
+all_of r x y t a b same all = subst (λ z. OnOk r (IsAnswered z t a b)) (sym same) all
+
+pub part_of : {T E : Type 0} (r : Result T E) (a b : Option (List ℕ)) (text more : List ℕ) → more ≡ text → OnErr r (AppendsPrefix a b text) → OnErr r (AppendsPrefix a b more)
+part_of r a b text more same part = subst (λ l. OnErr r (AppendsPrefix a b l)) (sym same) part
+
+-- ---- a report of no stage
+
+no_front : (front rest : List ℕ) → [] ≡ front ++ rest → front ≡ []
+no_front [] rest is = refl
+no_front (byte ∷ bytes) rest is = cc
+
+nothing_written : (o : Option (List ℕ)) (a b : Option (List ℕ)) → o ≡ None → AppendsPrefix a b (unwrap_or o []) → Appends a b []
+nothing_written o a b none (rest, so_far) =
+    subst (Appends a b) (no_front so_far.written rest (sym (ap (λ p. unwrap_or p []) none) ∙ so_far.whole)) so_far.appends
+
+pub then_told : {T E : Type 0} (r : Result T E) (o : Option (List ℕ)) (a b c : Option (List ℕ)) → o ≡ None → AppendsPrefix a b (unwrap_or o [])
+    → OnOk r (Appends b c (or_no_stage None)) → OnOk r (Appends a c (or_no_stage o))
+then_told (Ok x) o a b c none part all =
+    subst (λ p. Appends a c (or_no_stage p)) (sym none) (Appends-trans a b c [] (or_no_stage None) (nothing_written o a b none part) all)
+then_told (Err e) o a b c none part all = tt
+
+pub then_part_told : {T E : Type 0} (r : Result T E) (o : Option (List ℕ)) (a b c : Option (List ℕ)) → o ≡ None → AppendsPrefix a b (unwrap_or o [])
+    → OnErr r (AppendsPrefix b c (or_no_stage None)) → OnErr r (AppendsPrefix a c (or_no_stage o))
+then_part_told (Ok x) o a b c none part all = tt
+then_part_told (Err e) o a b c none part all =
+    subst (λ p. AppendsPrefix a c (or_no_stage p)) (sym none) (AppendsPrefix-after a b c [] (or_no_stage None) (nothing_written o a b none part) all)
+
+-- ---- room to read
+
+-- a buffer of some bytes has room for some of what is left
+pub has_room : (room : ℕ) (buffer : List ℕ) (len left given : ℕ) → room ≡ min left (length buffer) → len ≡ length (take room buffer) → length buffer ≡ given → 0 < given → 0 < left → 0 < len
+has_room room buffer len left given is same kept some more = let taken = length-take room buffer in omega (arith, is, same, taken, kept, some, more)

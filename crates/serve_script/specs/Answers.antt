@@ -1,0 +1,127 @@
+-- The answers to a script.
+use Rattle.std.specs.Prelude.{◌≡◌, ℕ, ◌^◌, Bool, true, false, List, [], ◌∷◌, ◌++◌, codes, Option, Some, None, slice_get, Result, Ok, Err}
+use Rattle.std.specs.Option.{option_map, option_and_then}
+use Rattle.std.specs.Io.KnownBytes.{Appends}
+use Rattle.stage_graph.specs.Plain.{PlainGraph, place_named}
+use Rattle.stage_graph.specs.declared.edit.Edit.{Edit}
+use Rattle.stage_graph.specs.declared.stage.Stage.{Stage}
+use Rattle.version_store.specs.Plain.{PlainVersion, opening_version}
+use Rattle.report_text.specs.Reports.{text}
+use Rattle.report_text.specs.Texts.{line_end}
+use Rattle.report_text.specs.declared.what.What.{What}
+use Rattle.report_text.specs.declared.what.What.TheVariants as what
+use Rattle.recording.specs.FaultTexts.{fault_text}
+use Rattle.recording.specs.StepOf.{step_of}
+use Rattle.recording.specs.declared.fault.Fault.{Fault}
+use Rattle.recording.specs.declared.fault.Fault.TheVariants.{TooLong}
+use Rattle.recording.specs.declared.step.Asked.{Asked}
+use Rattle.recording.specs.declared.step.Asked.TheVariants as asked
+use Rattle.recording.specs.declared.step.Step.{Step}
+use Rattle.recording.specs.declared.step.Step.TheVariants.{Open, Head, Undo, Close, Change, Report}
+use Rattle.script_lines.specs.Lines.{ScriptLine, kept, too_long, lines_of}
+use Rattle.session_core.specs.Machine.{State, Booked, opening, step}
+use Rattle.session_core.specs.declared.event.Event.{Event}
+use Rattle.session_core.specs.declared.event.Event.TheVariants as event
+use Rattle.session_core.specs.declared.event.Reply.{Reply}
+use Rattle.session_core.specs.declared.event.Reply.TheVariants as replied
+use Rattle.serve_script.specs.Replies.{reply_line}
+
+-- what is written in answer, and the state after it
+abbrev pub Answered : Type 0
+Answered = List ℕ × State
+
+abbrev pub answered : List ℕ → State → Answered
+answered text s = (text, s)
+
+-- ---- events
+
+-- the printed reply, if the machine has one
+abbrev pub told : State → Event → Bool → Booked → Answered
+told s event listed None = ([], s)
+told s event listed (Some booked) = (reply_line booked.1 event listed booked.0, booked.1)
+
+abbrev pub answer_event : State → Event → Bool → Answered
+answer_event s event listed = told s event listed (step s event)
+
+-- edits of the version at which the session stands; where no session stands there, the refusal is told
+abbrev pub on_head : ℕ → List Edit → Bool → State → Reply → Answered
+on_head session edits listed t (replied.At base) = answer_event t (event.Commit session base edits) listed
+on_head session edits listed t reply = (reply_line t (event.Head session) listed reply, t)
+
+abbrev pub after_head : ℕ → List Edit → Bool → State → Booked → Answered
+after_head session edits listed s None = ([], s)
+after_head session edits listed s (Some booked) = on_head session edits listed booked.1 booked.0
+
+abbrev pub answer_head : State → ℕ → List Edit → Bool → Answered
+answer_head s session edits listed = after_head session edits listed s (step s (event.Head session))
+
+-- edits of a version, or of the session's head
+abbrev pub answer_change : State → ℕ → Option ℕ → List Edit → Bool → Answered
+answer_change s session None edits listed = answer_head s session edits listed
+answer_change s session (Some base) edits listed = answer_event s (event.Commit session base edits) listed
+
+-- ---- reports
+
+-- the report that is asked for; none of a stage that is not there
+abbrev pub what_asked : List (Option Stage) → Asked → Option What
+what_asked places asked.All = Some what.All
+what_asked places (asked.One name) = option_map what.One (place_named places name)
+what_asked places (asked.Blame name) = option_map what.Blame (place_named places name)
+what_asked places asked.Changes = Some what.Changes
+what_asked places asked.Drift = Some what.Drift
+what_asked places asked.Times = Some what.Times
+
+abbrev pub or_no_stage : Option (List ℕ) → List ℕ
+or_no_stage None = codes "refused 10 NoStage" ++ line_end
+or_no_stage (Some report) = report
+
+abbrev pub report_asked : PlainVersion → Asked → List ℕ
+report_asked version asked = or_no_stage (option_and_then (text version) (what_asked version.graph.places asked))
+
+abbrev pub report_of : Option PlainVersion → Asked → List ℕ
+report_of None asked = codes "refused 52 NoVersion" ++ line_end
+report_of (Some version) asked = report_asked version asked
+
+-- ---- lines
+
+abbrev pub answer_step : State → Step → Answered
+answer_step s (Open session version) = answer_event s (event.Open session version) false
+answer_step s (Head session) = answer_event s (event.Head session) false
+answer_step s (Undo session) = answer_event s (event.Undo session) false
+answer_step s (Close session) = answer_event s (event.Close session) false
+answer_step s (Change session base edits listed) = answer_change s session base edits listed
+answer_step s (Report version asked) = (report_of (slice_get s.versions version) asked, s)
+
+abbrev pub fault_line : Fault → List ℕ
+fault_line fault = fault_text fault ++ line_end
+
+-- the step that a line names is done; a fault in it is told
+abbrev pub answer_named : State → Result Step Fault → Answered
+answer_named s (Ok step) = answer_step s step
+answer_named s (Err fault) = (fault_line fault, s)
+
+abbrev pub answer_line : State → ScriptLine → Answered
+answer_line s (kept bytes) = answer_named s (step_of bytes)
+answer_line s too_long = (fault_line TooLong, s)
+
+-- line after line, each from the state that the one before left
+abbrev pub answers_from : State → List ScriptLine → List ℕ
+answers_from s [] = []
+answers_from s (line ∷ lines) = (answer_line s line).0 ++ answers_from (answer_line s line).1 lines
+
+-- version 0 has the graph, and there may be 65,536 versions
+abbrev pub opening_state : PlainGraph → State
+opening_state graph = opening (opening_version graph) (2 ^ 16)
+
+abbrev pub answers_to : PlainGraph → List ScriptLine → List ℕ
+answers_to graph lines = answers_from (opening_state graph) lines
+
+-- the answers to a script, for a recording with this graph
+abbrev pub answers : PlainGraph → List ℕ → List ℕ
+answers graph bytes = answers_to graph (lines_of bytes)
+
+-- ---- what a call has done
+
+-- this was written, and this is the state
+abbrev pub IsAnswered : Answered → State → Option (List ℕ) → Option (List ℕ) → Type 0
+IsAnswered answer t held holds = (t ≡ answer.1) × Appends held holds answer.0

@@ -1,0 +1,90 @@
+-- The lines by which replies are printed.
+use Rattle.std.specs.Prelude.{ℕ, ◌-◌, ◌==◌, ◌||◌, nat_lt, Bool, true, false, if◌then◌else◌, List, [], ◌∷◌, ◌++◌, length, codes, Option, Some, None, slice_get, slice_index_or}
+use Rattle.std.specs.List.{filter_map}
+use Rattle.std.specs.Fmt.{decimal}
+use Rattle.stage_graph.specs.Plain.{stage_at}
+use Rattle.stage_graph.specs.declared.edit.Edit.{Edit}
+use Rattle.stage_graph.specs.declared.edit.Edit.TheVariants.{Add}
+use Rattle.stage_graph.specs.declared.stage.Stage.{Stage}
+use Rattle.version_store.specs.Plain.{PlainVersion}
+use Rattle.report_text.specs.Texts.{line_end, name_of}
+use Rattle.session_core.specs.Headline.{session_of}
+use Rattle.session_core.specs.Machine.{State}
+use Rattle.session_core.specs.declared.event.Event.{Event}
+use Rattle.session_core.specs.declared.event.Event.TheVariants.{Commit}
+use Rattle.session_core.specs.declared.event.Reply.{Reply}
+use Rattle.session_core.specs.declared.event.Reply.TheVariants.{Opened, At, Committed, Undone, Closed, Refused}
+use Rattle.session_core.specs.declared.refusal.Refusal.{Refusal}
+
+abbrev pub refusal_name : ℕ → List ℕ
+refusal_name number =
+    if number == 10 then codes "NoStage" else
+    if number == 11 then codes "NameTaken" else
+    if number == 12 then codes "BadName" else
+    if number == 13 then codes "Arity" else
+    if number == 14 then codes "NoSource" else
+    if number == 15 then codes "Limit" else
+    if number == 16 then codes "EndBeforeCreated" else
+    if number == 17 then codes "NoAction" else
+    if number == 18 then codes "InUse" else
+    if number == 19 then codes "Cycle" else
+    if number == 20 then codes "Expr" else
+    if number == 50 then codes "SessionOpen" else
+    if number == 51 then codes "NoSession" else
+    if number == 52 then codes "NoVersion" else
+    if number == 53 then codes "Moved" else
+    if number == 54 then codes "AtBottom" else
+    if number == 55 then codes "Full" else
+    if number == 56 then codes "Foreign" else
+    if number == 57 then codes "BadSession" else
+    if number == 58 then codes "TooManySessions" else
+    codes "Memory"
+
+-- ---- the stage that stands in the way of a removal
+
+-- the name of the stage that an edit adds
+abbrev pub added_in : Edit → Option (List ℕ)
+added_in (Add stage) = Some stage.name
+added_in others = None
+
+-- the stage at a place has the name: it is one of the base's, or an edit adds it past these
+abbrev pub name_of_user : List (Option Stage) → List Edit → ℕ → List ℕ
+name_of_user places edits place =
+    if nat_lt place (length places) then name_of (stage_at places place) else slice_index_or (filter_map added_in edits) (place - length places) []
+
+abbrev pub name_after : Option PlainVersion → List Edit → ℕ → List ℕ
+name_after None edits place = []
+name_after (Some version) edits place = name_of_user version.graph.places edits place
+
+-- the name of a stage of the graph that a commit edits, or of one that it adds
+abbrev pub user_name : State → Event → ℕ → List ℕ
+user_name s (Commit session base edits) place = name_after (slice_get s.versions base) edits place
+user_name s others place = []
+
+-- ---- lines
+
+-- the dependent of a stage in use, the session's head, or the number of another graph's version
+abbrev pub detail_text : State → Event → Refusal → List ℕ
+detail_text s event refusal =
+    if refusal.number == 18 then codes " " ++ user_name s event refusal.detail else
+    if (refusal.number == 53) || (refusal.number == 56) then codes " " ++ decimal refusal.detail else []
+
+-- the index of the refused edit, where the edits came as a list
+abbrev pub index_text : Bool → Option ℕ → List ℕ
+index_text true (Some index) = codes " in " ++ decimal index
+index_text true None = []
+index_text false place = []
+
+-- refused NUMBER NAME DETAIL in INDEX
+abbrev pub refusal_text : State → Event → Bool → Refusal → List ℕ
+refusal_text s event listed refusal = codes "refused " ++ decimal refusal.number ++ codes " " ++ refusal_name refusal.number
+    ++ detail_text s event refusal ++ index_text listed refusal.place ++ line_end
+
+-- the line of the reply to an event
+abbrev pub reply_line : State → Event → Bool → Reply → List ℕ
+reply_line s event listed (Opened version) = codes "opened " ++ decimal (session_of event) ++ codes " at " ++ decimal version ++ line_end
+reply_line s event listed (At version) = codes "head " ++ decimal version ++ line_end
+reply_line s event listed (Committed version) = codes "committed " ++ decimal version ++ line_end
+reply_line s event listed (Undone version) = codes "undone " ++ decimal version ++ line_end
+reply_line s event listed Closed = codes "closed " ++ decimal (session_of event) ++ line_end
+reply_line s event listed (Refused refusal) = refusal_text s event listed refusal

@@ -1,0 +1,12 @@
+//! A script of steps, answered: what each line names is done, and its reply or report is written.
+//!
+//! [`serve`] answers a whole script. The definition `answers` says which bytes that gives.
+#![tactic(auto)]
+
+mod asking;
+mod reply;
+mod server;
+mod serving;
+
+pub use script_lines::ServeFault;
+pub use serving::serve;

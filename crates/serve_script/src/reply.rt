@@ -1,0 +1,181 @@
+//! The lines by which replies are printed.
+ghost use Rattle.std.specs.Prelude.{◌≡◌, ◌++◌, [], OnOk, string_bytes, option_copied, slice_index_or};
+ghost use Rattle.std.specs.List.{filter_map};
+ghost use Rattle.session_core.specs.Headline.{session_of};
+ghost use Rattle.serve_script.specs.Replies.{added_in, detail_text, index_text, name_of_user, refusal_name, refusal_text, reply_line, user_name};
+
+use session_core::{Event, Refusal, Reply, Table};
+use stage_graph::{Edit, Graph, Name};
+use std::alloc::AllocError;
+use std::fmt::Write;
+use version_store::StateRepresentation;
+
+/// Puts the line of the reply to an event at the end of a text. `listed` says whether the edits of the event came as a list,
+/// so that a refusal tells the index of its edit.
+pub(crate) fn push_reply<R: StateRepresentation>(
+    line: &mut String,
+    table: &Table<R>,
+    event: &Event,
+    listed: bool,
+    reply: Reply,
+) -> Result<(), AllocError>
+    ensures { OnOk result (string_bytes line.new ≡ string_bytes line.old ++ reply_line table.now.state event.now listed reply) }
+{
+    let session = session_of(event);
+    match reply {
+        Reply::Opened(version) => writeln!(line, "opened {session} at {version}"),
+        Reply::At(version) => writeln!(line, "head {version}"),
+        Reply::Committed(version) => writeln!(line, "committed {version}"),
+        Reply::Undone(version) => writeln!(line, "undone {version}"),
+        Reply::Closed => writeln!(line, "closed {session}"),
+        Reply::Refused(refusal) => push_refusal(line, table, event, listed, refusal),
+    }
+}
+
+/// The session that an event speaks of.
+fn session_of(event: &Event) -> u32
+    ensures { result ≡ session_of event.now }
+{
+    match event {
+        Event::Open { session, .. } => *session,
+        Event::Head { session } => *session,
+        Event::Commit { session, .. } => *session,
+        Event::Undo { session } => *session,
+        Event::Close { session } => *session,
+    }
+}
+
+fn push_refusal<R: StateRepresentation>(
+    line: &mut String,
+    table: &Table<R>,
+    event: &Event,
+    listed: bool,
+    refusal: Refusal,
+) -> Result<(), AllocError>
+    ensures { OnOk result (string_bytes line.new ≡ string_bytes line.old ++ refusal_text table.now.state event.now listed refusal) }
+{
+    let number = refusal.number;
+    let name = refusal_name(number);
+    write!(line, "refused {number} {name}")?;
+    push_detail(line, table, event, refusal)?;
+    push_index(line, listed, refusal.place)?;
+    line.push_str("\n")
+}
+
+/// The name by which a refusal is printed.
+fn refusal_name(number: u32) -> &'static str
+    ensures { result.now ≡ refusal_name number }
+{
+    match number {
+        10 => "NoStage",
+        11 => "NameTaken",
+        12 => "BadName",
+        13 => "Arity",
+        14 => "NoSource",
+        15 => "Limit",
+        16 => "EndBeforeCreated",
+        17 => "NoAction",
+        18 => "InUse",
+        19 => "Cycle",
+        20 => "Expr",
+        50 => "SessionOpen",
+        51 => "NoSession",
+        52 => "NoVersion",
+        53 => "Moved",
+        54 => "AtBottom",
+        55 => "Full",
+        56 => "Foreign",
+        57 => "BadSession",
+        58 => "TooManySessions",
+        _ => "Memory",
+    }
+}
+
+// The dependent of a stage in use, by its name, and the number of a head or of a version.
+fn push_detail<R: StateRepresentation>(
+    line: &mut String,
+    table: &Table<R>,
+    event: &Event,
+    refusal: Refusal,
+) -> Result<(), AllocError>
+    ensures { OnOk result (string_bytes line.new ≡ string_bytes line.old ++ detail_text table.now.state event.now refusal) }
+{
+    let detail = refusal.detail;
+    match refusal.number {
+        18 => {
+            let name = user_name(table, event, detail);
+            write!(line, " {name}")
+        }
+        53 | 56 => write!(line, " {detail}"),
+        _ => Ok(()),
+    }
+}
+
+fn push_index(line: &mut String, listed: bool, place: Option<u32>) -> Result<(), AllocError>
+    ensures { OnOk result (string_bytes line.new ≡ string_bytes line.old ++ index_text listed place) }
+{
+    match place {
+        Some(index) if listed => write!(line, " in {index}"),
+        _ => Ok(()),
+    }
+}
+
+/// The name of the stage that takes a place in the graph of a commit's base, or after its edits.
+fn user_name<'a, R: StateRepresentation>(
+    table: &'a Table<R>,
+    event: &'a Event,
+    place: u32,
+) -> &'a str
+    ensures { result.now ≡ user_name table.now.state event.now place }
+{
+    match event {
+        Event::Commit { base, edit, .. } => match table.version(*base) {
+            Ok(version) => name_of_user(version.graph(), edit.as_slice(), place),
+            Err(_) => "",
+        },
+        _ => "",
+    }
+}
+
+fn name_of_user<'a, R: StateRepresentation>(
+    graph: &'a Graph<R>,
+    edits: &'a [Edit],
+    place: u32,
+) -> &'a str
+    ensures { result.now ≡ name_of_user graph.now.places edits.now place }
+{
+    let place_index = place as usize;
+    if place_index >= graph.len() {
+        return added_name(edits, place_index - graph.len());
+    }
+    match graph.stage(place) {
+        Some(stage) => stage.name.as_str(),
+        None => "",
+    }
+}
+
+/// The name of the stage that is added after so many others.
+fn added_name(edits: &[Edit], others: usize) -> &str
+    ensures { result.now ≡ slice_index_or (filter_map added_in edits.now) others [] }
+{
+    let [first, rest @ ..] = edits else {
+        return "";
+    };
+    match added(first) {
+        Some(name) if others == 0 => name.as_str(),
+        Some(_) => added_name(rest, others - 1),
+        None => added_name(rest, others),
+    }
+}
+
+/// The name of the stage that an edit adds.
+fn added(edit: &Edit) -> Option<&Name>
+    ensures { option_copied result ≡ added_in edit.now }
+{
+    match edit {
+        Edit::Add(stage) => Some(&stage.name),
+        Edit::PinResult { .. } | Edit::PinMoment { .. } | Edit::SetTimes { .. } => None,
+        Edit::SetAction { .. } | Edit::SetEnds { .. } => None,
+        Edit::Remove(_) | Edit::Rewire { .. } => None,
+    }
+}

@@ -1,0 +1,268 @@
+//! What answers the lines of a script.
+ghost use Rattle.std.specs.Prelude.{◌≡◌, ◌∷◌, ◌+◌, ◌-◌, ◌^◌, ◌<◌, Some, Err, Result, IfOk, OnOk, OnErr};
+ghost use Rattle.text_io.specs.Sink.{Advances, AppendsPrefix, StopsShort};
+ghost use Rattle.script_lines.specs.Seen.{seen};
+ghost use Rattle.stage_graph.specs.Walk.{IsRanked};
+ghost use Rattle.script_lines.specs.Faults.{failed_writes};
+ghost use Rattle.recording.specs.Reads.{IsRead};
+ghost use Rattle.recording.specs.StepOf.{step_of};
+ghost use Rattle.recording.specs.declared.fault.Fault.{Fault};
+ghost use Rattle.recording.specs.declared.step.Step.{Step};
+ghost use Rattle.session_core.specs.Machine.{step};
+ghost use Rattle.serve_script.specs.Answers.{IsAnswered, answer_change, answer_event, answer_head, answer_named, answer_step, answered, answers_from, fault_line, opening_state};
+ghost use Rattle.serve_script.specs.Replies.{reply_line};
+
+use crate::asking::answer_report;
+use crate::reply::push_reply;
+use level_pool::Runner;
+use recording::{Fault, Step, read_step};
+use script_lines::{AnswerFault, Line};
+use session_core::{Event, Reply, Table, run};
+use share_tree::Held;
+use stage_graph::{Edits, Graph};
+use std::alloc::{AllocError, Global};
+use std::fmt::Write;
+use std::marker::Model;
+use std::slice;
+use text_io::Sink;
+use version_store::{StateRepresentation, Version};
+
+/// The most versions of a table.
+const MOST_VERSIONS: u32 = 65_536;
+
+/// The number by which want of memory is refused.
+const MEMORY: u32 = 90;
+
+/// Versions and sessions, and the lines that ask for them, answered. Contracts see the state of the versions and sessions.
+#[derive(Drop)]
+pub(crate) struct Server<'a, R: StateRepresentation, W> {
+    alloc: Global,
+    runner: &'a W,
+    table: Table<R>,
+    replies: Vec<Reply>,
+    line: String,
+}
+
+impl<'a, R: StateRepresentation, W> Model for Server<'a, R, W> {
+    ghost use Rattle.std.specs.Coded.{codes};
+    ghost use Rattle.act_expr.specs.ExpressionCode.{coded_expression};
+    ghost use Rattle.session_core.specs.Machine.{State};
+
+    ghost Value = { State };
+
+    ghost coded = { Prim.hlevel (codes, coded_expression) };
+
+    ghost view = { λ server. server.table.state };
+}
+
+impl<'a, R: StateRepresentation, W: Runner> Server<'a, R, W> {
+    /// The graph as version 0, and no session.
+    pub(crate) fn new(
+        alloc: Global,
+        graph: Graph<R>,
+        runner: &'a W,
+    ) -> Result<Server<'a, R, W>, AllocError>
+        requires { IsRanked graph.places }
+        ensures { IfOk result (λ server. server ≡ opening_state graph) }
+    {
+        let version = Version::load(alloc, graph)?;
+        Ok(Server {
+            alloc,
+            runner,
+            table: Table::new(alloc, version, MOST_VERSIONS)?,
+            replies: Vec::new(alloc),
+            line: String::new(alloc),
+        })
+    }
+
+    /// The reply to an event.
+    fn take(&mut self, event: &Event) -> Result<Reply, AllocError>
+        ensures { IfOk result (λ reply. step self.old event.now ≡ Some (reply, self.new)) }
+    {
+        self.replies.clear();
+        run(
+            self.alloc,
+            &mut self.table,
+            slice::from_ref(event),
+            self.runner,
+            &mut self.replies,
+        )?;
+        match self.replies.pop() {
+            Some(Reply::Refused(refusal)) if refusal.number == MEMORY => Err(AllocError),
+            Some(reply) => Ok(reply),
+            None => unreachable!(),
+        }
+    }
+
+    /// Takes an event, and writes its reply.
+    fn answer_event<S: Sink>(
+        &mut self,
+        event: Event,
+        listed: bool,
+        sink: &mut S,
+    ) -> Result<(), AnswerFault>
+        requires { S.failures sink.old < 2 ^ 64 - 1 }
+        ensures ok { OnOk result (IsAnswered (answer_event self.old event listed) self.new (S.held sink.old) (S.held sink.new)) }
+        ensures err { OnErr result (AppendsPrefix (S.held sink.old) (S.held sink.new) (answer_event self.old event listed).0) }
+        ensures failures { S.failures sink.new ≡ S.failures sink.old + failed_writes result }
+    {
+        let reply = self.take(&event)?;
+        self.write_reply(&event, listed, reply, sink)
+    }
+
+    /// Takes edits of the version at which a session stands, and writes the reply.
+    fn answer_head<S: Sink>(
+        &mut self,
+        session: u32,
+        edits: Edits,
+        listed: bool,
+        sink: &mut S,
+    ) -> Result<(), AnswerFault>
+        requires { S.failures sink.old < 2 ^ 64 - 1 }
+        ensures ok { OnOk result (IsAnswered (answer_head self.old session edits listed) self.new (S.held sink.old) (S.held sink.new)) }
+        ensures err { OnErr result (AppendsPrefix (S.held sink.old) (S.held sink.new) (answer_head self.old session edits listed).0) }
+        ensures failures { S.failures sink.new ≡ S.failures sink.old + failed_writes result }
+    {
+        let event = Event::Head { session };
+        match self.take(&event)? {
+            Reply::At(base) => {
+                let edit = Held::new(self.alloc, edits)?;
+                let event = Event::Commit {
+                    session,
+                    base,
+                    edit,
+                };
+                self.answer_event(event, listed, sink)
+            }
+            reply => self.write_reply(&event, listed, reply, sink),
+        }
+    }
+
+    fn write_reply<S: Sink>(
+        &mut self,
+        event: &Event,
+        listed: bool,
+        reply: Reply,
+        sink: &mut S,
+    ) -> Result<(), AnswerFault>
+        requires { S.failures sink.old < 2 ^ 64 - 1 }
+        ensures ok { OnOk result (IsAnswered (answered (reply_line self.old event.now listed reply) self.old) self.new (S.held sink.old) (S.held sink.new)) }
+        ensures err { OnErr result (AppendsPrefix (S.held sink.old) (S.held sink.new) (reply_line self.old event.now listed reply)) }
+        ensures failures { S.failures sink.new ≡ S.failures sink.old + failed_writes result }
+    {
+        self.line.clear();
+        push_reply(&mut self.line, &self.table, event, listed, reply)?;
+        sink.write(self.line.as_bytes())?;
+        Ok(())
+    }
+
+    /// Writes why a line names no step.
+    fn write_fault<S: Sink>(&mut self, fault: &Fault, sink: &mut S) -> Result<(), AnswerFault>
+        requires { S.failures sink.old < 2 ^ 64 - 1 }
+        ensures ok { OnOk result (IsAnswered (answered (fault_line fault.now) self.old) self.new (S.held sink.old) (S.held sink.new)) }
+        ensures err { OnErr result (AppendsPrefix (S.held sink.old) (S.held sink.new) (fault_line fault.now)) }
+        ensures failures { S.failures sink.new ≡ S.failures sink.old + failed_writes result }
+    {
+        self.line.clear();
+        writeln!(self.line, "{fault}")?;
+        sink.write(self.line.as_bytes())?;
+        Ok(())
+    }
+
+    /// Takes edits of a version or of the session's head, and writes the reply.
+    fn answer_change<S: Sink>(
+        &mut self,
+        session: u32,
+        base: Option<u32>,
+        edits: Edits,
+        listed: bool,
+        sink: &mut S,
+    ) -> Result<(), AnswerFault>
+        requires { S.failures sink.old < 2 ^ 64 - 1 }
+        ensures ok { OnOk result (IsAnswered (answer_change self.old session base edits listed) self.new (S.held sink.old) (S.held sink.new)) }
+        ensures err { OnErr result (AppendsPrefix (S.held sink.old) (S.held sink.new) (answer_change self.old session base edits listed).0) }
+        ensures failures { S.failures sink.new ≡ S.failures sink.old + failed_writes result }
+    {
+        match base {
+            Some(base) => {
+                let edit = Held::new(self.alloc, edits)?;
+                let event = Event::Commit {
+                    session,
+                    base,
+                    edit,
+                };
+                self.answer_event(event, listed, sink)
+            }
+            None => self.answer_head(session, edits, listed, sink),
+        }
+    }
+
+    /// Does a step, and writes the reply or the report.
+    fn answer_step<S: Sink>(&mut self, asked: Step, sink: &mut S) -> Result<(), AnswerFault>
+        requires { S.failures sink.old < 2 ^ 64 - 1 }
+        ensures ok { OnOk result (IsAnswered (answer_step self.old asked) self.new (S.held sink.old) (S.held sink.new)) }
+        ensures err { OnErr result (AppendsPrefix (S.held sink.old) (S.held sink.new) (answer_step self.old asked).0) }
+        ensures failures { S.failures sink.new ≡ S.failures sink.old + failed_writes result }
+    {
+        match asked {
+            Step::Open { session, version } => {
+                self.answer_event(Event::Open { session, version }, false, sink)
+            }
+            Step::Head { session } => self.answer_event(Event::Head { session }, false, sink),
+            Step::Undo { session } => self.answer_event(Event::Undo { session }, false, sink),
+            Step::Close { session } => self.answer_event(Event::Close { session }, false, sink),
+            Step::Change {
+                session,
+                base,
+                edits,
+                listed,
+            } => self.answer_change(session, base, edits, listed, sink),
+            Step::Report { version, asked } => {
+                answer_report(self.alloc, &self.table, version, &asked, sink)
+            }
+        }
+    }
+
+    /// Writes why a line names no step, but for want of memory.
+    fn refuse<S: Sink>(&mut self, fault: Fault, sink: &mut S) -> Result<(), AnswerFault>
+        requires { S.failures sink.old < 2 ^ 64 - 1 }
+        ensures ok { (meant : Result Step Fault) → IsRead (Err fault) meant → OnOk result (IsAnswered (answer_named self.old meant) self.new (S.held sink.old) (S.held sink.new)) }
+        ensures err { (meant : Result Step Fault) → IsRead (Err fault) meant → OnErr result (AppendsPrefix (S.held sink.old) (S.held sink.new) (answer_named self.old meant).0) }
+        ensures failures { S.failures sink.new ≡ S.failures sink.old + failed_writes result }
+    {
+        match fault {
+            Fault::Memory => Err(AnswerFault::Memory),
+            fault => self.write_fault(&fault, sink),
+        }
+    }
+
+    /// Does what the bytes of a line name.
+    fn answer_bytes<S: Sink>(&mut self, bytes: &[u8], sink: &mut S) -> Result<(), AnswerFault>
+        requires { S.failures sink.old < 2 ^ 64 - 1 }
+        ensures ok { OnOk result (IsAnswered (answer_named self.old (step_of bytes.now)) self.new (S.held sink.old) (S.held sink.new)) }
+        ensures err { OnErr result (AppendsPrefix (S.held sink.old) (S.held sink.new) (answer_named self.old (step_of bytes.now)).0) }
+        ensures failures { S.failures sink.new ≡ S.failures sink.old + failed_writes result }
+    {
+        match read_step(self.alloc, bytes) {
+            Ok(step) => self.answer_step(step, sink),
+            Err(fault) => self.refuse(fault, sink),
+        }
+    }
+
+    /// Does what a line names, and writes the answer.
+    pub(crate) fn answer<S: Sink>(
+        &mut self,
+        line: Line<'_>,
+        sink: &mut S,
+    ) -> Result<(), AnswerFault>
+        requires { S.failures sink.old < 2 ^ 64 - 1 }
+        ensures ok { OnOk result (Advances (λ lines. answers_from self.old (seen line.entry ∷ lines)) (answers_from self.new) (S.held sink.old) (S.held sink.new)) }
+        ensures err { OnErr result (StopsShort (λ lines. answers_from self.old (seen line.entry ∷ lines)) (S.held sink.old) (S.held sink.new)) }
+        ensures failures { S.failures sink.new ≡ S.failures sink.old + failed_writes result }
+    {
+        match line {
+            Line::Kept(bytes) => self.answer_bytes(bytes, sink),
+            Line::TooLong => self.write_fault(&Fault::TooLong, sink),
+        }
+    }
+}
