@@ -1,0 +1,289 @@
+//! Sessions on a table of versions: the replies to the events that steps name.
+ghost use Rattle.std.specs.Prelude.{◌≤◌, ◌^◌};
+
+use level_pool::OneThread;
+use recording::{Step, read_recording, read_step};
+use row_kit::{CHAIN, COMPOSE_PICKS, FIRST_RUN, edits_of};
+use session_core::{Event, Reply, Table, TableFault, run};
+use share_tree::Held;
+use stage_graph::{InFlat, InShared};
+use stage_ops::Meter;
+use std::alloc::Global;
+use std::process::Abort;
+use std::test::Fail;
+use std::thread::Threads;
+use version_store::{StateRepresentation, Version};
+
+/// A table of a recording, with room for so many versions.
+fn table<R: StateRepresentation>(
+    alloc: Global,
+    recording: &str,
+    most: u32,
+) -> Result<Table<R>, Fail>
+    requires { (1 ≤ most) × (most ≤ 2 ^ 16) }
+{
+    let graph = read_recording::<R>(alloc, recording.as_bytes())?;
+    Ok(Table::new(alloc, Version::load(alloc, graph)?, most)?)
+}
+
+/// The event that a step names; its base is given.
+fn event_of(rt: &impl Abort, alloc: Global, step: &str) -> Result<Event, Fail> {
+    Ok(match read_step(alloc, step.as_bytes())? {
+        Step::Open { session, version } => Event::Open { session, version },
+        Step::Head { session } => Event::Head { session },
+        Step::Undo { session } => Event::Undo { session },
+        Step::Close { session } => Event::Close { session },
+        Step::Change {
+            session,
+            base: Some(base),
+            edits,
+            ..
+        } => Event::Commit {
+            session,
+            base,
+            edit: Held::new(alloc, edits)?,
+        },
+        _ => panic!(rt; "a step that is an event"),
+    })
+}
+
+/// A reply as a line: of a refusal its number, its detail and the index of its edit.
+fn line_of(alloc: Global, reply: &Reply) -> Result<String, Fail> {
+    Ok(match reply {
+        Reply::Opened(number) => format!(in alloc; "opened {number}\n")?,
+        Reply::At(number) => format!(in alloc; "at {number}\n")?,
+        Reply::Committed(number) => format!(in alloc; "committed {number}\n")?,
+        Reply::Undone(number) => format!(in alloc; "undone {number}\n")?,
+        Reply::Closed => String::from_str(alloc, "closed\n")?,
+        Reply::Refused(refusal) => {
+            let (number, detail) = (refusal.number, refusal.detail);
+            match refusal.place {
+                Some(place) => format!(in alloc; "refused {number} {detail} in {place}\n")?,
+                None => format!(in alloc; "refused {number} {detail}\n")?,
+            }
+        }
+    })
+}
+
+/// The replies of a run of steps, a line each, and the number of entries in the history.
+fn replies<R: StateRepresentation, H: Abort + Threads + Sync>(
+    rt: &H,
+    alloc: Global,
+    table: &mut Table<R>,
+    steps: &[&str],
+) -> Result<String, Fail> {
+    let mut events = Vec::new(alloc);
+    for step in steps {
+        events.push(event_of(rt, alloc, step)?)?;
+    }
+    let mut replies = Vec::new(alloc);
+    run(
+        alloc,
+        table,
+        events.as_slice(),
+        &OneThread::new(rt),
+        &mut replies,
+    )?;
+    let mut text = String::new(alloc);
+    for reply in &replies {
+        text.push_str(line_of(alloc, reply)?.as_str())?;
+    }
+    let entries = table.history().len();
+    text.push_str(format!(in alloc; "log {entries}")?.as_str())?;
+    Ok(text)
+}
+
+/// The steps have these replies in each representation.
+fn replied<H: Abort + Threads + Sync>(
+    rt: &H,
+    alloc: Global,
+    recording: &str,
+    steps: &[&str],
+    wanted: &str,
+) -> Result<(), Fail> {
+    let mut flat: Table<InFlat> = table(alloc, recording, 65_536)?;
+    let found = replies(rt, alloc, &mut flat, steps)?;
+    assert_eq!(rt; found.as_str(), wanted);
+    let mut shared: Table<InShared> = table(alloc, recording, 65_536)?;
+    let found = replies(rt, alloc, &mut shared, steps)?;
+    assert_eq!(rt; found.as_str(), wanted);
+    Ok(())
+}
+
+#[test]
+fn moved_and_undone(rt: HostRuntime) -> Result<(), Fail> {
+    let steps = [
+        r#"{"do":"open","session":1,"version":0}"#,
+        r#"{"do":"head","session":1}"#,
+        r#"{"do":"head","session":1}"#,
+        r#"{"do":"setTakes","session":1,"base":0,"stage":"a","takes":20}"#,
+        r#"{"do":"setTakes","session":1,"base":0,"stage":"b","takes":1}"#,
+        r#"{"do":"undo","session":1}"#,
+        r#"{"do":"setTakes","session":1,"base":0,"stage":"b","takes":1}"#,
+    ];
+    replied(
+        &rt,
+        rt.alloc(),
+        FIRST_RUN,
+        &steps,
+        "opened 0\nat 0\nat 0\ncommitted 1\nrefused 53 1\nundone 0\ncommitted 2\nlog 7",
+    )
+}
+
+#[test]
+fn moved_and_undone_versions(rt: HostRuntime) -> Result<(), Fail> {
+    let mut table: Table<InFlat> = table(rt.alloc(), FIRST_RUN, 65_536)?;
+    let steps = [
+        r#"{"do":"open","session":1,"version":0}"#,
+        r#"{"do":"setTakes","session":1,"base":0,"stage":"a","takes":20}"#,
+        r#"{"do":"undo","session":1}"#,
+        r#"{"do":"setTakes","session":1,"base":0,"stage":"b","takes":1}"#,
+    ];
+    replies(&rt, rt.alloc(), &mut table, &steps)?;
+    let second = table.version(2)?;
+    assert_eq!(rt; second.parent(), Some(0));
+    assert_eq!(rt; second.moment(0)?, Some(10));
+    assert_eq!(rt; second.moment(1)?, Some(11));
+    Ok(())
+}
+
+#[test]
+fn session_refusals(rt: HostRuntime) -> Result<(), Fail> {
+    let steps = [
+        r#"{"do":"open","session":2,"version":0}"#,
+        r#"{"do":"undo","session":2}"#,
+        r#"{"do":"close","session":2}"#,
+        r#"{"do":"undo","session":2}"#,
+        r#"{"do":"open","session":2,"version":0}"#,
+        r#"{"do":"open","session":2,"version":0}"#,
+        r#"{"do":"open","session":0,"version":0}"#,
+        r#"{"do":"open","session":3,"version":9}"#,
+        r#"{"do":"remove","session":2,"base":0,"stage":"i1"}"#,
+    ];
+    replied(
+        &rt,
+        rt.alloc(),
+        COMPOSE_PICKS,
+        &steps,
+        "opened 0\nrefused 54 0\nclosed\nrefused 51 0\nopened 0\nrefused 50 0\nrefused 57 0\nrefused 52 0\nrefused 18 3 in 0\nlog 8",
+    )
+}
+
+#[test]
+fn set_takes_refusals(rt: HostRuntime) -> Result<(), Fail> {
+    let steps = [
+        r#"{"do":"open","session":1,"version":0}"#,
+        r#"{"do":"setTakes","session":1,"base":0,"stage":"m","takes":1099511627777}"#,
+        r#"{"do":"setTakes","session":1,"base":0,"stage":"m","takes":1}"#,
+        r#"{"do":"setTakes","session":1,"base":0,"stage":"zz","takes":1}"#,
+    ];
+    let manual = r#"{"stages":[{"name":"m","op":"manual"}]}"#;
+    replied(
+        &rt,
+        rt.alloc(),
+        manual,
+        &steps,
+        "opened 0\nrefused 15 0 in 0\nrefused 17 0 in 0\nrefused 10 0 in 0\nlog 1",
+    )
+}
+
+#[test]
+fn set_takes_refusals_of_one_version(rt: HostRuntime) -> Result<(), Fail> {
+    let mut table: Table<InShared> = table(rt.alloc(), FIRST_RUN, 1)?;
+    let steps = [
+        r#"{"do":"open","session":1,"version":0}"#,
+        r#"{"do":"setTakes","session":1,"base":0,"stage":"a","takes":20}"#,
+    ];
+    let found = replies(&rt, rt.alloc(), &mut table, &steps)?;
+    assert_eq!(rt; found.as_str(), "opened 0\nrefused 55 0\nlog 2");
+    Ok(())
+}
+
+#[test]
+fn edit_list(rt: HostRuntime) -> Result<(), Fail> {
+    let steps = [
+        r#"{"do":"open","session":1,"version":0}"#,
+        r#"{"do":"rewire","session":1,"base":0,"stage":"a","sources":["b"],"inner":[]}"#,
+        r#"{"do":"edits","session":1,"base":0,"edits":[{"do":"rewire","stage":"a","sources":["b"],"inner":[]},
+            {"do":"rewire","stage":"b","sources":["z"],"inner":[]}]}"#,
+    ];
+    replied(
+        &rt,
+        rt.alloc(),
+        CHAIN,
+        &steps,
+        "opened 0\nrefused 19 0\ncommitted 1\nlog 2",
+    )
+}
+
+#[test]
+fn edit_list_refusals(rt: HostRuntime) -> Result<(), Fail> {
+    let steps = [
+        r#"{"do":"open","session":1,"version":0}"#,
+        r#"{"do":"edits","session":1,"base":0,"edits":[{"do":"add","new":{"name":"c","op":"thenApply","sources":["b"],"action":0}},
+            {"do":"remove","stage":"b"}]}"#,
+        r#"{"do":"edits","session":1,"base":0,"edits":[{"do":"setTakes","stage":"a","takes":1},{"do":"setTakes","stage":"zz","takes":1}]}"#,
+        r#"{"do":"edits","session":1,"base":0,"edits":[{"do":"setTakes","stage":"a","takes":20},{"do":"setTakes","stage":"b","takes":1}]}"#,
+    ];
+    replied(
+        &rt,
+        rt.alloc(),
+        FIRST_RUN,
+        &steps,
+        "opened 0\nrefused 18 2 in 1\nrefused 10 0 in 1\ncommitted 1\nlog 2",
+    )
+}
+
+/// The marker of the meter of a draft that is handed to a table.
+#[derive(Drop)]
+struct HandedOver;
+
+/// The number of a call's refusal, and 0 where there is none.
+fn number_of<T: Drop>(answer: Result<T, TableFault>) -> u32 {
+    match answer {
+        Ok(_) => 0,
+        Err(fault) => fault.number(),
+    }
+}
+
+/// A draft of another table's version is refused, and the refusal is the second entry.
+fn refuses_foreign<H: Abort + Threads + Sync>(
+    rt: &H,
+    alloc: Global,
+    table: &mut Table<InShared>,
+    other: &Table<InShared>,
+) -> Result<(), Fail> {
+    let add = r#"{"do":"add","session":1,"new":{"name":"m","op":"manual"}}"#;
+    let edits = Held::new(alloc, edits_of(alloc, add)?)?;
+    let mut meter = Meter::new(HandedOver);
+    let draft = other
+        .version(0)?
+        .draft(alloc, &edits, &OneThread::new(rt), &mut meter)?;
+    let Err(TableFault::Refused(foreign)) = table.commit(0, 1, &draft) else {
+        panic!(rt; "a refusal");
+    };
+    assert_eq!(rt; (foreign.number, foreign.detail), (56, 0));
+    assert_eq!(rt; table.history().len(), 2);
+    Ok(())
+}
+
+/// Beside session 1, 1,023 sessions can be opened, and one more once one is closed.
+fn opens_1024(rt: &impl Abort, table: &mut Table<InShared>) {
+    for session in 2..1025 {
+        assert_eq!(rt; number_of(table.open(0, session, 0)), 0);
+    }
+    assert_eq!(rt; number_of(table.open(0, 1025, 0)), 58);
+    assert_eq!(rt; number_of(table.close(0, 1)), 0);
+    assert_eq!(rt; number_of(table.open(0, 1025, 0)), 0);
+    assert_eq!(rt; number_of(table.head(0, 1)), 51);
+}
+
+#[test]
+fn foreign_and_many_sessions(rt: HostRuntime) -> Result<(), Fail> {
+    let other = table(rt.alloc(), r#"{"stages":[]}"#, 1)?;
+    let mut table: Table<InShared> = table(rt.alloc(), FIRST_RUN, 65_536)?;
+    assert_eq!(rt; number_of(table.open(0, 1, 0)), 0);
+    refuses_foreign(&rt, rt.alloc(), &mut table, &other)?;
+    opens_1024(&rt, &mut table);
+    Ok(())
+}
