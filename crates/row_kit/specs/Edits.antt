@@ -1,5 +1,5 @@
 -- The edits of a step.
-use Rattle.std.specs.Prelude.{List, Option, Some, None, Result, Ok, Err}
+use Rattle.std.specs.Prelude.{List, Option, Some, None, Result, Ok}
 use Rattle.stage_graph.specs.declared.edit.Edit.{Edit}
 use Rattle.recording.specs.declared.fault.Fault.{Fault}
 use Rattle.recording.specs.declared.step.Step.{Step}

@@ -13,6 +13,7 @@ use std::io::{self, ErrorKind, Read, Write};
 use std::process::Abort;
 use std::sync::atomic::{AtomicU64, Ordering};
 use std::test::Fail;
+use std::thread::Threads;
 use text_io::{CountedReader, CountedWriter};
 
 // ---- recordings and scripts
@@ -43,15 +44,14 @@ fn answers<W: Runner>(
 }
 
 /// The script has these answers on the recording.
-fn gives<A: Abort, W: Runner>(
-    rt: &A,
+fn gives<H: Abort + Threads + Sync>(
+    rt: &H,
     alloc: Global,
-    runner: &W,
     recording: &str,
     script: &str,
     text: &str,
 ) -> Result<(), Fail> {
-    let found = answers(alloc, runner, recording, script)?;
+    let found = answers(alloc, &OneThread::new(rt), recording, script)?;
     assert_eq!(rt; found.as_str(), text);
     Ok(())
 }
@@ -104,7 +104,6 @@ fn moved_and_undone(rt: HostRuntime) -> Result<(), Fail> {
     gives(
         &rt,
         rt.alloc(),
-        &OneThread::new(&rt),
         FIRST_RUN,
         MOVED_AND_UNDONE,
         MOVED_AND_UNDONE_ANSWERS,
@@ -113,14 +112,7 @@ fn moved_and_undone(rt: HostRuntime) -> Result<(), Fail> {
 
 #[test]
 fn pin_bare(rt: HostRuntime) -> Result<(), Fail> {
-    gives(
-        &rt,
-        rt.alloc(),
-        &OneThread::new(&rt),
-        FIRST_RUN,
-        PIN_BARE,
-        PIN_BARE_ANSWERS,
-    )
+    gives(&rt, rt.alloc(), FIRST_RUN, PIN_BARE, PIN_BARE_ANSWERS)
 }
 
 #[test]
@@ -128,7 +120,6 @@ fn add_after_pin(rt: HostRuntime) -> Result<(), Fail> {
     gives(
         &rt,
         rt.alloc(),
-        &OneThread::new(&rt),
         FIRST_RUN,
         r#"{"do":"open","session":1,"version":0}
 {"do":"pinResult","session":1,"stage":"a","result":{"bare":"X"}}
@@ -162,7 +153,6 @@ fn session_refusals(rt: HostRuntime) -> Result<(), Fail> {
     gives(
         &rt,
         rt.alloc(),
-        &OneThread::new(&rt),
         FIRST_RUN,
         r#"{"do":"open","session":2,"version":0}
 {"do":"undo","session":2}
@@ -185,7 +175,6 @@ fn session_refusals(rt: HostRuntime) -> Result<(), Fail> {
     gives(
         &rt,
         rt.alloc(),
-        &OneThread::new(&rt),
         r#"{"stages":[{"name":"s","op":"async","takes":2,"action":0},
         {"name":"i0","op":"async","takes":10,"action":7},
         {"name":"i1","op":"async","takes":1,"action":["throw","Z"]},
@@ -216,7 +205,6 @@ fn script_lines(rt: HostRuntime) -> Result<(), Fail> {
     gives(
         &rt,
         rt.alloc(),
-        &OneThread::new(&rt),
         FIRST_RUN,
         script.as_str(),
         "refused 71 Shape do\n\
@@ -247,20 +235,12 @@ fn hostile_lines(rt: HostRuntime) -> Result<(), Fail> {
     ] {
         let ended = format!(in rt.alloc(); "{line}\n")?;
         for script in [line, ended.as_str()] {
-            gives(
-                &rt,
-                rt.alloc(),
-                &OneThread::new(&rt),
-                FIRST_RUN,
-                script,
-                text,
-            )?;
+            gives(&rt, rt.alloc(), FIRST_RUN, script, text)?;
         }
     }
     gives(
         &rt,
         rt.alloc(),
-        &OneThread::new(&rt),
         FIRST_RUN,
         r#"{"do":"open","session":4294967296,"version":0}
 {"do":"open","session":65536,"version":0}
@@ -297,7 +277,6 @@ fn edit_refusals(rt: HostRuntime) -> Result<(), Fail> {
     gives(
         &rt,
         alloc,
-        &OneThread::new(&rt),
         FIRST_RUN,
         script.as_str(),
         "opened 1 at 0\n\
@@ -324,7 +303,6 @@ fn edit_list(rt: HostRuntime) -> Result<(), Fail> {
     gives(
         &rt,
         rt.alloc(),
-        &OneThread::new(&rt),
         r#"{"stages":[{"name":"z","op":"completed","value":1},
         {"name":"a","op":"thenApply","sources":["z"],"takes":1,"action":["add",["arg",0],1]},
         {"name":"b","op":"thenApply","sources":["a"],"takes":1,"action":["mul",["arg",0],10]}]}"#,
@@ -352,7 +330,6 @@ fn edit_list_refusals(rt: HostRuntime) -> Result<(), Fail> {
     gives(
         &rt,
         rt.alloc(),
-        &OneThread::new(&rt),
         FIRST_RUN,
         r#"{"do":"open","session":1,"version":0}
 {"do":"edits","session":1,"base":0,"edits":[{"do":"add","new":{"name":"c","op":"thenApply","sources":["b"],"action":0}},{"do":"remove","stage":"b"}]}
@@ -387,7 +364,6 @@ fn queued_and_runs(rt: HostRuntime) -> Result<(), Fail> {
     gives(
         &rt,
         rt.alloc(),
-        &OneThread::new(&rt),
         r#"{"form":2,"stages":[{"name":"a","op":"async","queued":2,"runs":3,"action":4},
         {"name":"b","op":"thenApply","sources":["a"],"queued":1,"runs":5,"action":["add",["arg",0],1]}]}"#,
         r#"{"do":"report","version":0,"what":"times"}
