@@ -1,8 +1,8 @@
 //! Edits of graphs, in each representation: the graph that a step makes, or its refusal.
 ghost use Rattle.stage_graph.specs.Walk.{IsRanked};
 
-use row_kit::{CHAIN, COMPOSE_PICKS, FIRST_RUN, edits_of};
 use recording::read_recording;
+use row_kit::{CHAIN, COMPOSE_PICKS, FIRST_RUN, edits_of};
 use stage_graph::{Fault, Graph, InFlat, InShared, Refusal, Refused, Representation, Stage};
 use std::alloc::{AllocError, Global};
 use std::process::Abort;

@@ -3,9 +3,9 @@ ghost use Rattle.std.specs.Prelude.{◌≡◌, IfOk};
 ghost use Rattle.stage_graph.specs.Walk.{IsRanked};
 ghost use Rattle.stage_graph.specs.Kept.{IsChangeBy};
 
-use row_kit::{CHAIN, COMPOSE_PICKS, REWIRE_A, REWIRED, edits_of};
 use rank_order::{NoStage, Order, OrderRepresentation, PatchFault};
 use recording::read_recording;
+use row_kit::{CHAIN, COMPOSE_PICKS, REWIRE_A, REWIRED, edits_of};
 use share_tree::Held;
 use stage_graph::{Edits, Fault, Graph, InFlat, InShared};
 use std::alloc::{AllocError, Global};

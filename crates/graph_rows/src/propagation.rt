@@ -5,12 +5,12 @@ ghost use Rattle.stage_ops.specs.Java.{java_step};
 ghost use Rattle.stage_ops.specs.JavaLaws.{java_reads_decide, java_blames_read, java_soon};
 ghost use Rattle.propagate.specs.Reach.{AreStates};
 
-use row_kit::{CHAIN, COMPOSE_PICKS, FIRST_RUN, REWIRE_A, REWIRED, edits_of};
 use act_expr::Mode;
 use level_pool::OneThread;
 use propagate::{Old, Patched, StateRepresentation, States, propagate};
 use rank_order::Order;
 use recording::read_recording;
+use row_kit::{CHAIN, COMPOSE_PICKS, FIRST_RUN, REWIRE_A, REWIRED, edits_of};
 use scratch_eval::evaluate;
 use share_tree::Held;
 use stage_graph::{Edits, Fault, Graph, InFlat, InShared, Stage};

@@ -32,8 +32,7 @@ pub const REWIRED: &str = r#"{"stages":[{"name":"z","op":"completed","value":1},
     {"name":"b","op":"thenApply","sources":["a"],"action":["arg",0]}]}"#;
 
 /// `a` goes behind `l2`.
-pub const REWIRE_A: &str =
-    r#"{"do":"rewire","session":1,"stage":"a","sources":["l2"],"inner":[]}"#;
+pub const REWIRE_A: &str = r#"{"do":"rewire","session":1,"stage":"a","sources":["l2"],"inner":[]}"#;
 
 /// Why a text names no edits.
 #[derive(Drop, Debug, Error)]
