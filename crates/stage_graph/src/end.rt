@@ -1,5 +1,5 @@
 //! Ends that are set from outside.
-ghost use Rattle.std.specs.Prelude.{◌≡◌, ◌↔◌, [], ◌∷◌, ◌++◌, OnOk, IfOk, IsTrue};
+ghost use Rattle.std.specs.Prelude.{◌≡◌, ◌↔◌, [], ◌∷◌, ◌++◌, OnOk, OnErr, IfOk, IsTrue};
 
 use act_expr::{ExName, Value};
 use std::alloc::{AllocError, Global};
@@ -62,9 +62,10 @@ impl Ends {
         }
     }
 
-    /// Adds an end after the others.
+    /// Adds an end after the others; where memory is wanting the ends stay as they are.
     pub fn push(&mut self, end: End) -> Result<(), AllocError>
-        ensures { OnOk result (self.new ≡ self.old ++ end ∷ []) }
+        ensures added { OnOk result (self.new ≡ self.old ++ end ∷ []) }
+        ensures kept { OnErr result (self.new ≡ self.old) }
     {
         // The line is there for the check, which has to be shown the type inside `End`.
         let _act: Act = end.act;

@@ -1,5 +1,5 @@
 //! Names and places of stages, which contracts see as lists.
-ghost use Rattle.std.specs.Prelude.{◌≡◌, ◌↔◌, [], ◌∷◌, ◌++◌, IfOk, OnOk, IsTrue};
+ghost use Rattle.std.specs.Prelude.{◌≡◌, ◌↔◌, [], ◌∷◌, ◌++◌, IfOk, OnOk, OnErr, IsTrue};
 
 use std::alloc::{AllocError, Global};
 use std::marker::Model;
@@ -76,9 +76,10 @@ impl NameList {
         }
     }
 
-    /// Adds a name at the end.
+    /// Adds a name at the end; where memory is wanting the names stay as they are.
     pub fn push(&mut self, name: Name) -> Result<(), AllocError>
-        ensures { OnOk result (self.new ≡ self.old ++ name ∷ []) }
+        ensures added { OnOk result (self.new ≡ self.old ++ name ∷ []) }
+        ensures kept { OnErr result (self.new ≡ self.old) }
     {
         self.items.push(name)?;
         Ok(())
@@ -116,9 +117,10 @@ impl Places {
         }
     }
 
-    /// Adds a place at the end.
+    /// Adds a place at the end; where memory is wanting the places stay as they are.
     pub fn push(&mut self, place: u32) -> Result<(), AllocError>
-        ensures { OnOk result (self.new ≡ self.old ++ place ∷ []) }
+        ensures added { OnOk result (self.new ≡ self.old ++ place ∷ []) }
+        ensures kept { OnErr result (self.new ≡ self.old) }
     {
         self.items.push(place)?;
         Ok(())

@@ -1,5 +1,5 @@
 //! Stages with places, and stages with names.
-ghost use Rattle.std.specs.Prelude.{◌≡◌, [], ◌∷◌, ◌++◌, IfOk, OnOk};
+ghost use Rattle.std.specs.Prelude.{◌≡◌, [], ◌∷◌, ◌++◌, IfOk, OnOk, OnErr};
 
 use crate::end::Ends;
 use crate::name::{Name, NameList, Places};
@@ -118,9 +118,10 @@ impl Specs {
         }
     }
 
-    /// Adds a stage at the end.
+    /// Adds a stage at the end; where memory is wanting the stages stay as they are.
     pub fn push(&mut self, spec: Spec) -> Result<(), AllocError>
-        ensures { OnOk result (self.new ≡ self.old ++ spec ∷ []) }
+        ensures added { OnOk result (self.new ≡ self.old ++ spec ∷ []) }
+        ensures kept { OnErr result (self.new ≡ self.old) }
     {
         self.items.push(spec)?;
         Ok(())
