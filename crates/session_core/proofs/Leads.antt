@@ -1,5 +1,5 @@
 -- Where the events of a run lead.
-use Rattle.std.proofs.Common.{◌≡◌, ℕ, zero, suc, ◌==◌, ◌^◌, Bool, true, false, not, ◌&&◌, nat_le, nat_lt, ◌⊎◌, inl, inr, if◌then◌else◌, List, [], ◌∷◌, ◌++◌, length, Option, Some, None, is_some, slice_get, Ok, Err, refl, ap, sym, subst, ◌∙◌, arith}
+use Rattle.std.proofs.Common.{◌≡◌, ℕ, zero, suc, ◌+◌, ◌==◌, ◌^◌, Bool, true, false, not, ◌&&◌, nat_le, nat_lt, ◌⊎◌, inl, inr, if◌then◌else◌, List, [], ◌∷◌, ◌++◌, length, take, Option, Some, None, is_some, slice_get, Ok, Err, refl, ap, sym, subst, ◌∙◌, arith}
 use Rattle.std.proofs.lemmas.Bool.Decides.{nat_tests}
 use Rattle.std.specs.Prelude.{Result}
 use Rattle.std.specs.Option.{option_map}
@@ -8,6 +8,7 @@ use Rattle.std.specs.BTreeMap.{is_at}
 use Rattle.std.proofs.lemmas.Option.{slice_get_within}
 use Rattle.stage_graph.specs.declared.edit.Edit.{Edit}
 use Rattle.stage_graph.specs.Plain.{PlainGraph, feeds_of}
+use Rattle.stage_graph.specs.Sound.{IsSound}
 use Rattle.stage_graph.specs.Walk.{IsRanked, rank_step}
 use Rattle.stage_graph.proofs.Following.{found_alone}
 use Rattle.stage_ops.specs.States.{pending}
@@ -20,7 +21,7 @@ use Rattle.version_store.specs.Plain.{PlainVersion, opening_version}
 use Rattle.session_core.specs.declared.event.Event.{Event}
 use Rattle.session_core.specs.declared.event.Event.TheVariants.{Open, Head, Commit, Undo, Close}
 use Rattle.session_core.specs.declared.event.Reply.{Reply}
-use Rattle.session_core.specs.declared.event.Reply.TheVariants.{At, Refused}
+use Rattle.session_core.specs.declared.event.Reply.TheVariants.{At, Committed, Refused}
 use Rattle.session_core.specs.declared.refusal.Refusal.{Refusal}
 use Rattle.session_core.specs.Refusals.{memory}
 use Rattle.session_core.specs.Applied.{applied}
@@ -28,8 +29,10 @@ use Rattle.session_core.specs.Machine.{State, Numbers, Booked, numbers_at, alone
 use Rattle.session_core.specs.TableView.{TableView}
 use Rattle.session_core.specs.Runs.{Runs}
 use Rattle.session_core.proofs.Runs.{replies_step}
-use Rattle.session_core.specs.Headline.{session_of, headed, without, after, led_to, IsEdited, IsInOrder, AreInOrder, HasOneAnswer, LeadsTo}
+use Rattle.session_core.specs.Headline.{session_of, headed, without, after, led_to, IsEdited, IsInOrder, AreInOrder, IsMade, all_made, HasOneAnswer, LeadsTo}
 use Rattle.session_core.proofs.Cycles.{ranked_from_applied}
+use Rattle.session_core.proofs.Sound.{sound_from_applied}
+use Rattle.session_core.proofs.Making.{left, Making, one_making, still_made}
 use Rattle.session_core.proofs.Maps.{Sorted, find-insert, find-remove, Sorted-insert, Sorted-remove}
 
 -- what one step does to the sessions and the versions
@@ -98,11 +101,6 @@ module _ (s : State) (session : ℕ) (sorted : Sorted s.sessions) where
   closes : Steps s session (book_close s session)
   closes = in_list (numbers_at s session) _ (λ list is. record { sorted = Sorted-remove (is_at (nat_cmp session)) s.sessions sorted; follows = λ q. find-remove q session s.sessions sorted; versions = λ h. h; stay = λ k v h. h })
 
-  left : (xs : List PlainVersion) (v : PlainVersion) (k : ℕ) (x : PlainVersion) → slice_get xs k ≡ Some x → slice_get (xs ++ v ∷ []) k ≡ Some x
-  left [] v k x is = absurd (cc is)
-  left (y ∷ xs) v zero x is = is
-  left (y ∷ xs) v (suc k) x is = left xs v k x is
-
   last_or : (xs : List PlainVersion) (v : PlainVersion) (k : ℕ) (x : PlainVersion) → slice_get (xs ++ v ∷ []) k ≡ Some x → (slice_get xs k ≡ Some x) ⊎ ((k ≡ length xs) × (x ≡ v))
   last_or [] v zero x is = inr (refl, cc is)
   last_or [] v (suc k) x is = absurd (cc is)
@@ -134,9 +132,10 @@ module _ (s : State) (session : ℕ) (sorted : Sorted s.sessions) where
         stay = λ k x h. left s.versions w k x h;
       }
     where
-      top : IsInOrder (s.versions ++ next s (from_base base v.graph edits) graph ∷ []) (length s.versions) (next s (from_base base v.graph edits) graph)
-      top = record {
+      top : AreInOrder s.versions → IsInOrder (s.versions ++ next s (from_base base v.graph edits) graph ∷ []) (length s.versions) (next s (from_base base v.graph edits) graph)
+      top ordered = record {
         numbered = refl;
+        sound = sound_from_applied edits v.graph graph (ordered base v there).sound done;
         ranked = ranked_from_applied edits v.graph graph done;
         edited = inr (record {
           origin = from_base base v.graph edits;
@@ -151,10 +150,10 @@ module _ (s : State) (session : ℕ) (sorted : Sorted s.sessions) where
 
       each : AreInOrder s.versions → (k : ℕ) (x : PlainVersion) → (slice_get s.versions k ≡ Some x) ⊎ ((k ≡ length s.versions) × (x ≡ next s (from_base base v.graph edits) graph))
           → IsInOrder (s.versions ++ next s (from_base base v.graph edits) graph ∷ []) k x
-      each ordered k x (inl a) = let old = ordered k x a in record { numbered = old.numbered; ranked = old.ranked; edited = or_more (next s (from_base base v.graph edits) graph) k x old.edited }
+      each ordered k x (inl a) = let old = ordered k x a in record { numbered = old.numbered; sound = old.sound; ranked = old.ranked; edited = or_more (next s (from_base base v.graph edits) graph) k x old.edited }
       each ordered k x (inr b) =
           subst (λ j. IsInOrder (s.versions ++ next s (from_base base v.graph edits) graph ∷ []) j x) (sym b.0)
-          (subst (IsInOrder (s.versions ++ next s (from_base base v.graph edits) graph ∷ []) (length s.versions)) (sym b.1) top)
+          (subst (IsInOrder (s.versions ++ next s (from_base base v.graph edits) graph ∷ []) (length s.versions)) (sym b.1) (top ordered))
 
   commits : (base : ℕ) (edits : List Edit) → Steps s session (book_commit s session base edits)
   commits base edits = in_list (numbers_at s session) _ (λ list is. in_version (slice_get s.versions base) _ (λ v there.
@@ -182,36 +181,63 @@ record Led (s : State) (events : List Event) (replies : List Reply) (t : State) 
   sessions : (session : ℕ) → numbers_at t session ≡ led_to session events replies (numbers_at s session)
   versions : AreInOrder s.versions → AreInOrder t.versions
   stay : (k : ℕ) (v : PlainVersion) → slice_get s.versions k ≡ Some v → slice_get t.versions k ≡ Some v
+  committed : (i number : ℕ) → slice_get replies i ≡ Some (Committed number)
+      → IsMade (slice_get events i) (λ session. led_to session (take i events) (take i replies) (numbers_at s session)) t.versions number
+  numbers : (i number : ℕ) → slice_get replies i ≡ Some (Committed number) → number ≡ length s.versions + all_made (take i replies)
+  count : length t.versions ≡ length s.versions + all_made replies
 
 led : (s : TableView) (events : List Event) (replies : List Reply) (t : TableView) → Sorted s.state.sessions → Runs s events replies t → Led s.state events replies t.state
-led s [] [] t sorted is = subst (Led s.state [] []) (sym is.0) (record { sessions = λ q. refl; versions = λ h. h; stay = λ k v h. h })
+led s [] [] t sorted is = subst (Led s.state [] []) (sym is.0) (record {
+  sessions = λ q. refl;
+  versions = λ h. h;
+  stay = λ k v h. h;
+  committed = λ i number h. absurd (cc h);
+  numbers = λ i number h. absurd (cc h);
+  count = omega arith;
+})
 led s [] (r ∷ replies) t sorted is = absurd is
 led s (e ∷ events) [] t sorted is = absurd is
 led s (e ∷ events) (r ∷ replies) t sorted is =
     let one : Step s.state (session_of e) r is.0.state = one_step s.state e r is.0.state sorted (replies_step s e r is.0 is.1) in
+    let making : Making s.state e r is.0.state = one_making s.state e r is.0.state (replies_step s e r is.0 is.1) in
     let rest : Led is.0.state events replies t.state = led is.0 events replies t one.sorted is.2 in
     record {
       sessions = λ q. rest.sessions q ∙ ap (led_to q events replies) (one.follows q);
       versions = λ h. rest.versions (one.versions h);
       stay = λ k v h. rest.stay k v (one.stay k v h);
+      committed = committed one making rest;
+      numbers = numbers making rest;
+      count = let now = making.count in let later = rest.count in omega (arith, now, later);
     }
+  where
+    committed : Step s.state (session_of e) r is.0.state → Making s.state e r is.0.state → Led is.0.state events replies t.state
+        → (i number : ℕ) → slice_get (r ∷ replies) i ≡ Some (Committed number)
+        → IsMade (slice_get (e ∷ events) i) (λ session. led_to session (take i (e ∷ events)) (take i (r ∷ replies)) (numbers_at s.state session)) t.state.versions number
+    committed one making rest zero number h = still_made (Some e) (numbers_at s.state) _ is.0.state.versions t.state.versions number (λ q. refl) rest.stay (making.commit number (cc h))
+    committed one making rest (suc i) number h =
+        still_made (slice_get events i) _ _ t.state.versions t.state.versions number (λ q. ap (led_to q (take i events) (take i replies)) (one.follows q)) (λ k v there. there) (rest.committed i number h)
 
-first_in_order : (graph : PlainGraph) → IsRanked graph.places → AreInOrder (opening_version graph ∷ [])
-first_in_order graph ranked zero v is =
+    numbers : Making s.state e r is.0.state → Led is.0.state events replies t.state
+        → (i number : ℕ) → slice_get (r ∷ replies) i ≡ Some (Committed number) → number ≡ length s.state.versions + all_made (take i (r ∷ replies))
+    numbers making rest zero number h = let first = making.number number (cc h) in omega (arith, first)
+    numbers making rest (suc i) number h = let now = making.count in let later = rest.numbers i number h in omega (arith, now, later)
+
+first_in_order : (graph : PlainGraph) → IsSound graph → IsRanked graph.places → AreInOrder (opening_version graph ∷ [])
+first_in_order graph sound ranked zero v is =
     let same : opening_version graph ≡ v = cc is in
-    subst (IsInOrder (opening_version graph ∷ []) 0) same (record { numbered = refl; ranked = ranked; edited = inl refl })
-first_in_order graph ranked (suc k) v is = absurd (cc is)
+    subst (IsInOrder (opening_version graph ∷ []) 0) same (record { numbered = refl; sound = sound; ranked = ranked; edited = inl refl })
+first_in_order graph sound ranked (suc k) v is = absurd (cc is)
 
-one_answer : (graph : PlainGraph) → IsRanked graph.places → HasOneAnswer graph
-one_answer graph ranked = record {
+one_answer : (graph : PlainGraph) → IsSound graph → IsRanked graph.places → HasOneAnswer graph
+one_answer graph sound ranked = record {
   states = λ states meets place. sym (found_alone pending (on_states (java_step graph.mode)) graph.places (asks_feeds (java_step graph.mode) (java_reads_decide graph.mode)) ranked states meets place);
   ranks = λ ranks meets place. sym (found_alone 0 rank_step graph.places (λ stage inputs others same. same_above inputs others (feeds_of stage) same) ranked ranks meets place);
-  chains = λ sound place. chains_follow (java_step graph.mode) (java_reads_decide graph.mode) (java_blames_read graph.mode) graph sound ranked place;
+  chains = λ place. chains_follow (java_step graph.mode) (java_reads_decide graph.mode) (java_blames_read graph.mode) graph sound ranked place;
 }
 
-pub leads : (graph : PlainGraph) (most : ℕ) (events : List Event) (replies : List Reply) (t u : TableView) → IsRanked graph.places → t.state ≡ opening (opening_version graph) most → Runs t events replies u
+pub leads : (graph : PlainGraph) (most : ℕ) (events : List Event) (replies : List Reply) (t u : TableView) → IsSound graph → IsRanked graph.places → t.state ≡ opening (opening_version graph) most → Runs t events replies u
     → LeadsTo graph events replies u.state
-leads graph most events replies t u ranked opens is =
+leads graph most events replies t u sound ranked opens is =
     let all : Led (opening (opening_version graph) most) events replies u.state = subst (λ (s : State). Led s events replies u.state) opens (led t events replies u (subst (λ (s : State). Sorted s.sessions) (sym opens) tt) is) in
-    let versions : AreInOrder u.state.versions = all.versions (first_in_order graph ranked) in
-    record { sessions = all.sessions; versions = versions; answers = λ k v is. one_answer v.graph (versions k v is).ranked; opening = all.stay 0 (opening_version graph) refl }
+    let versions : AreInOrder u.state.versions = all.versions (first_in_order graph sound ranked) in
+    record { sessions = all.sessions; versions = versions; answers = λ k v is. let own = versions k v is in one_answer v.graph own.sound own.ranked; opening = all.stay 0 (opening_version graph) refl; committed = all.committed; numbers = λ i number h. let is = all.numbers i number h in omega (arith, is); count = let is = all.count in omega (arith, is) }

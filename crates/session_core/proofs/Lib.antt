@@ -6,7 +6,9 @@ pub mod Drafting
 pub mod Foreign
 pub mod Leads
 pub mod Legal
+pub mod Making
 pub mod Maps
 pub mod Runs
+pub mod Sound
 pub mod Spans
 pub mod Standing
