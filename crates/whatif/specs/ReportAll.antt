@@ -5,6 +5,7 @@ use Rattle.text_io.specs.Sink.{AppendsPrefix}
 use Rattle.stage_graph.specs.Plain.{PlainGraph}
 use Rattle.recording.specs.Reads.{IsNamed}
 use Rattle.recording.specs.RecordingOf.{named}
+use Rattle.recording.specs.FaultTexts.{fault_number}
 use Rattle.recording.specs.declared.fault.Fault.{Fault}
 use Rattle.version_store.specs.Plain.{opening_version}
 use Rattle.report_text.specs.Texts.{all_text}
@@ -25,6 +26,12 @@ IsReported recording old new (Err (Refused fault)) = IsNamed (Err fault) (named 
 IsReported recording old new (Err Write) = (text : List ℕ) × IsReportOf recording text × AppendsPrefix old new text
 -- a part of the report, as memory was wanting
 IsReported recording old new (Err Memory) = (text : List ℕ) × IsReportOf recording text × AppendsPrefix old new text
+
+-- the number by which a fault is printed
+abbrev pub report_all_number : ReportAllFault → ℕ
+report_all_number (Refused fault) = fault_number fault
+report_all_number Write = 40
+report_all_number Memory = 90
 
 -- one where a write failed
 abbrev pub failed_writes : Result (Unit {0}) ReportAllFault → ℕ

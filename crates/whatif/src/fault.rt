@@ -1,4 +1,4 @@
-// What ends the program early.
+//! What ends the program early.
 use crate::report_all::ReportAllFault;
 use recording::Fault as ReadingFault;
 use serve_script::ServeFault;
@@ -14,6 +14,8 @@ pub(crate) enum Fault {
     Read,
     /// Standard output or standard error can't be written.
     Write,
+    /// The command line is no text, or names nothing to do.
+    CommandLine,
     Memory,
 }
 
@@ -23,6 +25,7 @@ impl Fault {
         match self {
             Fault::Refused(ReadingFault::Memory) => 4,
             Fault::Refused(_) => 1,
+            Fault::CommandLine => 2,
             Fault::Read | Fault::Write => 3,
             Fault::Memory => 4,
         }
@@ -35,6 +38,7 @@ impl fmt::Display for Fault {
             Fault::Refused(fault) => write!(f, "{fault}"),
             Fault::Read => f.write_str("refused 41 ReadFault"),
             Fault::Write => f.write_str("refused 40 WriteFault"),
+            Fault::CommandLine => f.write_str("error: the command line is not UTF-8 text"),
             Fault::Memory => f.write_str("refused 90 Memory"),
         }
     }

@@ -1,4 +1,4 @@
-// The recording, whole, from a file or from standard input.
+//! The recording, whole, from a file or from standard input.
 use crate::fault::Fault;
 use std::alloc::Global;
 use std::fs::File;

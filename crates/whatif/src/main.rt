@@ -15,7 +15,7 @@ use recording::read_recording;
 use report_all::report_all;
 use serve_script::serve;
 use stage_graph::{Graph, InShared};
-use std::io::{self, BufWriter};
+use std::io::{self, BufWriter, ErrorKind};
 use std::process::ExitCode;
 use text_io::{CountedReader, CountedWriter, Sink};
 
@@ -28,10 +28,12 @@ fn main(rt: HostRuntime) -> ExitCode {
 
 /// Prints why the program ends early, but for a fault of writing; the answer is its exit status.
 fn refuse(rt: &HostRuntime, fault: &Fault) -> ExitCode {
-    if let Fault::Write = fault {
-        return ExitCode::from(fault.status());
-    }
-    match rt.println(format_args!("{fault}")) {
+    let printed = match fault {
+        Fault::Write => Ok(()),
+        Fault::CommandLine => rt.eprintln(format_args!("{fault}")),
+        _ => rt.println(format_args!("{fault}")),
+    };
+    match printed {
         Ok(()) => ExitCode::from(fault.status()),
         Err(_) => ExitCode::from(Fault::Write.status()),
     }
@@ -39,10 +41,7 @@ fn refuse(rt: &HostRuntime, fault: &Fault) -> ExitCode {
 
 fn run<W: Runner>(rt: &HostRuntime, runner: &W) -> Result<ExitCode, Fault> {
     let alloc = rt.alloc();
-    let Ok(words) = std::env::args(rt) else {
-        return Err(Fault::Read);
-    };
-    let words: Vec<String> = words.collect(alloc)?;
+    let words = words(rt)?;
     let command = options::command(alloc)?;
     let matches = match command.try_get_matches_from(words.as_slice()) {
         Ok(matches) => matches,
@@ -51,9 +50,18 @@ fn run<W: Runner>(rt: &HostRuntime, runner: &W) -> Result<ExitCode, Fault> {
     match matches.subcommand() {
         Some(("report", matches)) => run_report(rt, matches)?,
         Some(("serve", matches)) => run_serve(rt, runner, matches)?,
-        _ => {}
+        _ => return Err(Fault::CommandLine),
     }
     Ok(ExitCode::SUCCESS)
+}
+
+/// The words of the command line.
+fn words(rt: &HostRuntime) -> Result<Vec<String>, Fault> {
+    match std::env::args(rt) {
+        Ok(words) => Ok(words.collect(rt.alloc())?),
+        Err(error) if error.kind() == ErrorKind::OutOfMemory => Err(Fault::Memory),
+        Err(_) => Err(Fault::CommandLine),
+    }
 }
 
 /// Prints what `clap` says in place of an answer: help that was asked for, or what is wrong with the command line.
@@ -72,8 +80,9 @@ fn run_report(rt: &HostRuntime, matches: &ArgMatches<'_>) -> Result<(), Fault> {
         return Err(Fault::Memory);
     };
     let mut sink = CountedWriter::new(writer);
-    report_all(rt.alloc(), &recording, &mut sink)?;
-    flush(&mut sink)
+    let end = report_all(rt.alloc(), &recording, &mut sink);
+    flush(&mut sink)?;
+    Ok(end?)
 }
 
 /// Answers a script from standard input, about the recording of a file.

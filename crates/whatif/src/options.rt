@@ -1,4 +1,4 @@
-// The command line.
+//! The command line.
 use clap::{Arg, Command};
 use std::alloc::{AllocError, Global};
 

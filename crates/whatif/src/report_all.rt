@@ -1,22 +1,39 @@
 //! The report of all stages of a recording.
 ghost use Rattle.std.specs.Prelude.{◌≡◌, ◌+◌, ◌-◌, ◌^◌, ◌<◌};
-ghost use Rattle.whatif.specs.ReportAll.{IsReported, failed_writes};
+ghost use Rattle.whatif.specs.ReportAll.{IsReported, failed_writes, report_all_number};
 
 use recording::{Fault as ReadingFault, read_recording};
 use report_text::{ReportFault, What, report};
 use stage_graph::{Graph, InShared};
 use std::alloc::Global;
 use text_io::Sink;
+use thiserror::Error;
 use version_store::Version;
 
 /// Why the report of a recording was not written to its end.
-#[derive(Debug, Drop)]
+#[derive(Debug, Drop, Error)]
 pub enum ReportAllFault {
     /// The recording is refused, or memory was wanting while it was read; nothing was written.
+    #[error("{0}")]
     Refused(ReadingFault),
     /// A write failed, or took nothing.
+    #[error("refused 40 WriteFault")]
     Write,
+    #[error("refused 90 Memory")]
     Memory,
+}
+
+impl ReportAllFault {
+    /// The number by which the fault is printed.
+    pub fn number(&self) -> u32
+        ensures { result ≡ report_all_number self.now }
+    {
+        match self {
+            ReportAllFault::Refused(fault) => fault.number(),
+            ReportAllFault::Write => 40,
+            ReportAllFault::Memory => 90,
+        }
+    }
 }
 
 /// Writes the `all` report of version 0 of a recording.
