@@ -33,7 +33,7 @@ fn changed<R: OrderRepresentation>(
     }
 }
 
-/// The rank of each live place of so many, and its dependents.
+/// The rank and the dependents of each of so many places, or that no stage stands there.
 fn drawn<R: OrderRepresentation>(
     alloc: Global,
     order: &Order<R>,
@@ -41,9 +41,12 @@ fn drawn<R: OrderRepresentation>(
 ) -> Result<String, Fail> {
     let mut text = String::new(alloc);
     for place in 0..places {
-        if let (Ok(rank), Ok(users)) = (order.rank(place), order.dependents(place)) {
-            text.push_str(format!(in alloc; "{place} rank {rank} {users:?};")?.as_str())?;
-        }
+        let line = match (order.rank(place), order.dependents(place)) {
+            (Ok(rank), Ok(users)) => format!(in alloc; "{place} rank {rank} {users:?};")?,
+            (Err(NoStage), Err(NoStage)) => format!(in alloc; "{place} empty;")?,
+            _ => return Err(Fail::from("one of two queries finds a stage")),
+        };
+        text.push_str(line.as_str())?;
     }
     Ok(text)
 }
@@ -61,7 +64,7 @@ fn answer_of<R: OrderRepresentation>(
     }
 }
 
-/// The order of the recording's graph after a step.
+/// The order of the recording's graph after a step; the order before it stays as it was.
 fn patched<R: OrderRepresentation>(
     rt: &impl Abort,
     alloc: Global,
@@ -72,7 +75,10 @@ fn patched<R: OrderRepresentation>(
     let order = Order::build(alloc, &graph)?;
     let edits = edits_of(alloc, step)?;
     let changed = changed(alloc, &graph, &edits)?;
+    let before = drawn(alloc, &order, graph.len() as u32)?;
     let answer = order.patch(alloc, &changed, &edits);
+    let after = drawn(alloc, &order, graph.len() as u32)?;
+    assert_eq!(rt; after.as_str(), before.as_str());
     answer_of(alloc, answer, changed.len() as u32)
 }
 
@@ -111,7 +117,7 @@ fn order(rt: HostRuntime) -> Result<(), Fail> {
 fn order_after_remove(rt: HostRuntime) -> Result<(), Fail> {
     let rows = [(
         r#"{"do":"remove","session":1,"stage":"c"}"#,
-        "0 rank 0 [];1 rank 0 [];2 rank 0 [];",
+        "0 rank 0 [];1 rank 0 [];2 rank 0 [];3 empty;",
     )];
     in_each(&rt, rt.alloc(), COMPOSE_PICKS, &rows)
 }

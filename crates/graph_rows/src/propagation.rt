@@ -128,10 +128,12 @@ fn edited<R: StateRepresentation, H: Abort + Threads + Sync>(
     };
     let runner = OneThread::new(rt);
     let answer = propagate(alloc, before, edits, &recorder, &runner, &mut meter);
-    match &answer {
-        Ok(patched) => assert!(rt; recorder.is_just(&patched.touched)),
-        Err(_) => assert!(rt; recorder.is_just(&[])),
-    }
+    let touched = match &answer {
+        Ok(patched) => patched.touched.as_slice(),
+        Err(_) => &[],
+    };
+    assert!(rt; recorder.is_just(touched));
+    assert_eq!(rt; meter.count(), touched.len() as u64);
     answer
 }
 

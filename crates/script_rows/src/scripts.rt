@@ -5,7 +5,7 @@ ghost use Rattle.stage_graph.specs.Walk.{IsRanked};
 
 use level_pool::{OneThread, Runner};
 use recording::read_recording;
-use row_kit::{FIRST_RUN, SlowWriter};
+use row_kit::{CHAIN, COMPOSE_PICKS, FIRST_RUN, SlowWriter};
 use serve_script::{ServeFault, serve};
 use stage_graph::{Graph, InShared};
 use std::alloc::{AllocError, Global};
@@ -175,10 +175,7 @@ fn session_refusals(rt: HostRuntime) -> Result<(), Fail> {
     gives(
         &rt,
         rt.alloc(),
-        r#"{"stages":[{"name":"s","op":"async","takes":2,"action":0},
-        {"name":"i0","op":"async","takes":10,"action":7},
-        {"name":"i1","op":"async","takes":1,"action":["throw","Z"]},
-        {"name":"c","op":"thenCompose","sources":["s"],"inner":["i0","i1"],"takes":3,"action":["arg",0]}]}"#,
+        COMPOSE_PICKS,
         r#"{"do":"open","session":1,"version":0}
 {"do":"remove","session":1,"stage":"i1"}
 "#,
@@ -303,9 +300,7 @@ fn edit_list(rt: HostRuntime) -> Result<(), Fail> {
     gives(
         &rt,
         rt.alloc(),
-        r#"{"stages":[{"name":"z","op":"completed","value":1},
-        {"name":"a","op":"thenApply","sources":["z"],"takes":1,"action":["add",["arg",0],1]},
-        {"name":"b","op":"thenApply","sources":["a"],"takes":1,"action":["mul",["arg",0],10]}]}"#,
+        CHAIN,
         r#"{"do":"open","session":1,"version":0}
 {"do":"rewire","session":1,"stage":"a","sources":["b"],"inner":[]}
 {"do":"edits","session":1,"edits":[{"do":"rewire","stage":"a","sources":["b"],"inner":[]},{"do":"rewire","stage":"b","sources":["z"],"inner":[]}]}

@@ -287,3 +287,36 @@ fn foreign_and_many_sessions(rt: HostRuntime) -> Result<(), Fail> {
     opens_1024(&rt, &mut table);
     Ok(())
 }
+
+/// `a` of the first run holds an exception itself.
+const PIN_BARE: &str = r#"{"do":"pinResult","session":1,"stage":"a","result":{"bare":"X"}}"#;
+
+/// A draft of the table's own version that is handed to it becomes its next version, and the commit its second entry.
+fn takes_own<R: StateRepresentation, H: Abort + Threads + Sync>(
+    rt: &H,
+    alloc: Global,
+) -> Result<(), Fail> {
+    let mut table: Table<R> = table(alloc, FIRST_RUN, 65_536)?;
+    assert_eq!(rt; number_of(table.open(0, 1, 0)), 0);
+    let edits = Held::new(alloc, edits_of(alloc, PIN_BARE)?)?;
+    let mut meter = Meter::new(HandedOver);
+    let draft = table
+        .version(0)?
+        .draft(alloc, &edits, &OneThread::new(rt), &mut meter)?;
+    let version = table.commit(7, 1, &draft)?;
+    assert_eq!(rt; (version.number(), version.parent()), (1, Some(0)));
+    assert_eq!(rt; table.version(1)?.moment(1), Ok(Some(10)));
+    let entries = table.history();
+    assert_eq!(rt; entries.len(), 2);
+    assert_eq!(rt;
+        (entries[1].who, entries[1].reply),
+        (7, Reply::Committed(1))
+    );
+    Ok(())
+}
+
+#[test]
+fn pin_bare(rt: HostRuntime) -> Result<(), Fail> {
+    takes_own::<InFlat, _>(&rt, rt.alloc())?;
+    takes_own::<InShared, _>(&rt, rt.alloc())
+}

@@ -3,13 +3,13 @@ use level_pool::OneThread;
 use recording::read_recording;
 use row_kit::edits_of;
 use share_tree::Held;
-use stage_graph::{Edits, InShared};
+use stage_graph::{Edits, Fault, InShared};
 use stage_ops::Meter;
-use std::alloc::Global;
+use std::alloc::{AllocError, Global};
 use std::process::Abort;
 use std::test::Fail;
 use std::thread::Threads;
-use version_store::Version;
+use version_store::{Before, Version};
 
 /// The marker of this test's meters.
 #[derive(Drop)]
@@ -44,33 +44,65 @@ const STAGES: &str = r#"{"stages":[{"name":"s0","op":"async","takes":3,"action":
     {"name":"s8","op":"allOf","sources":["s5","s7"]},
     {"name":"s9","op":"whenComplete","sources":["s8"],"takes":4,"action":0}]}"#;
 
-/// An edit of one kind, without its session.
-fn edit(alloc: Global, numbers: &mut Numbers, turn: usize) -> Result<String, Fail> {
-    let (stage, source, other) = (numbers.below(11), numbers.below(11), numbers.below(11));
+/// The name of a stage of the recording, or of one that an earlier turn may have added; some stand nowhere.
+fn name(alloc: Global, numbers: &mut Numbers, turn: usize) -> Result<String, AllocError> {
+    let number = numbers.below(14);
+    if number < 10 {
+        format!(in alloc; "s{number}")
+    } else {
+        let before = (turn as u64).saturating_sub(number - 10);
+        format!(in alloc; "t{before}")
+    }
+}
+
+/// An edit that rewires a stage, without its session.
+fn rewire(alloc: Global, numbers: &mut Numbers, turn: usize) -> Result<String, AllocError> {
+    let stage = name(alloc, numbers, turn)?;
+    let mut sources = format!(in alloc; "\"{}\"", name(alloc, numbers, turn)?)?;
+    if numbers.below(2) == 0 {
+        let source = name(alloc, numbers, turn)?;
+        sources = format!(in alloc; "{sources},\"{source}\"")?;
+    }
+    format!(in alloc;
+        "{{\"do\":\"rewire\",\"stage\":\"{stage}\",\"sources\":[{sources}],\"inner\":[]}}"
+    )
+}
+
+/// An edit that says something else of a stage, without its session.
+fn change(alloc: Global, numbers: &mut Numbers, turn: usize) -> Result<String, AllocError> {
+    let stage = name(alloc, numbers, turn)?;
     let ticks = numbers.below(9);
-    Ok(match numbers.below(9) {
-        0 => format!(in alloc; "{{\"do\":\"setTakes\",\"stage\":\"s{stage}\",\"takes\":{ticks}}}")?,
+    let (what, value) = match numbers.below(6) {
+        0 => (
+            "setTimes",
+            format!(in alloc; "\"queued\":2,\"runs\":{ticks}")?,
+        ),
+        1 => ("setAction", format!(in alloc; "\"action\":{ticks}")?),
+        2 => ("pinMoment", format!(in alloc; "\"at\":{ticks}")?),
+        3 => (
+            "setEnds",
+            format!(in alloc; "\"ends\":[{{\"at\":{ticks},\"do\":\"cancel\"}}]")?,
+        ),
+        4 => (
+            "pinResult",
+            String::from_str(alloc, r#""result":{"bare":"Y"}"#)?,
+        ),
+        _ => ("pinResult", String::from_str(alloc, r#""result":null"#)?),
+    };
+    format!(in alloc; "{{\"do\":\"{what}\",\"stage\":\"{stage}\",{value}}}")
+}
+
+/// An edit of any kind, without its session.
+fn edit(alloc: Global, numbers: &mut Numbers, turn: usize) -> Result<String, AllocError> {
+    let stage = name(alloc, numbers, turn)?;
+    match numbers.below(9) {
+        0 => format!(in alloc; "{{\"do\":\"remove\",\"stage\":\"{stage}\"}}"),
         1 => format!(in alloc;
-            "{{\"do\":\"setAction\",\"stage\":\"s{stage}\",\"action\":{ticks}}}"
-        )?,
-        2 => format!(in alloc;
-            "{{\"do\":\"pinResult\",\"stage\":\"s{stage}\",\"result\":{{\"bare\":\"Y\"}}}}"
-        )?,
-        3 => format!(in alloc; "{{\"do\":\"pinMoment\",\"stage\":\"s{stage}\",\"at\":{ticks}}}")?,
-        4 => format!(in alloc; "{{\"do\":\"pinResult\",\"stage\":\"s{stage}\",\"result\":null}}")?,
-        5 => format!(in alloc;
-            "{{\"do\":\"setEnds\",\"stage\":\"s{stage}\",\"ends\":[{{\"at\":{ticks},\"do\":\"cancel\"}}]}}"
-        )?,
-        6 => format!(in alloc;
-            "{{\"do\":\"rewire\",\"stage\":\"s{stage}\",\"sources\":[\"s{source}\"],\"inner\":[]}}"
-        )?,
-        7 => format!(in alloc;
-            "{{\"do\":\"rewire\",\"stage\":\"s{stage}\",\"sources\":[\"s{source}\",\"s{other}\"],\"inner\":[]}}"
-        )?,
-        _ => format!(in alloc;
-            "{{\"do\":\"add\",\"new\":{{\"name\":\"t{turn}\",\"op\":\"thenApply\",\"sources\":[\"s{source}\"],\"action\":0}}}}"
-        )?,
-    })
+            "{{\"do\":\"add\",\"new\":{{\"name\":\"t{turn}\",\"op\":\"thenApply\",\"sources\":[\"{stage}\"],\"action\":0}}}}"
+        ),
+        2 | 3 | 4 => rewire(alloc, numbers, turn),
+        _ => change(alloc, numbers, turn),
+    }
 }
 
 /// A step of one to three edits.
@@ -86,9 +118,33 @@ fn step(alloc: Global, numbers: &mut Numbers, turn: usize) -> Result<String, Fai
 /// Both versions tell the same of what stands at a place.
 fn same_at(rt: &impl Abort, drafted: &Version<InShared>, loaded: &Version<InShared>, place: u32) {
     assert_eq!(rt; drafted.state(place), loaded.state(place));
+    assert_eq!(rt; drafted.start(place), loaded.start(place));
     assert_eq!(rt; drafted.rank(place), loaded.rank(place));
     assert_eq!(rt; drafted.join(place), loaded.join(place));
     assert_eq!(rt; drafted.dependents(place), loaded.dependents(place));
+}
+
+/// What stands at a place of a version, as a version made of it tells it.
+fn before_of(parent: &Version<InShared>, place: u32) -> Before {
+    match (parent.outcome(place), parent.moment(place)) {
+        (Ok(Some(outcome)), Ok(Some(moment))) => Before::Done(outcome, moment),
+        (Ok(_), _) => Before::Pending,
+        (Err(_), _) => Before::Absent,
+    }
+}
+
+/// A version tells what its parent's stages were, and has touched each that came to something else.
+fn tells_changes(
+    rt: &impl Abort,
+    parent: &Version<InShared>,
+    drafted: &Version<InShared>,
+    place: u32,
+) {
+    let before = before_of(parent, place);
+    assert_eq!(rt; drafted.before(place), Ok(before));
+    if before_of(drafted, place) != before {
+        assert!(rt; drafted.touched().contains(&place));
+    }
 }
 
 /// Both versions blame the same stages for what a stage came to.
@@ -105,10 +161,11 @@ fn same_blame(
     Ok(())
 }
 
-/// Both versions answer each query alike.
+/// A version answers each query as its graph does from scratch.
 fn same_answers(
     rt: &impl Abort,
     alloc: Global,
+    parent: &Version<InShared>,
     drafted: &Version<InShared>,
     loaded: &Version<InShared>,
 ) -> Result<(), Fail> {
@@ -117,9 +174,18 @@ fn same_answers(
         same_at(rt, drafted, loaded, place);
         if drafted.rank(place).is_ok() {
             same_blame(rt, alloc, drafted, loaded, place)?;
+            tells_changes(rt, parent, drafted, place);
         }
     }
     Ok(())
+}
+
+/// Both faults are the same, but for the cycle that is told.
+fn same_fault(rt: &impl Abort, fault: &Fault, other: &Fault) {
+    match (fault, other) {
+        (Fault::Refused(refused), Fault::Refused(other)) => assert_eq!(rt; refused, other),
+        _ => assert_eq!(rt; fault.number(), other.number()),
+    }
 }
 
 /// The version that a list of edits makes, once it has been compared with its graph from scratch; none where the list is
@@ -136,12 +202,12 @@ fn compared<H: Abort + Threads + Sync>(
     match version.draft(alloc, &edits, &OneThread::new(rt), &mut meter) {
         Ok(draft) => {
             let drafted = draft.numbered(1)?;
-            same_answers(rt, alloc, &drafted, &Version::load(alloc, applied?)?)?;
+            let loaded = Version::load(alloc, applied?)?;
+            same_answers(rt, alloc, version, &drafted, &loaded)?;
             Ok(Some(drafted))
         }
         Err(fault) => {
-            let refused = applied.err().expect(rt, "a refusal");
-            assert_eq!(rt; refused.number(), fault.number());
+            same_fault(rt, &fault, &applied.err().expect(rt, "a refusal"));
             Ok(None)
         }
     }
