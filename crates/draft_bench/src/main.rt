@@ -1,7 +1,7 @@
 //! How long a draft of a version takes, against evaluation of its graph from scratch.
 //!
 //! `draft_bench FILE EDITS STAGE..` loads the recording, and then makes so many versions, each a draft of the last one by
-//! one list of edits, which sets how long each of the named stages runs; `keep` as the first name keeps all versions to the
+//! one list of edits, which sets how long each of the named stages runs; `keep` among the names keeps all versions to the
 //! end. Without words it does nothing, so that the gate builds it and doesn't time it.
 #![tactic(auto)]
 

@@ -38,7 +38,8 @@ pub struct Patched<R: StateRepresentation> {
 /// The graph that a list of edits makes, with its order and its states. The stages that the edits can reach are computed again, each
 /// once, and no others: a stage is reached if an edit speaks of it, or if it read one whose outcome, moment or blamed source changed.
 ///
-/// It is refused as [`Graph::apply`] is, or for want of memory. The meter then stays, unless the changed graph was ranked already.
+/// It is refused as [`Graph::apply`] is, or for want of memory. The meter then stays, but where memory ran out after all checks had
+/// passed: then it has risen by no more than there is touched.
 pub fn propagate<R: StateRepresentation, N: Sync, O: StageOps<N> + Sync, W: Runner>(
     alloc: Global,
     old: Old<'_, R>,

@@ -1,8 +1,9 @@
 //! The ranks of a graph's places and who depends on whom, kept while the graph is edited.
 //!
 //! [`Order::build`] makes the order of a ranked graph by one pass over its stages. [`Order::patch`] makes the
-//! order of an edited graph of the one before: it looks at those places alone whose feeds or ranks change, finds
-//! the cycle that the edits close if they close one, and comes to what `build` would make of the edited graph.
+//! order of an edited graph of the one before: it takes the moved stages out and puts them back one by one, ranks
+//! what stands above them again, finds the cycle that the edits close if they close one, and comes to what `build`
+//! would make of the edited graph.
 //! An order never changes: a patched one is a new one, which shares what stays.
 //!
 //! [`Marks`] are the places that a pass over a graph is still to look at, taken in the order of their ranks, one by one

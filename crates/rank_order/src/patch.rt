@@ -55,8 +55,9 @@ fn moved_places<R: Representation>(
 }
 
 impl<R: OrderRepresentation> Order<R> {
-    /// The order of the graph that a list of edits makes of this order's graph. The work goes with the places
-    /// whose rank or feeds change, and not with the graph. This order stays as it is.
+    /// The order of the graph that a list of edits makes of this order's graph. The work goes with the moved stages,
+    /// with the stages above them, which are ranked again for each moved one, and with the dependents of their feeds,
+    /// and not with the rest of the graph. This order stays as it is.
     pub fn patch(
         &self,
         alloc: Global,

@@ -6,7 +6,7 @@ ghost use Rattle.std.specs.Io.KnownBytes.{ReadConsumes};
 use std::io::{ErrorKind, Read};
 use thiserror::Error;
 
-/// A read failed, or as much was read as is allowed.
+/// A read failed.
 #[derive(Clone, Copy, Debug, PartialEq, Eq, Error)]
 #[error("ReadFault")]
 pub struct ReadFault;
