@@ -306,12 +306,10 @@ fn takes_own<R: StateRepresentation, H: Abort + Threads + Sync>(
     let version = table.commit(7, 1, &draft)?;
     assert_eq!(rt; (version.number(), version.parent()), (1, Some(0)));
     assert_eq!(rt; table.version(1)?.moment(1), Ok(Some(10)));
-    let entries = table.history();
-    assert_eq!(rt; entries.len(), 2);
-    assert_eq!(rt;
-        (entries[1].who, entries[1].reply),
-        (7, Reply::Committed(1))
-    );
+    let [_, entry] = table.history() else {
+        panic!(rt; "two entries");
+    };
+    assert_eq!(rt; (entry.who, entry.reply), (7, Reply::Committed(1)));
     Ok(())
 }
 
