@@ -98,19 +98,24 @@ impl Marks {
     }
 
     /// Takes out the marks of the least rank, and answers their places in ascending order; none where nothing is marked.
-    /// Where memory is refused, some of them may be gone.
+    /// Where memory is refused the marks stay as they are.
     pub fn take_level(&mut self, alloc: Global) -> Result<Vec<u32>, AllocError>
         ensures some { IfOk result (λ level. 0 < length self.old → 0 < vec_len level) }
         ensures left { AreLeft self.old self.new }
         ensures level { IfOk result (λ level. (ranks : ℕ → ℕ) → AreMarks ranks self.old
             → IsLevel ranks (is_marked ranks self.old) level.items (is_marked ranks self.new)) }
+        ensures refused { OnErr result (self.new ≡ self.old) }
     {
-        let mut level = Vec::new(alloc);
+        // With room for all marks, nothing is refused once one of them is taken out.
+        let mut level = Vec::with_capacity(alloc, self.set.len())?;
         let Some(rank) = self.least_rank() else {
             return Ok(level);
         };
         while let Some(place) = self.pop_at(rank) {
-            level.push(place)?;
+            match level.push(place) {
+                Ok(()) => (),
+                Err(_) => unreachable!(),
+            }
         }
         Ok(level)
     }

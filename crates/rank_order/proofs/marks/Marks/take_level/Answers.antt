@@ -13,9 +13,10 @@ loop-place-preserved c =
     let place = c.in-Some-pop_at.place in
     record {
       taking = λ ranks are.
-          subst (IsTaking ranks was new rank) (sym c.in_ok-push.ensures.items)
+          subst (IsTaking ranks was new rank) (sym c.in-Ok.ensures.items)
           (taking_more ranks was old new rank place c.loop-place.level.items (inv.taking ranks are) out);
       left = λ other_rank other has. inv.left other_rank other (stays old new rank place out other_rank other has);
       from = λ other_rank other has. inv.from other_rank other (stays old new rank place out other_rank other has);
-      some = inl (omega (arith, c.in_ok-push.ensures.len));
+      some = inl (omega (arith, c.in-Ok.ensures.len));
+      room = omega (arith, inv.room, out.fewer, c.push.ensures.capacity, c.in-Ok.ensures.len);
     }
