@@ -142,7 +142,7 @@ change_between edits old new places sound_old sound_new change e = record {
   elsewhere = λ place none. same_elsewhere edits old new sound_old sound_new change place (ap (is_among place) (sym e) ∙ none);
 }
 
--- the changed graph is ranked, and no more is counted than there is touched
-pub count_of_ranked : (touches : PlainGraph → List ℕ) (answer : Result PlainGraph Refused) (graph : PlainGraph) (before after : ℕ) → answer ≡ Ok graph → IsRanked graph.places → after ≤ before + length (touches graph)
+-- the changed graph is ranked, and no less is counted than before, and no more than there is touched
+pub count_of_ranked : (touches : PlainGraph → List ℕ) (answer : Result PlainGraph Refused) (graph : PlainGraph) (before after : ℕ) → answer ≡ Ok graph → IsRanked graph.places → (before ≤ after) × (after ≤ before + length (touches graph))
     → IsCountOf touches answer before after
-count_of_ranked touches answer graph before after is ranked low = subst (λ (answer : Result PlainGraph Refused). IsCountOf touches answer before after) (sym is) (inr (ranked, low))
+count_of_ranked touches answer graph before after is ranked both = subst (λ (answer : Result PlainGraph Refused). IsCountOf touches answer before after) (sym is) (inr (ranked, both))

@@ -11,7 +11,7 @@ use Rattle.propagate.specs.Reach.{Stages, Step, touched}
 abbrev pub touched_by : Step → List Edit → Stages → Stages → List ℕ
 touched_by step edits old new = touched step old new (λ place. is_edited edits (stage_at new place))
 
--- what a count comes to where the change is refused: it stays, unless the changed graph is ranked, and rises by no more than there is touched
+-- what a count comes to where the change is refused: it stays, unless the changed graph is ranked, and then it does not fall, and rises by no more than there is touched
 abbrev pub IsCountOf : (PlainGraph → List ℕ) → Result PlainGraph Refused → ℕ → ℕ → Type 0
 IsCountOf touches (Err refused) before after = after ≡ before
-IsCountOf touches (Ok graph) before after = (after ≡ before) ⊎ (IsRanked graph.places × (after ≤ before + length (touches graph)))
+IsCountOf touches (Ok graph) before after = (after ≡ before) ⊎ (IsRanked graph.places × ((before ≤ after) × (after ≤ before + length (touches graph))))

@@ -23,7 +23,7 @@ fn passes_for<N>(
     requires { meter.old + length level.now < 2 ^ 64 }
     ensures places { IfOk result (λ passes. passes.items ≡ level.now) }
     ensures counted { OnOk result (meter.new ≡ meter.old + length level.now) }
-    ensures refused { OnErr result (meter.new ≤ meter.old + length level.now) }
+    ensures refused { OnErr result ((meter.old ≤ meter.new) × (meter.new ≤ meter.old + length level.now)) }
 {
     let mut passes = Vec::with_capacity(alloc, level.len())?;
     for place in level {
@@ -86,7 +86,7 @@ pub(crate) fn compute_level<R: StateRepresentation, N: Sync, O: StageOps<N> + Sy
     ensures states { IfOk result (λ results. results.items
         ≡ map (λ place. come_to (O.step ops.now graph.now.mode) (stage_at graph.now.places place) (state_at states.now)) level.now) }
     ensures counted { OnOk result (meter.new ≡ meter.old + length level.now) }
-    ensures refused { OnErr result (meter.new ≤ meter.old + length level.now) }
+    ensures refused { OnErr result ((meter.old ≤ meter.new) × (meter.new ≤ meter.old + length level.now)) }
     ensures fault { IfErr result (λ fault. fault ≡ Memory) }
 {
     let taken = passes_for(alloc, meter, level)?;

@@ -39,7 +39,7 @@ pub struct Patched<R: StateRepresentation> {
 /// once, and no others: a stage is reached if an edit speaks of it, or if it read one whose outcome, moment or blamed source changed.
 ///
 /// It is refused as [`Graph::apply`] is, or for want of memory. The meter then stays, but where memory ran out after all checks had
-/// passed: then it has risen by no more than there is touched.
+/// passed: then it has not fallen, and has risen by no more than there is touched.
 pub fn propagate<R: StateRepresentation, N: Sync, O: StageOps<N> + Sync, W: Runner>(
     alloc: Global,
     old: Old<'_, R>,

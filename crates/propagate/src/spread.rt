@@ -61,8 +61,8 @@ pub(crate) fn propagate_change<R: StateRepresentation, N: Sync, O: StageOps<N> +
     ensures touched { IfOk result (λ reached. reached.touched.items
         ≡ touched (O.step ops.now graph.now.mode) old.now.places graph.now.places (λ place. is_among place edited.now)) }
     ensures counted { IfOk result (λ reached. meter.new ≡ meter.old + vec_len reached.touched) }
-    ensures refused { OnErr result (meter.new
-        ≤ meter.old + length (touched (O.step ops.now graph.now.mode) old.now.places graph.now.places (λ place. is_among place edited.now))) }
+    ensures refused { OnErr result ((meter.old ≤ meter.new) × (meter.new
+        ≤ meter.old + length (touched (O.step ops.now graph.now.mode) old.now.places graph.now.places (λ place. is_among place edited.now)))) }
     ensures fault { IfErr result (λ fault. fault ≡ Memory) }
 {
     laws::<N, O>(ops);

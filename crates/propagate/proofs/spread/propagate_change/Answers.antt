@@ -49,8 +49,9 @@ returns-in_err-taken-clause-refused g c =
     let law = c.laws.ensures.reads_decide c.args.graph.now.mode in
     let edit = ranked_change c.args.old.now c.args.graph.now (λ place. is_among place c.args.edited.now) c.requires.old_ranked c.requires.ranked c.requires.sound c.requires.change in
     let room = within_touched edit inv.progress in
+    let kept : c.args.meter.now ≤ c.loop-alloc.meter = omega (arith, inv.counted) in
     let bound : c.loop-alloc.meter ≤ c.args.meter.now + length (touched (g.O.StageOps.step c.args.ops.now c.args.graph.now.mode) c.args.old.now.places c.args.graph.now.places (λ place. is_among place c.args.edited.now)) = omega (arith, inv.counted, room) in
-    on_err c.from_residual-in_err-taken.result _ bound
+    on_err c.from_residual-in_err-taken.result _ (kept, bound)
 
 pub compute_level-requires-clause-climbs : goal.compute_level-requires-clause-climbs
 compute_level-requires-clause-climbs g c κs borrowed =
@@ -127,8 +128,9 @@ returns-in_err-computed-clause-refused g c =
     let edit = ranked_change c.args.old.now c.args.graph.now (λ place. is_among place c.args.edited.now) c.requires.old_ranked c.requires.ranked c.requires.sound c.requires.change in
     let one = level_of stages c.loop-alloc.marks c.take_level.new.self c.in_ok-taken.taken.items c.as_slice-level.result.now c.as_slice-level.ensures.value (c.in_ok-taken.ensures.level (rank stages) inv.marks) in
     let room = level_touched law edit inv.progress one in
-    let bound : c.compute_level.new.meter ≤ c.args.meter.now + length (touched (g.O.StageOps.step c.args.ops.now c.args.graph.now.mode) c.args.old.now.places c.args.graph.now.places (λ place. is_among place c.args.edited.now)) = omega (arith, inv.counted, c.in_err-computed.ensures.refused, room) in
-    on_err c.from_residual-in_err-computed.result _ bound
+    let kept : c.args.meter.now ≤ c.compute_level.new.meter = omega (arith, inv.counted, c.in_err-computed.ensures.refused.0) in
+    let bound : c.compute_level.new.meter ≤ c.args.meter.now + length (touched (g.O.StageOps.step c.args.ops.now c.args.graph.now.mode) c.args.old.now.places c.args.graph.now.places (λ place. is_among place c.args.edited.now)) = omega (arith, inv.counted, c.in_err-computed.ensures.refused.1, room) in
+    on_err c.from_residual-in_err-computed.result _ (kept, bound)
 
 pub returns-in_err-mark_level-clause-refused : goal.returns-in_err-mark_level-clause-refused
 returns-in_err-mark_level-clause-refused g c =
@@ -138,8 +140,9 @@ returns-in_err-mark_level-clause-refused g c =
     let edit = ranked_change c.args.old.now c.args.graph.now (λ place. is_among place c.args.edited.now) c.requires.old_ranked c.requires.ranked c.requires.sound c.requires.change in
     let one = level_of stages c.loop-alloc.marks c.take_level.new.self c.in_ok-taken.taken.items c.as_slice-level.result.now c.as_slice-level.ensures.value (c.in_ok-taken.ensures.level (rank stages) inv.marks) in
     let room = level_touched law edit inv.progress one in
+    let kept : c.args.meter.now ≤ c.compute_level.new.meter = omega (arith, inv.counted, c.in_ok-computed.ensures.counted) in
     let bound : c.compute_level.new.meter ≤ c.args.meter.now + length (touched (g.O.StageOps.step c.args.ops.now c.args.graph.now.mode) c.args.old.now.places c.args.graph.now.places (λ place. is_among place c.args.edited.now)) = omega (arith, inv.counted, c.in_ok-computed.ensures.counted, room) in
-    on_err c.from_residual-in_err-mark_level.result _ bound
+    on_err c.from_residual-in_err-mark_level.result _ (kept, bound)
 
 pub returns-in_err-write_level-clause-refused : goal.returns-in_err-write_level-clause-refused
 returns-in_err-write_level-clause-refused g c =
@@ -149,8 +152,9 @@ returns-in_err-write_level-clause-refused g c =
     let edit = ranked_change c.args.old.now c.args.graph.now (λ place. is_among place c.args.edited.now) c.requires.old_ranked c.requires.ranked c.requires.sound c.requires.change in
     let one = level_of stages c.loop-alloc.marks c.take_level.new.self c.in_ok-taken.taken.items c.as_slice-level.result.now c.as_slice-level.ensures.value (c.in_ok-taken.ensures.level (rank stages) inv.marks) in
     let room = level_touched law edit inv.progress one in
+    let kept : c.args.meter.now ≤ c.compute_level.new.meter = omega (arith, inv.counted, c.in_ok-computed.ensures.counted) in
     let bound : c.compute_level.new.meter ≤ c.args.meter.now + length (touched (g.O.StageOps.step c.args.ops.now c.args.graph.now.mode) c.args.old.now.places c.args.graph.now.places (λ place. is_among place c.args.edited.now)) = omega (arith, inv.counted, c.in_ok-computed.ensures.counted, room) in
-    on_err c.from_residual-in_err-write_level.result _ bound
+    on_err c.from_residual-in_err-write_level.result _ (kept, bound)
 
 pub returns-in_err-extend_from_slice-clause-refused : goal.returns-in_err-extend_from_slice-clause-refused
 returns-in_err-extend_from_slice-clause-refused g c =
@@ -160,8 +164,9 @@ returns-in_err-extend_from_slice-clause-refused g c =
     let edit = ranked_change c.args.old.now c.args.graph.now (λ place. is_among place c.args.edited.now) c.requires.old_ranked c.requires.ranked c.requires.sound c.requires.change in
     let one = level_of stages c.loop-alloc.marks c.take_level.new.self c.in_ok-taken.taken.items c.as_slice-level.result.now c.as_slice-level.ensures.value (c.in_ok-taken.ensures.level (rank stages) inv.marks) in
     let room = level_touched law edit inv.progress one in
+    let kept : c.args.meter.now ≤ c.compute_level.new.meter = omega (arith, inv.counted, c.in_ok-computed.ensures.counted) in
     let bound : c.compute_level.new.meter ≤ c.args.meter.now + length (touched (g.O.StageOps.step c.args.ops.now c.args.graph.now.mode) c.args.old.now.places c.args.graph.now.places (λ place. is_among place c.args.edited.now)) = omega (arith, inv.counted, c.in_ok-computed.ensures.counted, room) in
-    on_err c.from_residual-in_err-extend_from_slice.result _ bound
+    on_err c.from_residual-in_err-extend_from_slice.result _ (kept, bound)
 
 pub loop-alloc-smaller : goal.loop-alloc-smaller
 loop-alloc-smaller g c =
