@@ -1,0 +1,1 @@
+"""What tools/try-program and tools/try-damaged are made of."""

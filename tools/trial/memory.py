@@ -1,0 +1,83 @@
+"""Runs of the program with too little address space."""
+import concurrent.futures
+import dataclasses
+import shlex
+import sys
+
+from .cases import FIRST_RUN, R, SCRIPTS, lines
+from .limits import chain_of, chain_report
+from .run import LANES, Case, refusals, run, shown
+
+WANTING = b"refused 90 Memory\n"
+# Becomes the program with so many kilobytes of address space. (A shell needs more than the program does.)
+BECOME = """import os, resource, sys
+resource.setrlimit(resource.RLIMIT_AS, (int(sys.argv[1]) * 1024,) * 2)
+os.execve(sys.argv[3], sys.argv[3:], dict(os.environ, **dict([sys.argv[2].split("=")])))"""
+# The loader's own start, after which the program is there.
+LOADED = "LD_TRACE_LOADED_OBJECTS=1"
+STAGES = 4096
+
+_, STEPS, ANSWERS = SCRIPTS[0]
+COMMANDS = [
+    Case("report", ["report", "r.json"], FIRST_RUN, files={"r.json": R}),
+    Case("report of standard input", ["report"], FIRST_RUN, stdin=R),
+    Case("report of 4,096 stages", ["report", "large"], chain_report(STAGES), files={"large": chain_of(STAGES)}),
+    Case("serve", ["serve", "r.json"], ANSWERS, files={"r.json": R}, stdin=lines(*STEPS)),
+    Case("help", ["--help"], None),
+    Case("an unknown word", ["nonsense"], "", 2),
+    Case("many", ["many", "r.json", "s"], lines("script 1") + ANSWERS + lines("log 3"), files={"r.json": R, "s": lines(*STEPS)}),
+]
+
+
+def under(program, case, kilobytes, name="LANG=C.UTF-8"):
+    become = shlex.join([sys.executable, "-I", "-S", "-c", BECOME, str(kilobytes), name])
+    return run(program, dataclasses.replace(case, shell=f'set -- {become} "$@";'))
+
+
+def is_loaded(program, case, kilobytes):
+    """Whether the loader by itself gets on with so much."""
+    told = under(program, case, kilobytes, LOADED)
+    return told.status == 0
+
+
+def least(program, case, is_enough):
+    """The least number of kilobytes that is enough, by halves."""
+    low, high = 64, 1 << 21
+    while low + 4 < high:
+        middle = (low + high) // 2
+        low, high = (low, middle) if is_enough(program, case, middle) else (middle, high)
+    return high
+
+
+def complaint(answer, ordinary):
+    """The ordinary answer is right, and so is a beginning of it with the line that memory is wanting."""
+    if answer[:2] == ordinary[:2]:
+        return ""
+    begun = answer.out[: -len(WANTING)]
+    if answer.status == 4 and answer.out.endswith(WANTING) and ordinary.out.startswith(begun):
+        return ""
+    return f"wanted status 4 and {shown(WANTING)}, or the ordinary answer; came {answer.status} and {shown(answer.out)}; standard error: {shown(answer.err)}"
+
+
+def sweep(program, case, steps):
+    """Runs between what the loader needs and what the ordinary answer needs; the complaints, and the refusals that came."""
+    ordinary = run(program, case)
+    begin = least(program, case, is_loaded)
+    end = least(program, case, lambda *it: under(*it)[:2] == ordinary[:2])
+    met = set()
+    for at in range(steps):
+        kilobytes = begin + (max(end - begin, 0) + 64) * at // steps
+        answer = under(program, case, kilobytes)
+        met |= refusals(answer.out)
+        said = complaint(answer, ordinary)
+        if said:
+            return f"with {kilobytes} KB of address space (the loader takes {begin}, the answer {end}): {said}", met
+    return "", met
+
+
+def memory(program, has_many, steps=24):
+    """Each command's name, its first complaint or nothing, and the refusals that came."""
+    tried = [it for it in COMMANDS if has_many or it.words[0] != "many"]
+    with concurrent.futures.ThreadPoolExecutor(LANES) as lanes:
+        for case, (said, met) in zip(tried, lanes.map(lambda it: sweep(program, it, steps), tried)):
+            yield f"too little address space: {case.name}", said, met
