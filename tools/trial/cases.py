@@ -8,12 +8,12 @@ from .run import CLOSED, Case, File, Pieces, Shut
 
 # The refusals that the program can print. Each has a case in which it is wanted, or the trial fails.
 PRINTED = [*range(10, 22), 41, *range(50, 56), 57, 58, 70, 71, 72, 90]
-# Those that it can't, and why.
+# Those that needn't come, or can't, and why.
+SELDOM_PRINTED = {35: "only where no thread can be started; scripts may then be run one after another instead"}
 NEVER_PRINTED = {
     1: "stands inside 20",
     2: "stands inside 20",
     30: "an edit that takes more than 65,536 places is refused before, by 15",
-    35: "only where no thread can be started; scripts are then run one after another where that does as well",
     40: "what can't be written isn't written",
     56: "each base is looked up in the one table that the program has",
     60: "each client is given back when its script has ended",

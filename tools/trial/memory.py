@@ -9,6 +9,7 @@ from .limits import chain_of, chain_report
 from .run import LANES, Case, refusals, run, shown
 
 WANTING = b"refused 90 Memory\n"
+NO_THREAD = b"refused 35 NoThread\n"
 # Becomes the program with so many kilobytes of address space. (A shell needs more than the program does.)
 BECOME = """import os, resource, sys
 resource.setrlimit(resource.RLIMIT_AS, (int(sys.argv[1]) * 1024,) * 2)
@@ -49,13 +50,13 @@ def least(program, case, is_enough):
     return high
 
 
-def complaint(answer, ordinary):
-    """The ordinary answer is right, and so is a beginning of it with the line that memory is wanting."""
+def complaint(case, answer, ordinary):
+    """The ordinary answer is right, and so is a beginning of it with the line that memory is wanting, or with several scripts a thread."""
     if answer[:2] == ordinary[:2]:
         return ""
-    begun = answer.out[: -len(WANTING)]
-    if answer.status == 4 and answer.out.endswith(WANTING) and ordinary.out.startswith(begun):
-        return ""
+    for last in (WANTING, NO_THREAD) if case.words[0] == "many" else (WANTING,):
+        if answer.status == 4 and answer.out.endswith(last) and ordinary.out.startswith(answer.out[: -len(last)]):
+            return ""
     return f"wanted status 4 and {shown(WANTING)}, or the ordinary answer; came {answer.status} and {shown(answer.out)}; standard error: {shown(answer.err)}"
 
 
@@ -69,7 +70,7 @@ def sweep(program, case, steps):
         kilobytes = begin + (max(end - begin, 0) + 64) * at // steps
         answer = under(program, case, kilobytes)
         met |= refusals(answer.out)
-        said = complaint(answer, ordinary)
+        said = complaint(case, answer, ordinary)
         if said:
             return f"with {kilobytes} KB of address space (the loader takes {begin}, the answer {end}): {said}", met
     return "", met

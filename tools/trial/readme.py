@@ -3,7 +3,7 @@ import glob
 import os
 import re
 
-from .run import Case, as_bytes, refusals, run, shown
+from .run import Case
 
 COMMAND = re.compile(r"\./whatif (report|serve) (examples/\S+?\.json)(?: < (examples/\S+?\.script))?(?=[\s`])")
 BLOCK = re.compile(r"^```(\w*)\n(.*?)^```$", re.M | re.S)
@@ -14,43 +14,56 @@ def read(top, name):
         return file.read()
 
 
-def shown_runs(text):
-    """Each command that the page names and the blocks that follow it up to the next command."""
-    marks = sorted([(it.start(), "command", it.groups()) for it in COMMAND.finditer(text)] + [(it.start(), it[1], it[2]) for it in BLOCK.finditer(text)])
+def shown_runs(page):
+    """Each command that the page names, and the blocks without a language that follow it up to the next command."""
+    marks = [(it.start(), None, it.groups()) for it in COMMAND.finditer(page)]
+    marks += [(it.start(), it[1], it[2]) for it in BLOCK.finditer(page)]
     runs = []
-    for _, kind, what in marks:
-        if kind == "command":
+    for _, language, what in sorted(marks, key=lambda it: it[0]):
+        if language is None:
             runs.append((what, []))
-        elif not kind and runs:
+        elif not language and runs:
             runs[-1][1].append(what)
-    return [(command, blocks) for command, blocks in runs if blocks]
+    return [it for it in runs if it[1]]
 
 
-def told(top, command, blocks):
-    """The cases of one command on the page: a report as it is, or steps and their answers in turn."""
-    words, file, script = command
-    files = {os.path.basename(file): read(top, file)}
-    name = f"README: {words} {file}"
-    if words == "report":
-        return [Case(name, ["report", os.path.basename(file)], it, files=files) for it in blocks]
+def shown_case(top, command, blocks):
+    """A report as it is; or steps and their answers in turn; or answers alone, which are somewhere in those to the whole script."""
+    words, path, script = command
+    name = os.path.basename(path)
+    how = {"files": {name: read(top, path)}}
     rows = "".join(blocks).splitlines(keepends=True)
-    steps, answers = [it for it in rows if it.startswith("{")], [it for it in rows if not it.startswith("{")]
-    cases = [Case(name, ["serve", os.path.basename(file)], "".join(answers), files=files, stdin="".join(steps))]
-    if script:
-        strange = [it for it in steps if it not in read(top, script).splitlines(keepends=True)]
-        cases.append(Case(f"{name}: {len(strange)} of its steps are not in {script}", ["--help"], None, 0 if not strange else -1))
-    return cases
+    steps = [it for it in rows if it.startswith("{")]
+    out = "".join(it for it in rows if not it.startswith("{"))
+    if words == "serve" and steps:
+        how["stdin"] = "".join(steps)
+    elif script:
+        how["stdin"] = read(top, script)
+        out = re.compile(b"(?s).*" + b".*".join(re.escape(it.encode()) for it in blocks) + b".*")
+    return Case(f"README: {words} {path}", [words, name], out, **how)
 
 
-def readme(top):
+def readme_cases(top):
     """What the page shows, and each example taken by the program."""
-    cases = [case for command, blocks in shown_runs(read(top, "README.md")) for case in told(top, command, blocks)]
+    cases = [shown_case(top, command, blocks) for command, blocks in shown_runs(read(top, "README.md"))]
     for path in sorted(glob.glob(os.path.join(top, "examples", "*.json"))):
         name = os.path.basename(path)
-        files, script = {name: read(top, path)}, path.removesuffix("json") + "script"
-        if f"examples/{name}" not in read(top, "README.md"):
-            cases.append(Case(f"README names examples/{name}", ["--help"], None, -1))
+        files = {name: read(top, path)}
         cases.append(Case(f"examples/{name} is taken", ["report", name], re.compile(rb"version 0 parent - (.*\n)*"), files=files))
+        script = path.removesuffix("json") + "script"
         if os.path.exists(script):
             cases.append(Case(f"the script of examples/{name} is answered", ["serve", name], re.compile(rb"opened (.*\n)*"), files=files, stdin=read(top, script)))
     return cases
+
+
+def told_apart(top):
+    """Where the page and the examples differ: the name of each check, its complaint or nothing, and no refusal."""
+    page = read(top, "README.md")
+    examples = [f"examples/{os.path.basename(it)}" for it in sorted(glob.glob(os.path.join(top, "examples", "*")))]
+    unnamed = [it for it in examples if it not in page]
+    yield "README names each example", f"it doesn't name {', '.join(unnamed)}" if unnamed else "", set()
+    for (_, _, script), blocks in shown_runs(page):
+        if script:
+            steps = read(top, script).splitlines()
+            strange = [it for it in "".join(blocks).splitlines() if it.startswith("{") and it not in steps]
+            yield f"README: its steps are those of {script}", f"these are not: {strange}" if strange else "", set()

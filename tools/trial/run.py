@@ -60,6 +60,7 @@ class Shut:
 
 
 CLOSED = object()
+STARTING = threading.Lock()
 
 
 class Answer(NamedTuple):
@@ -137,29 +138,36 @@ def finish(child, case):
         return Answer(f"none after {case.seconds} s", out or b"", err or b"")
 
 
-def run(program, case):
-    """Runs the case in a folder of its own."""
+def start(program, case, folder):
+    """Starts the program in the folder."""
     closed = (" <&-" if case.stdin is CLOSED else "") + (" >&-" if case.stdout == "closed" else "")
-    with tempfile.TemporaryDirectory(prefix="try-program-") as folder:
-        os.chmod(folder, 0o755)
-        in_folder(case, folder)
-        who = {}
+    who, opened = {}, []
+    # (a child that is started meanwhile would hold what is open here, until it becomes another program)
+    with STARTING:
         if os.geteuid() == 0 and (case.nobody or any(isinstance(it, Shut) for it in case.files.values())):
             # (the folders above the program may be closed to others)
             program = shutil.copy(program, os.path.join(folder, "the-program"))
             os.chmod(program, 0o755)
             who = {"user": NOBODY, "group": NOBODY, "extra_groups": []}
         words = ["bash", "-c", f'ulimit -c 0; {case.shell} exec "$@"{closed}', "bash", program, *case.words]
-        opened = []
         try:
             given, taken = streams(case, folder, opened)
             how = {"stdin": given, "stdout": taken, "stderr": subprocess.PIPE, "cwd": folder, "start_new_session": True}
-            child = subprocess.Popen(words, **how, **who, env={"PATH": "/usr/local/bin:/usr/bin:/bin", "LANG": "C.UTF-8"})
-        except OSError as error:
-            return Answer(f"none: {error}", b"", b"")
+            return subprocess.Popen(words, **how, **who, env={"PATH": "/usr/local/bin:/usr/bin:/bin", "LANG": "C.UTF-8"})
         finally:
             for it in opened:
                 os.close(it)
+
+
+def run(program, case):
+    """Runs the case in a folder of its own."""
+    with tempfile.TemporaryDirectory(prefix="try-program-") as folder:
+        os.chmod(folder, 0o755)
+        in_folder(case, folder)
+        try:
+            child = start(program, case, folder)
+        except OSError as error:
+            return Answer(f"none: {error}", b"", b"")
         return finish(child, case)
 
 
