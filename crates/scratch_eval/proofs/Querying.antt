@@ -1,5 +1,5 @@
 -- Following blame from stage to stage, and looking for a stage among the feeds of each.
-use Rattle.std.proofs.Common.{ℕ, zero, suc, ◌+◌, ◌-◌, ◌<◌, ◌≤◌, ◌≡◌, Bool, true, false, cond, List, [], ◌∷◌, ◌++◌, length, Option, Some, None, Result, Ok, Err, refl, sym, ap, ◌∙◌, subst, arith, append_assoc, append-nil}
+use Rattle.std.proofs.Common.{ℕ, zero, suc, ◌+◌, ◌*◌, ◌^◌, ◌-◌, ◌<◌, ◌≤◌, ◌≡◌, Bool, true, false, cond, List, [], ◌∷◌, ◌++◌, length, Option, Some, None, Result, Ok, Err, refl, sym, ap, ◌∙◌, subst, arith, append_assoc, append-nil}
 use Rattle.std.proofs.Math.ListN.{get_or-map}
 use Rattle.std.specs.List.{range_with_len, filter}
 use Rattle.std.proofs.lemmas.List.{map-id}
@@ -21,14 +21,18 @@ use Rattle.stage_graph.specs.Plain.{feeds_of, feeds_at, feeds_of_place}
 use Rattle.stage_graph.specs.Walk.{Walk, IsRanked}
 use Rattle.stage_ops.specs.States.{seen_at, IsReadBy}
 use Rattle.stage_ops.specs.Evaluation.{on_states, at, ReadsDecide, BlamesRead}
-use Rattle.scratch_eval.proofs.Evaluating.{at_stage, read_is_feed}
+use Rattle.stage_graph.specs.Walk.{rank}
+use Rattle.stage_ops.specs.States.{seen_of, IsBy}
+use Rattle.stage_ops.specs.Java.{java_step}
+use Rattle.stage_ops.specs.JavaLaws.{java_reads_decide, java_soon, java_prompt}
+use Rattle.scratch_eval.proofs.Evaluating.{at_stage, read_is_feed, moments_follow_ranks, moments_follow_ranks_unqueued}
 use Rattle.scratch_eval.specs.declared.answers.Answer.{Answer}
 use Rattle.scratch_eval.specs.declared.fault.QueryFault.{QueryFault}
 use Rattle.scratch_eval.specs.declared.fault.QueryFault.TheVariants.{NoStage}
 use Rattle.act_expr.specs.declared.outcome.Mode.{Mode}
 use Rattle.stage_ops.specs.OneDuration.{sight_of}
 use Rattle.stage_ops.proofs.OneDurationLemmas.{same_at}
-use Rattle.scratch_eval.specs.Answers.{AreAnswers, TellOneDuration, answer_at, answer_for, state_of, states_of}
+use Rattle.scratch_eval.specs.Answers.{AreAnswers, TellOneDuration, StatesFollowRanks, answer_at, answer_for, state_of, states_of}
 use Rattle.scratch_eval.specs.Queries.{list_at, chain_at}
 use Rattle.scratch_eval.specs.Blame.{chain, chain_after, chain_of, chain_step, failure_of, followed}
 
@@ -143,6 +147,25 @@ module _ (step : Stage → (ℕ → Option Completion) → State) (graph : Plain
     of_stage None is = refl
     of_stage (Some stage) is = cc
 
+-- the state of an answer is that of the definitions
+answered : (step : Stage → (ℕ → Option Completion) → State) (places : List (Option Stage)) (answers : List (Option Answer)) → AreAnswers step places answers
+    → (place : ℕ) (answer : Answer) → answer_at answers place ≡ Some answer → answer.state ≡ at step places place
+answered step places answers are place answer some = of_stage (stage_at places place) (sym some ∙ are.answer place) where
+  of_stage : (here : Option Stage) → Some answer ≡ answer_for step places place here → answer.state ≡ at step places place
+  of_stage None is = cc
+  of_stage (Some stage) is = ap state_of is
+
+-- and it completes no later than its rank allows
+pub follows_ranks : (answers : List (Option Answer)) (place : ℕ) (answer : Answer) → answer_at answers place ≡ Some answer → StatesFollowRanks answers place answer.state
+follows_ranks answers place answer some = record {
+  bound = λ graph sound ranked are.
+      subst (λ state. IsBy (2 ^ 42 + rank graph.places place * 2 ^ 41) (seen_of state)) (sym (answered (java_step graph.mode) graph.places answers are place answer some))
+      (moments_follow_ranks (java_step graph.mode) (java_reads_decide graph.mode) (java_soon graph.mode) graph sound ranked place);
+  unqueued = λ graph sound ranked idle are.
+      subst (λ state. IsBy (2 ^ 41 + rank graph.places place * 2 ^ 40) (seen_of state)) (sym (answered (java_step graph.mode) graph.places answers are place answer some))
+      (moments_follow_ranks_unqueued (java_step graph.mode) (java_reads_decide graph.mode) (java_prompt graph.mode) graph sound ranked idle place);
+}
+
 -- chains that agree at the source that is blamed make one chain
 same_chain : (place : ℕ) (done : Option Done) (chains others : ℕ → List ℕ) → ((completion : Done) (source : ℕ) → done ≡ Some completion → completion.from ≡ Some source → chains source ≡ others source)
     → chain_of place done chains ≡ chain_of place done others
@@ -193,3 +216,24 @@ module _ (step : Stage → (ℕ → Option Completion) → State) (decide : Read
         → step_at [] (chain_step (at step graph.places)) (chain step graph.places) here ≡ chain_of place (at step graph.places place).done (chain step graph.places)
     unfolded None nothing = ap (λ (state : State). chain_of place state.done (chain step graph.places)) (sym (nothing_at step graph.places place nothing (length graph.places)))
     unfolded (Some stage) here = ap (λ place. chain_of place (at step graph.places place).done (chain step graph.places)) (sound.stages place stage here).own_place
+
+  -- chains that go on as the states say, from level to level
+  chains_agree : (chains : ℕ → List ℕ) → ((place : ℕ) → chains place ≡ chain_of place (at step graph.places place).done chains)
+      → (levels place : ℕ) → (Walk graph.places levels place → ⊥) → chains place ≡ from_feeds [] (chain_step (at step graph.places)) graph.places levels place
+  chains_agree chains goes zero place short =
+      let far : length graph.places ≤ place = omega arith in
+      goes place ∙ ap (λ (state : State). chain_of place state.done chains) (nothing_at step graph.places place (get_or_past graph.places place None far) (length graph.places))
+  chains_agree chains goes (suc levels) place short =
+      agrees_at (λ feed here. chains_agree chains goes levels feed (λ walk. short (feed, here, walk))) (stage_at graph.places place) refl where
+        agrees_at : ((feed : ℕ) → Contains (feeds_at graph.places place) feed → chains feed ≡ from_feeds [] (chain_step (at step graph.places)) graph.places levels feed)
+            → (here : Option Stage) → stage_at graph.places place ≡ here
+            → chains place ≡ step_at [] (chain_step (at step graph.places)) (from_feeds [] (chain_step (at step graph.places)) graph.places levels) here
+        agrees_at same None nothing = goes place ∙ ap (λ (state : State). chain_of place state.done chains) (nothing_at step graph.places place nothing (length graph.places))
+        agrees_at same (Some stage) here =
+            goes place
+            ∙ ap (λ place. chain_of place (at step graph.places place).done chains) (sym (sound.stages place stage here).own_place)
+            ∙ same_chains stage place here chains _ (λ feed among. same feed (subst (λ (feeds : List ℕ). Contains feeds feed) (sym (ap feeds_of_place here)) among))
+
+  -- chains that go on as the states say are those of the graph
+  pub chains_alone : (chains : ℕ → List ℕ) → ((place : ℕ) → chains place ≡ chain_of place (at step graph.places place).done chains) → (place : ℕ) → chain step graph.places place ≡ chains place
+  chains_alone chains goes place = sym (chains_agree chains goes (length graph.places) place (ranked place))

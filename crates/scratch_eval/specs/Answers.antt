@@ -83,3 +83,10 @@ abbrev pub TellOneDuration : (Stage → (ℕ → Option Completion) → State) �
 TellOneDuration step mode places answers =
     step ≡ java_step mode → NoneQueued places
     → (place : ℕ) → sight_of (state_at (states_of answers) place) ≡ once.at mode places place
+
+-- where these are the answers of a sound and ranked graph, by the operations of a completion stage, the state at the place completes no later than its rank allows, and sooner where no action is queued
+pub record StatesFollowRanks (answers : List (Option Answer)) (place : ℕ) (state : State) : Type 0 where
+  pub bound : (graph : PlainGraph) → IsSound graph → IsRanked graph.places → AreAnswers (java_step graph.mode) graph.places answers
+      → IsBy (2 ^ 42 + rank graph.places place * 2 ^ 41) (seen_of state)
+  pub unqueued : (graph : PlainGraph) → IsSound graph → IsRanked graph.places → NoneQueued graph.places → AreAnswers (java_step graph.mode) graph.places answers
+      → IsBy (2 ^ 41 + rank graph.places place * 2 ^ 40) (seen_of state)

@@ -1,5 +1,6 @@
 //! The answers of evaluation, by place.
 ghost use Rattle.std.specs.Prelude.{◌≡◌, ◌<◌, None, Some, length, slice_set, replicate, IfOk};
+ghost use Rattle.scratch_eval.specs.Answers.{StatesFollowRanks};
 
 use crate::fault::NoStage;
 use act_expr::Outcome;
@@ -106,9 +107,11 @@ impl Answers {
         }
     }
 
-    /// The state of a live stage.
+    /// The state of a live stage. Where the answers are those of a completion stage's graph, it completes no later than
+    /// its rank allows.
     pub fn state(&self, place: u32) -> Result<State, NoStage>
-        ensures { result ≡ told_state (answer_at self.now place) }
+        ensures state { result ≡ told_state (answer_at self.now place) }
+        ensures soon { IfOk result (StatesFollowRanks self.now place) }
     {
         match self.get(place) {
             Some(answer) => Ok(answer.state),

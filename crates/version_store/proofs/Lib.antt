@@ -1,2 +1,3 @@
 pub mod Blaming
 pub mod Telling
+pub mod Moments

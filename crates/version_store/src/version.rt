@@ -1,9 +1,10 @@
 //! Versions: a graph under its number.
-ghost use Rattle.std.specs.Prelude.{◌≡◌, None, Some, IfOk, MatchResult};
+ghost use Rattle.std.specs.Prelude.{◌≡◌, ◌+◌, ◌*◌, ◌^◌, ◌≤◌, None, Some, IfOk, IfSome, MatchResult};
 ghost use Rattle.stage_graph.specs.Plain.{place_named, stage_at, dependents, IsLive};
 ghost use Rattle.stage_graph.specs.Walk.{IsRanked, rank};
 ghost use Rattle.stage_ops.specs.Joins.{joined};
 ghost use Rattle.stage_ops.specs.Java.{java_step};
+ghost use Rattle.scratch_eval.specs.Answers.{NoneQueued};
 ghost use Rattle.scratch_eval.specs.Queries.{AnswersOrMemory, chain_at};
 ghost use Rattle.version_store.specs.Plain.{opening_version, numbered, parent_of};
 ghost use Rattle.version_store.specs.Queries.{state_of, told, found, outcome_in, moment_in, start_in, before, touched_in, touched_of};
@@ -150,8 +151,19 @@ impl<R: StateRepresentation> Version<R> {
         })
     }
 
-    /// The tick at which the stage at a place completed; none while it is pending.
+    /// The tick at which the stage at a place completed; none while it is pending. It is 2^42 at most, and 2^41 more for
+    /// each rank; where no action is queued, it is half of that at most.
     pub fn moment(&self, place: u32) -> Result<Option<u64>, NoStage>
+        ensures moment { result ≡ told self.now.graph place (moment_in (state_of self.now.graph place)) }
+        ensures bound { IfOk result (λ moment. IfSome moment (λ tick. tick ≤ 2 ^ 42 + rank self.now.graph.places place * 2 ^ 41)) }
+        ensures unqueued { NoneQueued self.now.graph.places → IfOk result (λ moment. IfSome moment (λ tick. tick ≤ 2 ^ 41 + rank self.now.graph.places place * 2 ^ 40)) }
+    {
+        let _ = self.graph().len();
+        self.completed(place)
+    }
+
+    /// The tick at which the stage at a place completed.
+    fn completed(&self, place: u32) -> Result<Option<u64>, NoStage>
         ensures { result ≡ told self.now.graph place (moment_in (state_of self.now.graph place)) }
     {
         let state = self.state(place)?;

@@ -1,0 +1,6 @@
+use Rattle.std.proofs.Common.{sym, ◌∙◌}
+use Rattle.scratch_eval.proofs.Querying.{follows_ranks}
+use Rattle.scratch_eval.proofs.answers.Answers.state.Goals as goal
+
+pub returns-in-Some-clause-soon : goal.returns-in-Some-clause-soon
+returns-in-Some-clause-soon c = follows_ranks c.args.self.now c.args.place c.in-Some.answer (sym c.get.ensures ∙ c.in-Some.is)
