@@ -1,7 +1,7 @@
 -- Where the events of a run lead.
 use Rattle.std.proofs.Common.{◌≡◌, ℕ, zero, suc, ◌+◌, ◌==◌, ◌^◌, Bool, true, false, not, ◌&&◌, nat_le, nat_lt, ◌⊎◌, inl, inr, if◌then◌else◌, List, [], ◌∷◌, ◌++◌, length, take, Option, Some, None, is_some, slice_get, Ok, Err, refl, ap, sym, subst, ◌∙◌, arith}
 use Rattle.std.proofs.lemmas.Bool.Decides.{nat_tests}
-use Rattle.std.specs.Prelude.{Result}
+use Rattle.std.specs.Prelude.{Result, IfSome}
 use Rattle.std.specs.Option.{option_map}
 use Rattle.std.specs.Ordering.{nat_cmp}
 use Rattle.std.specs.BTreeMap.{is_at}
@@ -16,7 +16,7 @@ use Rattle.stage_ops.specs.Evaluation.{on_states}
 use Rattle.stage_ops.specs.Java.{java_step}
 use Rattle.stage_ops.specs.JavaLaws.{java_reads_decide, java_blames_read}
 use Rattle.scratch_eval.proofs.Evaluating.{asks_feeds, same_above}
-use Rattle.scratch_eval.proofs.Querying.{chains_follow}
+use Rattle.scratch_eval.proofs.Querying.{chains_follow, chains_alone}
 use Rattle.version_store.specs.Plain.{PlainVersion, opening_version}
 use Rattle.session_core.specs.declared.event.Event.{Event}
 use Rattle.session_core.specs.declared.event.Event.TheVariants.{Open, Head, Commit, Undo, Close}
@@ -29,7 +29,7 @@ use Rattle.session_core.specs.Machine.{State, Numbers, Booked, numbers_at, alone
 use Rattle.session_core.specs.TableView.{TableView}
 use Rattle.session_core.specs.Runs.{Runs}
 use Rattle.session_core.proofs.Runs.{replies_step}
-use Rattle.session_core.specs.Headline.{session_of, headed, without, after, led_to, IsEdited, IsInOrder, AreInOrder, IsMade, all_made, HasOneAnswer, LeadsTo}
+use Rattle.session_core.specs.Headline.{session_of, headed, without, after, led_to, IsEdited, IsInOrder, AreInOrder, IsMade, all_made, HasOneAnswer, LeadsTo, LeadsFromOpening}
 use Rattle.session_core.proofs.Cycles.{ranked_from_applied}
 use Rattle.session_core.proofs.Sound.{sound_from_applied}
 use Rattle.session_core.proofs.Making.{left, Making, one_making, still_made}
@@ -233,6 +233,7 @@ one_answer graph sound ranked = record {
   states = λ states meets place. sym (found_alone pending (on_states (java_step graph.mode)) graph.places (asks_feeds (java_step graph.mode) (java_reads_decide graph.mode)) ranked states meets place);
   ranks = λ ranks meets place. sym (found_alone 0 rank_step graph.places (λ stage inputs others same. same_above inputs others (feeds_of stage) same) ranked ranks meets place);
   chains = λ place. chains_follow (java_step graph.mode) (java_reads_decide graph.mode) (java_blames_read graph.mode) graph sound ranked place;
+  chains_alone = λ chains goes place. chains_alone (java_step graph.mode) (java_reads_decide graph.mode) (java_blames_read graph.mode) graph sound ranked chains goes place;
 }
 
 pub leads : (graph : PlainGraph) (most : ℕ) (events : List Event) (replies : List Reply) (t u : TableView) → IsSound graph → IsRanked graph.places → t.state ≡ opening (opening_version graph) most → Runs t events replies u
@@ -241,3 +242,11 @@ leads graph most events replies t u sound ranked opens is =
     let all : Led (opening (opening_version graph) most) events replies u.state = subst (λ (s : State). Led s events replies u.state) opens (led t events replies u (subst (λ (s : State). Sorted s.sessions) (sym opens) tt) is) in
     let versions : AreInOrder u.state.versions = all.versions (first_in_order graph sound ranked) in
     record { sessions = all.sessions; versions = versions; answers = λ k v is. let own = versions k v is in one_answer v.graph own.sound own.ranked; opening = all.stay 0 (opening_version graph) refl; committed = all.committed; numbers = λ i number h. let is = all.numbers i number h in omega (arith, is); count = let is = all.count in omega (arith, is) }
+
+-- a first version whose graph is sound and ranked is all that is asked of the opening
+pub leads_from_opening : (t u : TableView) (events : List Event) (replies : List Reply)
+    → IfSome (slice_get t.state.versions 0) (λ (version : PlainVersion). IsSound version.graph × IsRanked version.graph.places) → Runs t events replies u → LeadsFromOpening t events replies u
+leads_from_opening t u events replies first is graph most opens =
+    let own : IsSound graph × IsRanked graph.places =
+    subst (λ (s : State). IfSome (slice_get s.versions 0) (λ (version : PlainVersion). IsSound version.graph × IsRanked version.graph.places)) opens first in
+    leads graph most events replies t u own.0 own.1 opens is

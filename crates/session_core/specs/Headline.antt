@@ -13,7 +13,8 @@ use Rattle.version_store.specs.Plain.{Origin, PlainVersion, opening_version}
 use Rattle.scratch_eval.specs.Blame.{chain, chain_of}
 use Rattle.version_store.specs.Queries.{state_of}
 use Rattle.session_core.specs.Applied.{applied}
-use Rattle.session_core.specs.Machine.{State, Numbers, alone, with_head, numbers_at, from_base}
+use Rattle.session_core.specs.Machine.{State, Numbers, opening, alone, with_head, numbers_at, from_base}
+use Rattle.session_core.specs.TableView.{TableView}
 use Rattle.session_core.specs.declared.event.Event.{Event}
 use Rattle.session_core.specs.declared.event.Event.TheVariants.{Open, Head, Commit, Undo, Close}
 use Rattle.session_core.specs.declared.event.Reply.{Reply}
@@ -103,11 +104,13 @@ abbrev pub all_made : List Reply → ℕ
 all_made [] = 0
 all_made (reply ∷ replies) = made reply + all_made replies
 
--- whatever meets each stage's equation is what the graph answers: states by the operations on the states of the feeds, ranks by the ranks of the feeds; and a chain of blame goes on with the chain of the blamed source
+-- whatever meets each stage's equation is what the graph answers: states by the operations on the states of the feeds, ranks by the ranks of the feeds, and chains of blame, which go on with the chain of the blamed source
 pub record HasOneAnswer (graph : PlainGraph) : Type 0 where
   pub states : (states : ℕ → StageState) → MeetsEach pending (on_states (java_step graph.mode)) graph.places states → (place : ℕ) → state_of graph place ≡ states place
   pub ranks : (ranks : ℕ → ℕ) → MeetsEach 0 rank_step graph.places ranks → (place : ℕ) → rank graph.places place ≡ ranks place
   pub chains : (place : ℕ) → chain (java_step graph.mode) graph.places place ≡ chain_of place (state_of graph place).done (chain (java_step graph.mode) graph.places)
+  pub chains_alone : (chains : ℕ → List ℕ) → ((place : ℕ) → chains place ≡ chain_of place (state_of graph place).done chains)
+      → (place : ℕ) → chain (java_step graph.mode) graph.places place ≡ chains place
 
 -- where the events lead, by the replies; the accepted commits make the versions 1, 2 and so on in turn, each by its own event, on the head that the events before it led its session to, and there are no others
 pub record LeadsTo (graph : PlainGraph) (events : List Event) (replies : List Reply) (t : State) : Type 0 where
@@ -118,3 +121,7 @@ pub record LeadsTo (graph : PlainGraph) (events : List Event) (replies : List Re
   pub committed : (i number : ℕ) → slice_get replies i ≡ Some (Committed number) → IsMade (slice_get events i) (λ session. led_to session (take i events) (take i replies) None) t.versions number
   pub numbers : (i number : ℕ) → slice_get replies i ≡ Some (Committed number) → number ≡ suc (all_made (take i replies))
   pub count : length t.versions ≡ suc (all_made replies)
+
+-- from a table at its opening state, the events and the replies to them lead there
+abbrev pub LeadsFromOpening : TableView → List Event → List Reply → TableView → Type 0
+LeadsFromOpening t events replies u = (graph : PlainGraph) (most : ℕ) → t.state ≡ opening (opening_version graph) most → LeadsTo graph events replies u.state

@@ -4,6 +4,7 @@ ghost use Rattle.session_core.specs.declared.event.Event.TheVariants.{Commit};
 ghost use Rattle.session_core.specs.declared.event.Reply.TheVariants.{Committed};
 ghost use Rattle.session_core.specs.declared.event.Reply.{Reply};
 ghost use Rattle.session_core.specs.Applied.{DraftsOrRefuses};
+ghost use Rattle.session_core.specs.Headline.{LeadsFromOpening};
 ghost use Rattle.session_core.specs.Runs.{Replies, Runs, TakesOrStays};
 ghost use Rattle.session_core.specs.TableView.{IsSame, reply_of};
 
@@ -25,6 +26,8 @@ struct OneCommit;
 /// first, so that 52 and the refusals of the edits come before 51, 53 and 55, and have no entry in the history. Where
 /// memory is wanting for an event, its reply is refused by 90, and the others are taken all the same. An error comes
 /// before the first event.
+///
+/// From a table at its opening state they lead to what [`crate::every_list_of_steps`] says.
 pub fn run<R: StateRepresentation, W: Runner>(
     alloc: Global,
     table: &mut Table<R>,
@@ -33,9 +36,11 @@ pub fn run<R: StateRepresentation, W: Runner>(
     replies: &mut Vec<Reply>,
 ) -> Result<(), AllocError>
     ensures ran { IfOk result (λ _. (given : List Reply) × (replies.new.items ≡ replies.old.items ++ given) × Runs table.old events.now given table.new) }
+    ensures leads { IfOk result (λ _. (given : List Reply) × (replies.new.items ≡ replies.old.items ++ given) × LeadsFromOpening table.old events.now given table.new) }
     ensures kept { OnErr result (IsSame table.old table.new × (replies.new.items ≡ replies.old.items)) }
 {
     replies.reserve(events.len())?;
+    table.beginning();
     for event in events {
         let reply = table.take(alloc, event, runner);
         replies.push_reserved(reply);

@@ -1,5 +1,7 @@
 //! The table: versions, sessions and the history, one call for each event.
-ghost use Rattle.std.specs.Prelude.{◌≡◌, ◌≤◌, ◌^◌, [], IfOk, slice_get, MatchResult, None, Some};
+ghost use Rattle.std.specs.Prelude.{◌≡◌, ◌≤◌, ◌^◌, [], IfOk, IfSome, slice_get, MatchResult, None, Some};
+ghost use Rattle.stage_graph.specs.Sound.{IsSound};
+ghost use Rattle.stage_graph.specs.Walk.{IsRanked};
 ghost use Rattle.version_store.specs.Plain.{opening_version};
 ghost use Rattle.session_core.specs.Adding.{IsOfState};
 ghost use Rattle.session_core.specs.Kept.{StandAtVersions};
@@ -250,6 +252,16 @@ impl<R: StateRepresentation> Table<R> {
             Some(version) => Ok(version),
             None => Err(Refusal::plain(NO_VERSION)),
         }
+    }
+
+    /// The graph of version 0 is sound and has no cycle, as every version's is.
+    pub(crate) fn beginning(&self)
+        ensures { IfSome (slice_get self.now.state.versions 0) (λ version. IsSound version.graph × IsRanked version.graph.places) }
+    {
+        let Ok(first) = self.version(0) else {
+            return;
+        };
+        let _ = first.graph().len();
     }
 
     /// What was asked and answered, in order.

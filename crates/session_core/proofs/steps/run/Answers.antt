@@ -1,10 +1,11 @@
 use Rattle.std.proofs.Common.{rules, ◌≡◌, ◌+◌, ◌-◌, ◌≤◌, ◌<◌, ◌++◌, ◌∷◌, [], List, length, take, vec_len, get_or, suc, ap, sym, subst, ◌∙◌, arith}
 use Rattle.std.specs.Vec.{vec_capacity}
 use Rattle.std.proofs.Math.Seq.{take-suc}
-use Rattle.std.proofs.lemmas.List.{append_assoc}
+use Rattle.std.proofs.lemmas.List.{append_assoc, take_all}
 use Rattle.session_core.specs.declared.event.Event.{Event}
 use Rattle.session_core.specs.declared.event.Reply.{Reply}
 use Rattle.session_core.specs.Runs.{Runs}
+use Rattle.session_core.proofs.Leads.{leads_from_opening}
 use Rattle.session_core.proofs.Runs.{Runs-snoc}
 use Rattle.session_core.proofs.steps.run.Goals as goal
 
@@ -26,3 +27,10 @@ loop-event-preserved g c =
       ),
       room,
     )
+
+pub returns-clause-leads : goal.returns-clause-leads
+returns-clause-leads g c =
+    let given = c.loop-event.invariant.0.0 in
+    let runs : Runs c.args.table.now c.args.events.now given c.loop-event.table =
+    subst (λ (es : List Event). Runs c.args.table.now es given c.loop-event.table) (take_all c.loop-event.event-index c.args.events.now c.loop-event-test.false) c.loop-event.invariant.0.2 in
+    (given, c.loop-event.invariant.0.1, leads_from_opening c.args.table.now c.loop-event.table c.args.events.now given c.beginning.ensures runs)
