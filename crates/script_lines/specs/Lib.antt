@@ -1,4 +1,5 @@
 pub mod Faults
+pub mod LineReader
 pub mod Lines
 pub mod PartialLine
 pub mod Seen

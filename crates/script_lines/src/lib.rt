@@ -3,8 +3,10 @@
 
 mod fault;
 mod line;
+mod line_reader;
 mod partial_line;
 
 pub use fault::{AnswerFault, ServeFault};
 pub use line::Line;
+pub use line_reader::LineReader;
 pub use partial_line::{PartialLine, split_line};

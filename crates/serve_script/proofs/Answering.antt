@@ -6,6 +6,7 @@ use Rattle.text_io.proofs.Written.{AppendsPrefix-after, AppendsPrefix-longer}
 use Rattle.std.proofs.KnownBytes.{Appends-trans}
 use Rattle.script_lines.specs.Lines.{ScriptLine}
 use Rattle.stage_graph.specs.declared.edit.Edit.{Edit}
+use Rattle.version_store.specs.Plain.{PlainVersion}
 use Rattle.session_core.specs.Machine.{State, step}
 use Rattle.session_core.specs.declared.event.Event.{Event}
 use Rattle.session_core.specs.declared.event.Event.TheVariants.{Head, Commit}
@@ -17,7 +18,7 @@ use Rattle.recording.specs.declared.fault.Fault.{Fault}
 use Rattle.recording.specs.declared.fault.Fault.TheVariants.{Memory}
 use Rattle.recording.specs.declared.fault.Fault.TheVariants as fault
 use Rattle.recording.specs.declared.step.Step.{Step}
-use Rattle.serve_script.specs.Replies.{reply_line}
+use Rattle.serve_script.specs.Replies.{base_in, reply_line}
 
 -- ---- one line
 
@@ -52,8 +53,17 @@ fault_read fault.ListSize meant read none = read
 -- ---- the reply to an event
 
 pub event_told : (s t : State) (event : Event) (listed : Bool) (reply : Reply) → step s event ≡ Some (reply, t)
-    → answer_event s event listed ≡ answered (reply_line t event listed reply) t
+    → answer_event s event listed ≡ answered (reply_line (base_in t event) event listed reply) t
 event_told s t event listed reply is = ap (told s event listed) is
+
+-- a part of the reply's line
+pub reply_part : (s t : State) (event : Event) (listed : Bool) (reply : Reply) (bytes line clear : List ℕ) (base : Option PlainVersion) (a b : Option (List ℕ))
+    → bytes ≡ line → line ≡ clear ++ reply_line base event listed reply → clear ≡ [] → base ≡ base_in s event → s ≡ t
+    → AppendsPrefix a b bytes → AppendsPrefix a b (reply_line (base_in t event) event listed reply)
+reply_part s t event listed reply bytes line clear base a b is pushed none of_event same part =
+    subst (AppendsPrefix a b)
+    (is ∙ pushed ∙ ap (λ l. l ++ reply_line base event listed reply) none ∙ ap (λ o. reply_line o event listed reply) (of_event ∙ ap (λ u. base_in u event) same))
+    part
 
 -- ---- the reply to edits of the head
 
@@ -63,7 +73,7 @@ head_edited s t session base edits given listed reply is at same =
     ap (after_head session edits listed s) is ∙ ap (on_head session edits listed t) at ∙ ap (λ e. answer_event t (Commit session base e) listed) (sym same)
 
 other_reply : (session : ℕ) (edits : List Edit) (listed : Bool) (t : State) (reply : Reply) → ((base : ℕ) → reply ≡ At base → ⊥)
-    → on_head session edits listed t reply ≡ answered (reply_line t (Head session) listed reply) t
+    → on_head session edits listed t reply ≡ answered (reply_line None (Head session) listed reply) t
 other_reply session edits listed t (At base) none = absurd (none base refl)
 other_reply session edits listed t (Opened version) none = refl
 other_reply session edits listed t (Committed version) none = refl
@@ -72,7 +82,7 @@ other_reply session edits listed t Closed none = refl
 other_reply session edits listed t (Refused refusal) none = refl
 
 pub head_refused : (s t : State) (session : ℕ) (edits : List Edit) (listed : Bool) (reply : Reply) → step s (Head session) ≡ Some (reply, t) → ((base : ℕ) → reply ≡ At base → ⊥)
-    → answer_head s session edits listed ≡ answered (reply_line t (Head session) listed reply) t
+    → answer_head s session edits listed ≡ answered (reply_line None (Head session) listed reply) t
 head_refused s t session edits listed reply is none = ap (after_head session edits listed s) is ∙ other_reply session edits listed t reply none
 
 -- ---- parts of answers

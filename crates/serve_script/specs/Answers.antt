@@ -24,7 +24,7 @@ use Rattle.session_core.specs.declared.event.Event.{Event}
 use Rattle.session_core.specs.declared.event.Event.TheVariants as event
 use Rattle.session_core.specs.declared.event.Reply.{Reply}
 use Rattle.session_core.specs.declared.event.Reply.TheVariants as replied
-use Rattle.serve_script.specs.Replies.{reply_line}
+use Rattle.serve_script.specs.Replies.{base_in, reply_line}
 
 -- what is written in answer, and the state after it
 abbrev pub Answered : Type 0
@@ -38,7 +38,7 @@ answered text s = (text, s)
 -- the printed reply, if the machine has one
 abbrev pub told : State → Event → Bool → Booked → Answered
 told s event listed None = ([], s)
-told s event listed (Some booked) = (reply_line booked.1 event listed booked.0, booked.1)
+told s event listed (Some booked) = (reply_line (base_in booked.1 event) event listed booked.0, booked.1)
 
 abbrev pub answer_event : State → Event → Bool → Answered
 answer_event s event listed = told s event listed (step s event)
@@ -46,7 +46,7 @@ answer_event s event listed = told s event listed (step s event)
 -- edits of the version at which the session stands; where no session stands there, the refusal is told
 abbrev pub on_head : ℕ → List Edit → Bool → State → Reply → Answered
 on_head session edits listed t (replied.At base) = answer_event t (event.Commit session base edits) listed
-on_head session edits listed t reply = (reply_line t (event.Head session) listed reply, t)
+on_head session edits listed t reply = (reply_line None (event.Head session) listed reply, t)
 
 abbrev pub after_head : ℕ → List Edit → Bool → State → Booked → Answered
 after_head session edits listed s None = ([], s)

@@ -56,17 +56,17 @@ abbrev pub name_after : Option PlainVersion → List Edit → ℕ → List ℕ
 name_after None edits place = []
 name_after (Some version) edits place = name_of_user version.graph.places edits place
 
--- the name of a stage of the graph that a commit edits, or of one that it adds
-abbrev pub user_name : State → Event → ℕ → List ℕ
-user_name s (Commit session base edits) place = name_after (slice_get s.versions base) edits place
-user_name s others place = []
+-- the name of a stage of the graph that a commit edits, or of one that it adds; the base is the version whose graph that is
+abbrev pub user_name : Option PlainVersion → Event → ℕ → List ℕ
+user_name base (Commit session number edits) place = name_after base edits place
+user_name base others place = []
 
 -- ---- lines
 
 -- the dependent of a stage in use, the session's head, or the number of another graph's version
-abbrev pub detail_text : State → Event → Refusal → List ℕ
-detail_text s event refusal =
-    if refusal.number == 18 then codes " " ++ user_name s event refusal.detail else
+abbrev pub detail_text : Option PlainVersion → Event → Refusal → List ℕ
+detail_text base event refusal =
+    if refusal.number == 18 then codes " " ++ user_name base event refusal.detail else
     if (refusal.number == 53) || (refusal.number == 56) then codes " " ++ decimal refusal.detail else []
 
 -- the index of the refused edit, where the edits came as a list
@@ -76,15 +76,22 @@ index_text true None = []
 index_text false place = []
 
 -- refused NUMBER NAME DETAIL in INDEX
-abbrev pub refusal_text : State → Event → Bool → Refusal → List ℕ
-refusal_text s event listed refusal = codes "refused " ++ decimal refusal.number ++ codes " " ++ refusal_name refusal.number
-    ++ detail_text s event refusal ++ index_text listed refusal.place ++ line_end
+abbrev pub refusal_text : Option PlainVersion → Event → Bool → Refusal → List ℕ
+refusal_text base event listed refusal = codes "refused " ++ decimal refusal.number ++ codes " " ++ refusal_name refusal.number
+    ++ detail_text base event refusal ++ index_text listed refusal.place ++ line_end
 
--- the line of the reply to an event
-abbrev pub reply_line : State → Event → Bool → Reply → List ℕ
-reply_line s event listed (Opened version) = codes "opened " ++ decimal (session_of event) ++ codes " at " ++ decimal version ++ line_end
-reply_line s event listed (At version) = codes "head " ++ decimal version ++ line_end
-reply_line s event listed (Committed version) = codes "committed " ++ decimal version ++ line_end
-reply_line s event listed (Undone version) = codes "undone " ++ decimal version ++ line_end
-reply_line s event listed Closed = codes "closed " ++ decimal (session_of event) ++ line_end
-reply_line s event listed (Refused refusal) = refusal_text s event listed refusal
+-- the line of the reply to an event, which is of this base if it is a commit
+abbrev pub reply_line : Option PlainVersion → Event → Bool → Reply → List ℕ
+reply_line base event listed (Opened version) = codes "opened " ++ decimal (session_of event) ++ codes " at " ++ decimal version ++ line_end
+reply_line base event listed (At version) = codes "head " ++ decimal version ++ line_end
+reply_line base event listed (Committed version) = codes "committed " ++ decimal version ++ line_end
+reply_line base event listed (Undone version) = codes "undone " ++ decimal version ++ line_end
+reply_line base event listed Closed = codes "closed " ++ decimal (session_of event) ++ line_end
+reply_line base event listed (Refused refusal) = refusal_text base event listed refusal
+
+-- ---- bases
+
+-- the version that a commit edits
+abbrev pub base_in : State → Event → Option PlainVersion
+base_in s (Commit session base edits) = slice_get s.versions base
+base_in s others = None

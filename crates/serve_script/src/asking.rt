@@ -38,7 +38,7 @@ pub(crate) fn answer_report<R: StateRepresentation, S: Sink>(
 }
 
 /// Writes the report of a version that is asked for.
-fn write_asked<R: StateRepresentation, S: Sink>(
+pub fn write_asked<R: StateRepresentation, S: Sink>(
     alloc: Global,
     version: &Version<R>,
     asked: &Asked,
@@ -76,7 +76,7 @@ fn write_report<R: StateRepresentation, S: Sink>(
 }
 
 /// Writes a text.
-fn write_text<S: Sink>(text: &[u8], sink: &mut S) -> Result<(), AnswerFault>
+pub fn write_text<S: Sink>(text: &[u8], sink: &mut S) -> Result<(), AnswerFault>
     requires { S.failures sink.old < 2 ^ 64 - 1 }
     ensures ok { OnOk result (Appends (S.held sink.old) (S.held sink.new) text.now) }
     ensures err { OnErr result (AppendsPrefix (S.held sink.old) (S.held sink.new) text.now) }

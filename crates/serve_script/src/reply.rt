@@ -2,24 +2,24 @@
 ghost use Rattle.std.specs.Prelude.{◌≡◌, ◌++◌, [], OnOk, string_bytes, option_copied, slice_index_or};
 ghost use Rattle.std.specs.List.{filter_map};
 ghost use Rattle.session_core.specs.Headline.{session_of};
-ghost use Rattle.serve_script.specs.Replies.{added_in, detail_text, index_text, name_of_user, refusal_name, refusal_text, reply_line, user_name};
+ghost use Rattle.serve_script.specs.Replies.{added_in, base_in, detail_text, index_text, name_of_user, refusal_name, refusal_text, reply_line, user_name};
 
 use session_core::{Event, Refusal, Reply, Table};
 use stage_graph::{Edit, Graph, Name};
 use std::alloc::AllocError;
 use std::fmt::Write;
-use version_store::StateRepresentation;
+use version_store::{StateRepresentation, Version};
 
 /// Puts the line of the reply to an event at the end of a text. `listed` says whether the edits of the event came as a list,
-/// so that a refusal tells the index of its edit.
-pub(crate) fn push_reply<R: StateRepresentation>(
+/// so that a refusal tells the index of its edit; `base` is the version that a commit edits.
+pub fn push_reply<R: StateRepresentation>(
     line: &mut String,
-    table: &Table<R>,
+    base: Option<&Version<R>>,
     event: &Event,
     listed: bool,
     reply: Reply,
 ) -> Result<(), AllocError>
-    ensures { OnOk result (string_bytes line.new ≡ string_bytes line.old ++ reply_line table.now.state event.now listed reply) }
+    ensures { OnOk result (string_bytes line.new ≡ string_bytes line.old ++ reply_line (option_copied base.entry) event.now listed reply) }
 {
     let session = session_of(event);
     match reply {
@@ -28,7 +28,20 @@ pub(crate) fn push_reply<R: StateRepresentation>(
         Reply::Committed(version) => writeln!(line, "committed {version}"),
         Reply::Undone(version) => writeln!(line, "undone {version}"),
         Reply::Closed => writeln!(line, "closed {session}"),
-        Reply::Refused(refusal) => push_refusal(line, table, event, listed, refusal),
+        Reply::Refused(refusal) => push_refusal(line, base, event, listed, refusal),
+    }
+}
+
+/// The version that a commit edits.
+pub(crate) fn base_of<'a, R: StateRepresentation>(
+    table: &'a Table<R>,
+    event: &Event,
+) -> Option<&'a Version<R>>
+    ensures { option_copied result ≡ base_in table.now.state event.now }
+{
+    match event {
+        Event::Commit { base, .. } => table.version(*base).ok(),
+        _ => None,
     }
 }
 
@@ -47,17 +60,17 @@ fn session_of(event: &Event) -> u32
 
 fn push_refusal<R: StateRepresentation>(
     line: &mut String,
-    table: &Table<R>,
+    base: Option<&Version<R>>,
     event: &Event,
     listed: bool,
     refusal: Refusal,
 ) -> Result<(), AllocError>
-    ensures { OnOk result (string_bytes line.new ≡ string_bytes line.old ++ refusal_text table.now.state event.now listed refusal) }
+    ensures { OnOk result (string_bytes line.new ≡ string_bytes line.old ++ refusal_text (option_copied base.entry) event.now listed refusal) }
 {
     let number = refusal.number;
     let name = refusal_name(number);
     write!(line, "refused {number} {name}")?;
-    push_detail(line, table, event, refusal)?;
+    push_detail(line, base, event, refusal)?;
     push_index(line, listed, refusal.place)?;
     line.push_str("\n")
 }
@@ -94,16 +107,16 @@ fn refusal_name(number: u32) -> &'static str
 // The dependent of a stage in use, by its name, and the number of a head or of a version.
 fn push_detail<R: StateRepresentation>(
     line: &mut String,
-    table: &Table<R>,
+    base: Option<&Version<R>>,
     event: &Event,
     refusal: Refusal,
 ) -> Result<(), AllocError>
-    ensures { OnOk result (string_bytes line.new ≡ string_bytes line.old ++ detail_text table.now.state event.now refusal) }
+    ensures { OnOk result (string_bytes line.new ≡ string_bytes line.old ++ detail_text (option_copied base.entry) event.now refusal) }
 {
     let detail = refusal.detail;
     match refusal.number {
         18 => {
-            let name = user_name(table, event, detail);
+            let name = user_name(base, event, detail);
             write!(line, " {name}")
         }
         53 | 56 => write!(line, " {detail}"),
@@ -122,17 +135,16 @@ fn push_index(line: &mut String, listed: bool, place: Option<u32>) -> Result<(),
 
 /// The name of the stage that takes a place in the graph of a commit's base, or after its edits.
 fn user_name<'a, R: StateRepresentation>(
-    table: &'a Table<R>,
+    base: Option<&'a Version<R>>,
     event: &'a Event,
     place: u32,
 ) -> &'a str
-    ensures { result.now ≡ user_name table.now.state event.now place }
+    ensures { result.now ≡ user_name (option_copied base.entry) event.now place }
 {
-    match event {
-        Event::Commit { base, edit, .. } => match table.version(*base) {
-            Ok(version) => name_of_user(version.graph(), edit.as_slice(), place),
-            Err(_) => "",
-        },
+    match (base, event) {
+        (Some(version), Event::Commit { edit, .. }) => {
+            name_of_user(version.graph(), edit.as_slice(), place)
+        }
         _ => "",
     }
 }

@@ -10,10 +10,10 @@ ghost use Rattle.recording.specs.declared.fault.Fault.{Fault};
 ghost use Rattle.recording.specs.declared.step.Step.{Step};
 ghost use Rattle.session_core.specs.Machine.{step};
 ghost use Rattle.serve_script.specs.Answers.{IsAnswered, answer_change, answer_event, answer_head, answer_named, answer_step, answered, answers_from, fault_line, opening_state};
-ghost use Rattle.serve_script.specs.Replies.{reply_line};
+ghost use Rattle.serve_script.specs.Replies.{base_in, reply_line};
 
 use crate::asking::answer_report;
-use crate::reply::push_reply;
+use crate::reply::{base_of, push_reply};
 use level_pool::Runner;
 use recording::{Fault, Step, read_step};
 use script_lines::{AnswerFault, Line};
@@ -146,12 +146,13 @@ impl<'a, R: StateRepresentation, W: Runner> Server<'a, R, W> {
         sink: &mut S,
     ) -> Result<(), AnswerFault>
         requires { S.failures sink.old < 2 ^ 64 - 1 }
-        ensures ok { OnOk result (IsAnswered (answered (reply_line self.old event.now listed reply) self.old) self.new (S.held sink.old) (S.held sink.new)) }
-        ensures err { OnErr result (AppendsPrefix (S.held sink.old) (S.held sink.new) (reply_line self.old event.now listed reply)) }
+        ensures ok { OnOk result (IsAnswered (answered (reply_line (base_in self.old event.now) event.now listed reply) self.old) self.new (S.held sink.old) (S.held sink.new)) }
+        ensures err { OnErr result (AppendsPrefix (S.held sink.old) (S.held sink.new) (reply_line (base_in self.old event.now) event.now listed reply)) }
         ensures failures { S.failures sink.new ≡ S.failures sink.old + failed_writes result }
     {
         self.line.clear();
-        push_reply(&mut self.line, &self.table, event, listed, reply)?;
+        let base = base_of(&self.table, event);
+        push_reply(&mut self.line, base, event, listed, reply)?;
         sink.write(self.line.as_bytes())?;
         Ok(())
     }
