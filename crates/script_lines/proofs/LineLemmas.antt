@@ -3,7 +3,7 @@ use Rattle.std.proofs.Common.{◌≡◌, ℕ, ◌+◌, ◌<◌, ◌≤◌, Bool,
 use Rattle.std.specs.List.{All, filter_map, slice_split, cons_option, AllByRecursion}
 use Rattle.std.proofs.lemmas.List.Splits.{slice_split_at, slice_split_none}
 use Rattle.std.proofs.lemmas.List.Elements.{All-append, recursion_from_All}
-use Rattle.script_lines.specs.Lines.{ScriptLine, kept, too_long, is_break, is_blank, line_in, lines_of, IsUnbroken, past_break, line_begun, lines_after}
+use Rattle.script_lines.specs.Lines.{ScriptLine, kept, too_long, is_break, is_blank, line_in, lines_of, IsBegun, IsUnbroken, past_break, line_begun, comes_after}
 
 -- what is unbroken and then ends is one line
 pub lines_of-end : (text bytes : List ℕ) (byte : ℕ) → IsUnbroken text → is_break byte ≡ true → lines_of (text ++ byte ∷ bytes) ≡ cons_option (line_in text) (lines_of bytes)
@@ -39,41 +39,43 @@ pub past_break-unbroken : (text bytes : List ℕ) → IsUnbroken text → past_b
 past_break-unbroken text bytes unbroken = past_break-by_recursion text bytes (recursion_from_All _ text unbroken)
 
 -- more of a line that is kept, of one that becomes too long, and of one that is too long
-pub lines_after-more : (text piece bytes : List ℕ) → lines_after false text (piece ++ bytes) ≡ lines_after false (text ++ piece) bytes
-lines_after-more text piece bytes = ap lines_of (sym (append_assoc text piece bytes))
+pub comes_after-more : (text piece bytes : List ℕ) → comes_after (Some text) (piece ++ bytes) ≡ comes_after (Some (text ++ piece)) bytes
+comes_after-more text piece bytes = ap lines_of (sym (append_assoc text piece bytes))
 
-pub lines_after-too_long : (text piece bytes : List ℕ) → IsUnbroken text → IsUnbroken piece → 65536 < length text + length piece
-    → lines_after false text (piece ++ bytes) ≡ lines_after true text bytes
-lines_after-too_long text piece bytes unbroken goes_on long =
-    lines_after-more text piece bytes ∙ lines_of-long bytes (text ++ piece) (All-append (λ b. is_break b ≡ false) text piece unbroken goes_on) (subst (λ n. 65536 < n) (sym (length-append text piece)) long)
+pub comes_after-too_long : (text piece bytes : List ℕ) → IsUnbroken text → IsUnbroken piece → 65536 < length text + length piece
+    → comes_after (Some text) (piece ++ bytes) ≡ comes_after None bytes
+comes_after-too_long text piece bytes unbroken goes_on long =
+    comes_after-more text piece bytes ∙ lines_of-long bytes (text ++ piece) (All-append (λ b. is_break b ≡ false) text piece unbroken goes_on) (subst (λ n. 65536 < n) (sym (length-append text piece)) long)
 
-pub lines_after-skipped : (text piece bytes : List ℕ) → IsUnbroken piece → lines_after true text (piece ++ bytes) ≡ lines_after true text bytes
-lines_after-skipped text piece bytes unbroken = ap (λ l. too_long ∷ lines_of l) (past_break-unbroken piece bytes unbroken)
+pub comes_after-skipped : (piece bytes : List ℕ) → IsUnbroken piece → comes_after None (piece ++ bytes) ≡ comes_after None bytes
+comes_after-skipped piece bytes unbroken = ap (λ l. too_long ∷ lines_of l) (past_break-unbroken piece bytes unbroken)
 
--- the same, where the buffer says which it is
-pub becomes_too_long : (was : Bool) (text piece bytes : List ℕ) → was ≡ false → IsUnbroken text → IsUnbroken piece → 65536 < length text + length piece
-    → lines_after was text (piece ++ bytes) ≡ lines_after true text bytes
-becomes_too_long was text piece bytes kept_so_far unbroken goes_on long =
-    ap (λ b. lines_after b text (piece ++ bytes)) kept_so_far ∙ lines_after-too_long text piece bytes unbroken goes_on long
+-- the same of a line whose fields say which it is
+pub becomes_too_long : (line : Option (List ℕ)) (was : Bool) (text piece bytes : List ℕ) → cond was None (Some text) ≡ line → was ≡ false → IsUnbroken text → IsUnbroken piece
+    → 65536 < length text + length piece → comes_after line (piece ++ bytes) ≡ comes_after None bytes
+becomes_too_long line was text piece bytes is kept_so_far unbroken goes_on long =
+    ap (λ l. comes_after l (piece ++ bytes)) (sym is ∙ ap (λ b. cond b None (Some text)) kept_so_far) ∙ comes_after-too_long text piece bytes unbroken goes_on long
 
-pub stays_too_long : (was : Bool) (text piece bytes : List ℕ) → was ≡ true → IsUnbroken piece → lines_after was text (piece ++ bytes) ≡ lines_after was text bytes
-stays_too_long was text piece bytes skipped unbroken =
-    ap (λ b. lines_after b text (piece ++ bytes)) skipped ∙ lines_after-skipped text piece bytes unbroken ∙ ap (λ b. lines_after b text bytes) (sym skipped)
+pub stays_too_long : (line : Option (List ℕ)) (was : Bool) (text piece bytes : List ℕ) → cond was None (Some text) ≡ line → was ≡ true → IsUnbroken piece
+    → comes_after line (piece ++ bytes) ≡ comes_after line bytes
+stays_too_long line was text piece bytes is skipped unbroken =
+    let none : line ≡ None = sym is ∙ ap (λ b. cond b None (Some text)) skipped in
+    ap (λ l. comes_after l (piece ++ bytes)) none ∙ comes_after-skipped piece bytes unbroken ∙ ap (λ l. comes_after l bytes) (sym none)
 
 -- where the line ends
-pub lines_after-end : (is_too_long : Bool) (text bytes : List ℕ) → IsUnbroken text → lines_after is_too_long text (10 ∷ bytes) ≡ cons_option (line_begun is_too_long text) (lines_of bytes)
-lines_after-end true text bytes unbroken = refl
-lines_after-end false text bytes unbroken = lines_of-end text bytes 10 unbroken refl
+pub comes_after-end : (line : Option (List ℕ)) (bytes : List ℕ) → IsBegun line → comes_after line (10 ∷ bytes) ≡ cons_option (line_begun line) (lines_of bytes)
+comes_after-end None bytes begun = refl
+comes_after-end (Some text) bytes begun = lines_of-end text bytes 10 begun.0 refl
 
-pub lines_after-last : (is_too_long : Bool) (text : List ℕ) → IsUnbroken text → lines_after is_too_long text [] ≡ cons_option (line_begun is_too_long text) []
-lines_after-last true text unbroken = refl
-lines_after-last false text unbroken = ap lines_of (append-nil text) ∙ lines_of-last text unbroken
+pub comes_after-last : (line : Option (List ℕ)) → IsBegun line → comes_after line [] ≡ cons_option (line_begun line) []
+comes_after-last None begun = refl
+comes_after-last (Some text) begun = ap lines_of (append-nil text) ∙ lines_of-last text begun.0
 
 -- a line end comes in what follows
-pub lines_after-line : (was is : Bool) (text more line after bytes rest : List ℕ) → ((next : List ℕ) → lines_after was text (line ++ next) ≡ lines_after is more next)
-    → IsUnbroken more → rest ≡ line ++ 10 ∷ after → lines_after was text (rest ++ bytes) ≡ cons_option (line_begun is more) (lines_of (after ++ bytes))
-lines_after-line was is text more line after bytes rest goes_on unbroken parts =
-    ap (λ l. lines_after was text (l ++ bytes)) parts
-    ∙ ap (lines_after was text) (append_assoc line (10 ∷ after) bytes)
+pub comes_after-line : (was is : Option (List ℕ)) (piece after bytes rest : List ℕ) → ((next : List ℕ) → comes_after was (piece ++ next) ≡ comes_after is next)
+    → IsBegun is → rest ≡ piece ++ 10 ∷ after → comes_after was (rest ++ bytes) ≡ cons_option (line_begun is) (lines_of (after ++ bytes))
+comes_after-line was is piece after bytes rest goes_on begun parts =
+    ap (λ l. comes_after was (l ++ bytes)) parts
+    ∙ ap (comes_after was) (append_assoc piece (10 ∷ after) bytes)
     ∙ goes_on (10 ∷ (after ++ bytes))
-    ∙ lines_after-end is more (after ++ bytes) unbroken
+    ∙ comes_after-end is (after ++ bytes) begun

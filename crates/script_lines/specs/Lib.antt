@@ -1,6 +1,8 @@
 pub mod Faults
 pub mod LineReader
 pub mod Lines
-pub mod PartialLine
+pub mod PartialFields
+pub mod ReaderFields
+pub mod ReaderView
 pub mod Seen
 pub mod Serves

@@ -1,5 +1,5 @@
 -- What was read and written of a script.
-use Rattle.std.specs.Prelude.{◌≡◌, ℕ, ◌+◌, ◌<◌, ◌⊎◌, List, length, Option}
+use Rattle.std.specs.Prelude.{◌≡◌, ℕ, ◌+◌, ◌<◌, ◌≤◌, ◌⊎◌, List, length, Option}
 use Rattle.std.specs.Io.KnownBytes.{Appends, Consumes, IsAtEnd}
 use Rattle.text_io.specs.Sink.{AppendsPrefix}
 use Rattle.script_lines.specs.Lines.{ScriptLine, lines_of}
@@ -22,10 +22,11 @@ ReadsEndBy Memory read most failures_before failures_after = failures_after ≡ 
 ReadsEndBy Write read most failures_before failures_after = failures_after ≡ failures_before
 ReadsEndBy Read read most failures_before failures_after = (failures_after ≡ failures_before + 1) ⊎ ((read ≡ most) × (failures_after ≡ failures_before))
 
--- a prefix was written of the answers to what was read
+-- no more than the most was read, and a prefix was written of the answers to it
 pub record ServesPart (most : ℕ) (answers : List ScriptLine → List ℕ) (had left : Option (List ℕ)) (failures_before failures_after : ℕ)
     (held holds : Option (List ℕ)) (fault : ServeFault) : Type 0 where
   pub read : List ℕ
   pub consumed : Consumes had left read
+  pub within_the_most : length read ≤ most
   pub answered : AppendsPrefix held holds (answers (lines_of read))
   pub reads : ReadsEndBy fault (length read) most failures_before failures_after

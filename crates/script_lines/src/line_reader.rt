@@ -1,39 +1,58 @@
 //! A script that is read line by line.
-ghost use Rattle.std.specs.Prelude.{◌≡◌, ◌≢◌, ◌+◌, ◌-◌, ◌^◌, ◌<◌, ◌≤◌, [], length, take, is_ok, if◌then◌else◌, IfOk, OnOk, IfErr, OnErr};
+ghost use Rattle.std.specs.Prelude.{◌≡◌, ◌≢◌, ◌+◌, ◌-◌, ◌^◌, ◌<◌, ◌≤◌, [], length, take, is_ok, if◌then◌else◌, Some, IfOk, OnOk, IfErr, OnErr};
 ghost use Rattle.std.specs.Option.{option_map};
 ghost use Rattle.std.specs.Io.KnownBytes.{Consumes, IsAtEnd, Keeps};
+ghost use Rattle.script_lines.specs.Lines.{IsBegun};
+ghost use Rattle.script_lines.specs.LineReader.{KeepsRead, ReadsOn, ReadsPiece, StopsReading, TakesLine, line_read};
 ghost use Rattle.script_lines.specs.Seen.{seen};
+ghost use Rattle.script_lines.specs.declared.fault.ServeFault.{ServeFault};
 
 use crate::fault::ServeFault;
 use crate::line::Line;
 use crate::partial_line::{PartialLine, split_line};
 use std::alloc::{AllocError, Global};
+use std::marker::Model;
 use text_io::{ReadFault, Source};
 
-/// Reads the lines of a script one after the other, a piece of the script at a time.
+/// Reads the lines of a script one after the other, a piece of the script at a time. Contracts see the line that was read
+/// last, what was read past it, and how many bytes may still be read.
 #[derive(Drop)]
 pub struct LineReader {
-    /// The line that was read last.
-    pub line: PartialLine,
-    /// The piece that was read last.
-    pub buffer: Vec<u8>,
-    /// How much of the piece was taken.
-    pub taken: usize,
-    /// How long the piece is.
-    pub filled: usize,
-    /// How many bytes may still be read.
-    pub left: usize,
+    // The line that was read last.
+    line: PartialLine,
+    // The piece that was read last.
+    buffer: Vec<u8>,
+    // How much of the piece was taken.
+    taken: usize,
+    // How long the piece is.
+    filled: usize,
+    // How many bytes may still be read.
+    left: usize,
+}
+
+impl Model for LineReader {
+    ghost use Rattle.std.specs.Prelude.{slice_range};
+    ghost use Rattle.script_lines.specs.ReaderView.{ReaderView};
+
+    ghost Value = { ReaderView };
+
+    ghost use Rattle.script_lines.specs.ReaderFields.{IsLineReader};
+
+    ghost view = { λ reader. record {
+      line = reader.line;
+      waiting = slice_range reader.buffer.items reader.taken reader.filled;
+      left = reader.left;
+    } };
+
+    ghost invariant = { IsLineReader };
 }
 
 impl LineReader {
-    ghost use Rattle.script_lines.specs.LineReader.{IsLineReader, ReadsOn, ReadsPiece, StopsReading, TakesLine, line_read, waiting};
-    ghost use Rattle.script_lines.specs.declared.fault.ServeFault.{ServeFault};
-
     /// Reads at most so many bytes, through this buffer.
     pub fn new(alloc: Global, buffer: Vec<u8>, most: usize) -> LineReader
         requires { 0 < length buffer.items }
-        ensures reader { IsLineReader result }
-        ensures waiting { waiting result ≡ [] }
+        ensures line { result.line ≡ Some [] }
+        ensures waiting { result.waiting ≡ [] }
         ensures left { result.left ≡ most }
     {
         LineReader {
@@ -47,18 +66,34 @@ impl LineReader {
 
     /// The line, if it has ended and is no blank one.
     pub fn line(&self) -> Option<Line<'_>>
-        requires { IsLineReader self.now }
         ensures { option_map seen result ≡ line_read self.now }
     {
         self.line.line()
     }
 
-    /// Takes what waits, up to the end of the line. False where the line goes on.
+    /// How many bytes may still be read.
+    pub fn left(&self) -> usize
+        ensures { result ≡ self.now.left }
+    {
+        self.left
+    }
+
+    /// Begins the next line.
+    pub fn clear(&mut self)
+        ensures line { self.new.line ≡ Some [] }
+        ensures waiting { self.new.waiting ≡ self.old.waiting }
+        ensures left { self.new.left ≡ self.old.left }
+    {
+        self.line.clear();
+    }
+
+    /// Takes what waits, up to the end of the line. False where the line goes on. Where memory is refused the reader is
+    /// what it was.
     pub fn take_line(&mut self) -> Result<bool, AllocError>
-        requires { IsLineReader self.old }
-        ensures reader { OnOk result (IsLineReader self.new) }
+        ensures begun { IsBegun self.new.line }
         ensures left { self.new.left ≡ self.old.left }
         ensures takes { IfOk result (λ ended. TakesLine ended self.old self.new) }
+        ensures refused { OnErr result (self.new ≡ self.old) }
     {
         let rest = &self.buffer[self.taken..self.filled];
         match split_line(rest) {
@@ -75,15 +110,15 @@ impl LineReader {
         }
     }
 
-    /// Reads the next piece, where nothing waits. False where the source has ended.
+    /// Reads the next piece, where nothing waits. False where the source has ended. Where the read fails the reader is what
+    /// it was.
     pub fn read_more<R: Source>(&mut self, source: &mut R) -> Result<bool, ReadFault>
-        requires reader { IsLineReader self.old }
-        requires waiting { waiting self.old ≡ [] }
+        requires waiting { self.old.waiting ≡ [] }
         requires left { 0 < self.old.left }
         requires failures { R.failures source.old < 2 ^ 64 - 1 }
-        ensures reader { IsLineReader self.new }
         ensures line { self.new.line ≡ self.old.line }
         ensures ok { IfOk result (λ more. ReadsPiece more self.old self.new (R.remaining source.old) (R.remaining source.new)) }
+        ensures refused { OnErr result (self.new ≡ self.old) }
         ensures err { OnErr result (Keeps (R.remaining source.old) (R.remaining source.new)) }
         ensures failures { R.failures source.new ≡ R.failures source.old + (if is_ok result then 0 else 1) }
     {
@@ -95,19 +130,18 @@ impl LineReader {
     }
 
     /// Goes on to the end of the next line, and reads as much as that takes. False where the source has ended: then
-    /// the line is the last one.
+    /// the line is the last one. Where a fault ends it, all that was read stands in the reader.
     pub fn advance<R: Source>(&mut self, source: &mut R) -> Result<bool, ServeFault>
-        requires reader { IsLineReader self.old }
-        requires failures { R.failures source.old < 2 ^ 64 - 1 }
-        ensures reader { OnOk result (IsLineReader self.new) }
+        requires { R.failures source.old < 2 ^ 64 - 1 }
         ensures reads { IfOk result (λ more. ReadsOn more self.old self.new (R.remaining source.old) (R.remaining source.new)) }
         ensures no_failure { OnOk result (R.failures source.new ≡ R.failures source.old) }
         ensures err { IfErr result (λ fault. StopsReading fault self.old.left (R.remaining source.old) (R.remaining source.new) (R.failures source.old) (R.failures source.new)) }
+        ensures kept { OnErr result (KeepsRead self.old self.new (R.remaining source.old) (R.remaining source.new)) }
         ensures no_write { IfErr result (λ fault. fault ≢ ServeFault.Write) }
     {
-        self.line.clear();
+        self.clear();
         while !self.take_line()? {
-            if self.left == 0 {
+            if self.left() == 0 {
                 return Err(ServeFault::Read);
             }
             if !self.read_more(source)? {

@@ -1,31 +1,39 @@
 //! The line that is being read.
-ghost use Rattle.std.specs.Prelude.{◌≡◌, ℕ, List, ◌∷◌, ◌++◌, OnOk, IfSome, IsNone};
+ghost use Rattle.std.specs.Prelude.{◌≡◌, ℕ, List, [], ◌∷◌, ◌++◌, Some, OnOk, OnErr, IfSome, IsNone};
 ghost use Rattle.std.specs.Option.{option_map};
-ghost use Rattle.script_lines.specs.Lines.{IsUnbroken, line_begun, lines_after, lines_of};
+ghost use Rattle.script_lines.specs.Lines.{IsBegun, IsUnbroken, comes_after, line_begun};
 ghost use Rattle.script_lines.specs.Seen.{seen};
 
 use crate::line::{Line, is_blank};
 use std::alloc::{AllocError, Global};
+use std::marker::Model;
 
 // The most bytes that a line may have.
 const LONGEST: usize = 65_536;
 
-/// What came of a line so far.
+/// What came of a line so far. Contracts see its bytes, or none where they are more than a line may have.
 #[derive(Drop)]
 pub struct PartialLine {
-    /// Its bytes, if they are no more than a line may have.
-    pub text: Vec<u8>,
-    /// Whether there are more.
-    pub is_too_long: bool,
+    text: Vec<u8>,
+    is_too_long: bool,
+}
+
+impl Model for PartialLine {
+    ghost use Rattle.std.specs.Prelude.{ℕ, List, Option, None, Some, if◌then◌else◌};
+
+    ghost Value = { Option (List ℕ) };
+
+    ghost use Rattle.script_lines.specs.PartialFields.{IsPartialLine};
+
+    ghost view = { λ partial. if partial.is_too_long then None else Some partial.text.items };
+
+    ghost invariant = { IsPartialLine };
 }
 
 impl PartialLine {
-    ghost use Rattle.script_lines.specs.PartialLine.{IsPartialLine, comes_after};
-
     /// No line yet.
     pub fn new(alloc: Global) -> PartialLine
-        ensures begun { IsPartialLine result }
-        ensures nothing { (bytes : List ℕ) → comes_after result bytes ≡ lines_of bytes }
+        ensures { result ≡ Some [] }
     {
         PartialLine {
             text: Vec::new(alloc),
@@ -33,12 +41,12 @@ impl PartialLine {
         }
     }
 
-    /// Takes more of the line.
+    /// Takes more of the line. Where memory is refused the line is what it was.
     pub fn extend(&mut self, piece: &[u8]) -> Result<(), AllocError>
-        requires begun { IsPartialLine self.old }
-        requires unbroken { IsUnbroken piece.now }
-        ensures begun { OnOk result (IsPartialLine self.new) }
+        requires { IsUnbroken piece.now }
+        ensures begun { IsBegun self.new }
         ensures more { OnOk result ((bytes : List ℕ) → comes_after self.old (piece.now ++ bytes) ≡ comes_after self.new bytes) }
+        ensures refused { OnErr result (self.new ≡ self.old) }
     {
         if !self.is_too_long {
             if piece.len() <= LONGEST - self.text.len() {
@@ -52,8 +60,7 @@ impl PartialLine {
 
     /// The line, if it ends here and is no blank one.
     pub fn line(&self) -> Option<Line<'_>>
-        requires { IsPartialLine self.now }
-        ensures { option_map seen result ≡ line_begun self.now.is_too_long self.now.text.items }
+        ensures { option_map seen result ≡ line_begun self.now }
     {
         if self.is_too_long {
             Some(Line::TooLong)
@@ -66,9 +73,7 @@ impl PartialLine {
 
     /// Begins the next line.
     pub fn clear(&mut self)
-        requires begun { IsPartialLine self.old }
-        ensures begun { IsPartialLine self.new }
-        ensures nothing { (bytes : List ℕ) → comes_after self.new bytes ≡ lines_of bytes }
+        ensures { self.new ≡ Some [] }
     {
         self.text.clear();
         self.is_too_long = false;

@@ -1,19 +1,18 @@
 //! The loop that reads a script and answers its lines.
-ghost use Rattle.std.specs.Prelude.{◌≡◌, ℕ, List, [], ◌∷◌, ◌++◌, ◌+◌, ◌-◌, ◌^◌, ◌<◌, length, OnOk, OnErr, IfOk, IfErr};
+ghost use Rattle.std.specs.Prelude.{◌≡◌, [], ◌++◌, ◌+◌, ◌-◌, ◌^◌, ◌<◌, length, Some, OnOk, OnErr, IfOk, IfErr};
 ghost use Rattle.std.specs.Option.{option_map};
 ghost use Rattle.std.specs.List.{cons_option};
 ghost use Rattle.text_io.specs.Sink.{Advances, StopsShort};
 ghost use Rattle.stage_graph.specs.Walk.{IsRanked};
 ghost use Rattle.script_lines.specs.Faults.{failed_writes, failed_writes_of_serve};
-ghost use Rattle.script_lines.specs.Lines.{IsUnbroken, line_begun, lines_of};
-ghost use Rattle.script_lines.specs.PartialLine.{IsPartialLine, comes_after};
+ghost use Rattle.script_lines.specs.Lines.{IsBegun, comes_after};
 ghost use Rattle.script_lines.specs.Seen.{seen};
 ghost use Rattle.script_lines.specs.Serves.{ServesAll, ServesPart};
 ghost use Rattle.serve_script.specs.Answers.{answers_from, answers_to};
 
 use crate::server::Server;
 use level_pool::Runner;
-use script_lines::{AnswerFault, Line, PartialLine, ServeFault, split_line};
+use script_lines::{AnswerFault, Line, LineReader, ServeFault};
 use stage_graph::Graph;
 use std::alloc::{AllocError, Global};
 use text_io::{Sink, Source};
@@ -47,8 +46,9 @@ pub fn serve<K: StateRepresentation, W: Runner, R: Source, S: Sink>(
     ensures failures { S.failures sink.new ≡ S.failures sink.old + failed_writes_of_serve result }
 {
     let mut server = Server::new(alloc, graph, runner)?;
-    let mut buffer = filled_buffer(alloc, AT_ONCE)?;
-    serve_up_to(alloc, MOST, &mut buffer, source, &mut server, sink)
+    let buffer = filled_buffer(alloc, AT_ONCE)?;
+    let mut lines = LineReader::new(alloc, buffer, MOST);
+    serve_lines(&mut lines, source, &mut server, sink)
 }
 
 fn filled_buffer(alloc: Global, len: usize) -> Result<Vec<u8>, AllocError>
@@ -57,90 +57,60 @@ fn filled_buffer(alloc: Global, len: usize) -> Result<Vec<u8>, AllocError>
     vec![in alloc; 0; len]
 }
 
-// Answers a script through a buffer, up to so many bytes.
-fn serve_up_to<K: StateRepresentation, W: Runner, R: Source, S: Sink>(
-    alloc: Global,
-    most: usize,
-    buffer: &mut [u8],
+// Answers a script, up to as many bytes as may be read.
+fn serve_lines<K: StateRepresentation, W: Runner, R: Source, S: Sink>(
+    lines: &mut LineReader,
     source: &mut R,
     server: &mut Server<'_, K, W>,
     sink: &mut S,
 ) -> Result<(), ServeFault>
-    requires buffer { 0 < length buffer.old }
+    requires begun { lines.old.line ≡ Some [] }
+    requires waiting { lines.old.waiting ≡ [] }
     requires reads { R.failures source.old < 2 ^ 64 - 1 }
     requires writes { S.failures sink.old < 2 ^ 64 - 1 }
-    ensures ok { OnOk result (ServesAll most (answers_from server.old) (R.remaining source.old) (R.remaining source.new)
+    ensures ok { OnOk result (ServesAll lines.old.left (answers_from server.old) (R.remaining source.old) (R.remaining source.new)
         (R.failures source.old) (R.failures source.new) (S.held sink.old) (S.held sink.new)) }
-    ensures err { IfErr result (ServesPart most (answers_from server.old) (R.remaining source.old) (R.remaining source.new)
+    ensures err { IfErr result (ServesPart lines.old.left (answers_from server.old) (R.remaining source.old) (R.remaining source.new)
         (R.failures source.old) (R.failures source.new) (S.held sink.old) (S.held sink.new)) }
     ensures failures { S.failures sink.new ≡ S.failures sink.old + failed_writes_of_serve result }
 {
-    let mut partial = PartialLine::new(alloc);
-    let mut left = most;
-    while left > 0 {
+    loop {
+        answer_waiting(lines, server, sink)?;
         sink.flush()?;
-        let room = left.min(buffer.len());
-        let count = source.read(&mut buffer[..room])?;
-        if count == 0 {
-            end_line(&mut partial, server, sink)?;
+        if lines.left() == 0 {
+            return Err(ServeFault::Read);
+        }
+        if !lines.read_more(source)? {
+            answer_any(lines.line(), server, sink)?;
             sink.flush()?;
             return Ok(());
         }
-        left -= count;
-        answer_piece(&mut partial, &buffer[..count], server, sink)?;
     }
-    Err(ServeFault::Read)
 }
 
-// Answers the lines that end in the next piece of the script.
-fn answer_piece<K: StateRepresentation, W: Runner, S: Sink>(
-    partial: &mut PartialLine,
-    piece: &[u8],
+// Answers the lines that end in what waits.
+fn answer_waiting<K: StateRepresentation, W: Runner, S: Sink>(
+    lines: &mut LineReader,
     server: &mut Server<'_, K, W>,
     sink: &mut S,
 ) -> Result<(), AnswerFault>
-    requires begun { IsPartialLine partial.old }
-    requires room { S.failures sink.old < 2 ^ 64 - 1 }
-    ensures begun { OnOk result (IsPartialLine partial.new) }
+    requires { S.failures sink.old < 2 ^ 64 - 1 }
+    ensures begun { OnOk result (IsBegun lines.new.line) }
+    ensures waiting { OnOk result (lines.new.waiting ≡ []) }
+    ensures left { lines.new.left ≡ lines.old.left }
     ensures ok { OnOk result (Advances
-        (λ bytes. answers_from server.old (comes_after partial.old (piece.now ++ bytes)))
-        (λ bytes. answers_from server.new (comes_after partial.new bytes))
+        (λ bytes. answers_from server.old (comes_after lines.old.line (lines.old.waiting ++ bytes)))
+        (λ bytes. answers_from server.new (comes_after lines.new.line (lines.new.waiting ++ bytes)))
         (S.held sink.old) (S.held sink.new)) }
     ensures err { OnErr result (StopsShort
-        (λ bytes. answers_from server.old (comes_after partial.old (piece.now ++ bytes)))
+        (λ bytes. answers_from server.old (comes_after lines.old.line (lines.old.waiting ++ bytes)))
         (S.held sink.old) (S.held sink.new)) }
     ensures failures { S.failures sink.new ≡ S.failures sink.old + failed_writes result }
 {
-    let mut rest = piece;
-    while let Some((line, after)) = split_line(rest) {
-        partial.extend(line)?;
-        end_line(partial, server, sink)?;
-        rest = after;
+    while lines.take_line()? {
+        answer_any(lines.line(), server, sink)?;
+        lines.clear();
     }
-    partial.extend(rest)?;
-    Ok(())
-}
-
-// Answers the line, which ends here, and begins the next one.
-fn end_line<K: StateRepresentation, W: Runner, S: Sink>(
-    partial: &mut PartialLine,
-    server: &mut Server<'_, K, W>,
-    sink: &mut S,
-) -> Result<(), AnswerFault>
-    requires begun { IsPartialLine partial.old }
-    requires room { S.failures sink.old < 2 ^ 64 - 1 }
-    ensures begun { OnOk result (IsPartialLine partial.new) }
-    ensures next { OnOk result ((bytes : List ℕ) → comes_after partial.new bytes ≡ lines_of bytes) }
-    ensures ok { OnOk result (Advances
-        (λ lines. answers_from server.old (cons_option (line_begun partial.old.is_too_long partial.old.text.items) lines))
-        (answers_from server.new) (S.held sink.old) (S.held sink.new)) }
-    ensures err { OnErr result (StopsShort
-        (λ lines. answers_from server.old (cons_option (line_begun partial.old.is_too_long partial.old.text.items) lines))
-        (S.held sink.old) (S.held sink.new)) }
-    ensures failures { S.failures sink.new ≡ S.failures sink.old + failed_writes result }
-{
-    answer_any(partial.line(), server, sink)?;
-    partial.clear();
     Ok(())
 }
 

@@ -1,0 +1,9 @@
+-- The fields of a line that is being read.
+use Rattle.std.specs.Prelude.{ℕ, ◌≤◌, length}
+use Rattle.script_lines.specs.Lines.{IsUnbroken}
+use Rattle.script_lines.specs.declared.partial_line.PartialLine.TheInside.{Inside}
+
+-- what is kept is of one line, and no more than a line may have
+pub record IsPartialLine (partial : Inside) : Type 0 where
+  pub unbroken : IsUnbroken partial.text.items
+  pub short : length partial.text.items ≤ 65536
