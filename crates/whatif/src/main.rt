@@ -1,7 +1,10 @@
 //! `whatif`: a what-if debugger for recorded runs of asynchronous Java services.
 #![tactic(auto)]
 
-ghost use Rattle.std.specs.Prelude.{◌-◌, ◌^◌, ◌<◌};
+ghost use Rattle.std.specs.Prelude.{◌≡◌, ◌-◌, ◌^◌, ◌<◌, Err};
+ghost use Rattle.clap.specs.Values.{kind_of};
+ghost use Rattle.clap.specs.declared.error.kind.ErrorKind.TheVariants.{OutOfMemory};
+ghost use Rattle.whatif.specs.declared.fault.Fault.TheVariants.{Memory};
 
 mod fault;
 mod input;
@@ -9,6 +12,7 @@ mod options;
 mod report_all;
 
 use clap::ArgMatches;
+use clap::error::ErrorKind as ClapErrorKind;
 use fault::Fault;
 use level_pool::{OneThread, Runner};
 use recording::read_recording;
@@ -65,7 +69,12 @@ fn words(rt: &HostRuntime) -> Result<Vec<String>, Fault> {
 }
 
 /// Prints what `clap` says in place of an answer: help that was asked for, or what is wrong with the command line.
-fn told(rt: &HostRuntime, error: &clap::Error) -> Result<ExitCode, Fault> {
+fn told(rt: &HostRuntime, error: &clap::Error) -> Result<ExitCode, Fault>
+    ensures memory { kind_of error.now ≡ OutOfMemory → result ≡ Err Memory }
+{
+    if error.kind() == ClapErrorKind::OutOfMemory {
+        return Err(Fault::Memory);
+    }
     match error.print(rt) {
         Ok(()) if error.use_stderr() => Ok(ExitCode::from(2)),
         Ok(()) => Ok(ExitCode::SUCCESS),
