@@ -20,11 +20,11 @@ IsReportOf recording text = (graph : PlainGraph) × IsNamed (Ok graph) (named re
 abbrev pub IsReported : List ℕ → Option (List ℕ) → Option (List ℕ) → Result (Unit {0}) ReportAllFault → Type 0
 -- the whole report
 IsReported recording old new (Ok done) = (text : List ℕ) × IsReportOf recording text × Appends old new text
--- nothing, as the recording is refused
+-- nothing, as the recording is refused, or memory was wanting before the report began
 IsReported recording old new (Err (Refused fault)) = IsNamed (Err fault) (named recording) × Keeps old new
 -- a part of the report, as a write failed
 IsReported recording old new (Err Write) = (text : List ℕ) × IsReportOf recording text × AppendsPrefix old new text
--- a part of the report, as memory was wanting
+-- a part of the report, as memory was wanting while it was written
 IsReported recording old new (Err Memory) = (text : List ℕ) × IsReportOf recording text × AppendsPrefix old new text
 
 -- the number by which a fault is printed

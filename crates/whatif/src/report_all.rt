@@ -13,12 +13,13 @@ use version_store::Version;
 /// Why the report of a recording was not written to its end.
 #[derive(Debug, Drop, Error)]
 pub enum ReportAllFault {
-    /// The recording is refused, or memory was wanting while it was read; nothing was written.
+    /// The recording is refused, or memory was wanting before the report began; nothing was written.
     #[error("{0}")]
     Refused(ReadingFault),
     /// A write failed, or took nothing.
     #[error("refused 40 WriteFault")]
     Write,
+    /// Memory was wanting while the report was written.
     #[error("refused 90 Memory")]
     Memory,
 }
@@ -51,7 +52,7 @@ pub fn report_all<S: Sink>(
         Err(fault) => return Err(ReportAllFault::Refused(fault)),
     };
     let Ok(version) = Version::load(alloc, graph) else {
-        return Err(ReportAllFault::Memory);
+        return Err(ReportAllFault::Refused(ReadingFault::Memory));
     };
     match report(alloc, &version, What::All, sink) {
         Ok(()) => Ok(()),

@@ -1,16 +1,11 @@
 use Rattle.std.proofs.Common.{[], subst}
 use Rattle.std.specs.Prelude.{refl, unwrap_or}
 use Rattle.std.specs.Io.KnownBytes.{Appends}
-use Rattle.text_io.proofs.Written.{AppendsPrefix-none}
 use Rattle.version_store.specs.Plain.{PlainVersion, opening_version}
 use Rattle.report_text.specs.Reports.{text}
 use Rattle.report_text.specs.Texts.{all_text}
 use Rattle.report_text.specs.declared.what.What.TheVariants.{All}
 use Rattle.whatif.proofs.report_all.report_all.Goals as goal
-
-pub returns-in_default-clause-written : goal.returns-in_default-clause-written
-returns-in_default-clause-written g c =
-    (all_text (opening_version c.in-Ok.graph), (c.in-Ok.graph, c.in-Ok.ensures, refl), AppendsPrefix-none _ _)
 
 pub returns-in-Ok-report-clause-written : goal.returns-in-Ok-report-clause-written
 returns-in-Ok-report-clause-written g c = (
