@@ -214,6 +214,14 @@ def complaint(case, answer):
     return "; ".join(said)
 
 
+def has_many(program):
+    """Whether the program's help lists the subcommand `many`; else it is told that the cases of it are left out."""
+    found = re.search(rb"(?m)^\s+many\b", run(program, Case("help", ["--help"], None)).out)
+    if not found:
+        print("note: the program's help names no subcommand `many`, so its cases are left out")
+    return bool(found)
+
+
 def run_all(program, cases):
     """Each case's name, its complaint or nothing, and the numbers of the refusals that were printed."""
 
