@@ -26,6 +26,9 @@ COMMANDS = [
     Case("serve", ["serve", "r.json"], ANSWERS, files={"r.json": R}, stdin=lines(*STEPS)),
     Case("help", ["--help"], None),
     Case("an unknown word", ["nonsense"], "", 2),
+    # (words so long that the text about them alone asks the system for more)
+    Case("an unknown word of 100,000 letters", ["n" * 100_000], "", 2),
+    Case("a word too many of 60,000 letters", ["report", *["y" * 60_000] * 5], "", 2),
     Case("many", ["many", "r.json", "s"], lines("script 1") + ANSWERS + lines("log 3"), files={"r.json": R, "s": lines(*STEPS)}),
 ]
 
@@ -35,24 +38,26 @@ def under(program, case, kilobytes, name="LANG=C.UTF-8"):
     return run(program, dataclasses.replace(case, shell=f'set -- {become} "$@";'))
 
 
-def is_loaded(program, case, kilobytes):
-    """Whether the loader by itself gets on with so much."""
-    told = under(program, case, kilobytes, LOADED)
-    return told.status == 0
+def essence(answer):
+    """What is compared of an answer: what is wrong with a command line is told on standard error alone."""
+    return answer.status, answer.out, answer.err if answer.status == 2 else b""
 
 
-def least(program, case, is_enough):
-    """The least number of kilobytes that is enough, by halves."""
-    low, high = 64, 1 << 21
+def least(low, is_enough):
+    """About the least number of kilobytes from `low` on that is enough: first by growing steps, then by halves."""
+    step = 64
+    while not is_enough(low + step) and step < 1 << 20:
+        low, step = low + step, 2 * step
+    high = low + step
     while low + 4 < high:
         middle = (low + high) // 2
-        low, high = (low, middle) if is_enough(program, case, middle) else (middle, high)
+        low, high = (low, middle) if is_enough(middle) else (middle, high)
     return high
 
 
 def complaint(case, answer, ordinary):
     """The ordinary answer is right, and so is a beginning of it with the line that memory is wanting, or with several scripts a thread."""
-    if answer[:2] == ordinary[:2]:
+    if essence(answer) == essence(ordinary):
         return ""
     for last in (WANTING, NO_THREAD) if case.words[0] == "many" else (WANTING,):
         if answer.status == 4 and answer.out.endswith(last) and ordinary.out.startswith(answer.out[: -len(last)]):
@@ -63,11 +68,10 @@ def complaint(case, answer, ordinary):
 def sweep(program, case, steps):
     """Runs between what the loader needs and what the ordinary answer needs; the complaints, and the refusals that came."""
     ordinary = run(program, case)
-    begin = least(program, case, is_loaded)
-    end = least(program, case, lambda *it: under(*it)[:2] == ordinary[:2])
+    begin = least(1024, lambda it: under(program, case, it, LOADED).status == 0)
+    end = least(begin, lambda it: essence(under(program, case, it)) == essence(ordinary))
     met = set()
-    for at in range(steps):
-        kilobytes = begin + (max(end - begin, 0) + 64) * at // steps
+    for kilobytes in range(begin, end + 8, max(4, (end - begin) // steps)):
         answer = under(program, case, kilobytes)
         met |= refusals(answer.out)
         said = complaint(case, answer, ordinary)
@@ -76,7 +80,7 @@ def sweep(program, case, steps):
     return "", met
 
 
-def memory(program, has_many, steps=24):
+def memory(program, has_many, steps=30):
     """Each command's name, its first complaint or nothing, and the refusals that came."""
     tried = [it for it in COMMANDS if has_many or it.words[0] != "many"]
     with concurrent.futures.ThreadPoolExecutor(LANES) as lanes:
