@@ -51,15 +51,19 @@ fn drawn<R: OrderRepresentation>(
     Ok(text)
 }
 
-/// The order, drawn, or the cycle.
+/// The order, drawn, or the cycle and the order that is kept.
 fn answer_of<R: OrderRepresentation>(
     alloc: Global,
     answer: Result<Order<R>, PatchFault>,
     places: u32,
+    kept: &str,
 ) -> Result<String, Fail> {
     match answer {
         Ok(order) => drawn(alloc, &order, places),
-        Err(PatchFault::Cycle(path)) => Ok(format!(in alloc; "cycle {:?}", path.as_slice())?),
+        Err(PatchFault::Cycle(path)) => {
+            let path = path.as_slice();
+            Ok(format!(in alloc; "cycle {path:?};{kept}")?)
+        }
         Err(PatchFault::Memory) => Err(Fail::from(AllocError)),
     }
 }
@@ -79,7 +83,7 @@ fn patched<R: OrderRepresentation>(
     let answer = order.patch(alloc, &changed, &edits);
     let after = drawn(alloc, &order, graph.len() as u32)?;
     assert_eq!(rt; after.as_str(), before.as_str());
-    answer_of(alloc, answer, changed.len() as u32)
+    answer_of(alloc, answer, changed.len() as u32, after.as_str())
 }
 
 /// Each step has this order in each representation.
@@ -136,11 +140,11 @@ fn cycle(rt: HostRuntime) -> Result<(), Fail> {
     let rows = [
         (
             r#"{"do":"rewire","session":1,"stage":"a","sources":["b"],"inner":[]}"#,
-            "cycle [1, 2, 1]",
+            "cycle [1, 2, 1];0 rank 0 [1];1 rank 1 [2];2 rank 2 [];",
         ),
         (
             r#"{"do":"rewire","session":1,"stage":"a","sources":["a"],"inner":[]}"#,
-            "cycle [1, 1]",
+            "cycle [1, 1];0 rank 0 [1];1 rank 1 [2];2 rank 2 [];",
         ),
     ];
     in_each(&rt, rt.alloc(), CHAIN, &rows)

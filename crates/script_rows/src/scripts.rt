@@ -333,6 +333,7 @@ fn edit_list_refusals(rt: HostRuntime) -> Result<(), Fail> {
 {"do":"edits","session":1,"base":0,"edits":[]}
 {"do":"edits","session":1,"base":0,"edits":[{"do":"setTakes","stage":"a","takes":20},{"do":"setTakes","stage":"b","takes":1}]}
 {"do":"report","version":1,"what":"drift"}
+{"do":"report","version":1,"what":"all"}
 {"do":"edits","session":1,"base":1,"edits":[{"do":"add","new":{"name":"t","op":"manual"}},{"do":"remove","stage":"t"}]}
 {"do":"report","version":2,"what":"changes"}
 "#,
@@ -349,6 +350,9 @@ fn edit_list_refusals(rt: HostRuntime) -> Result<(), Fail> {
         drift of version 1 from 0 moved 2\n\
         a later 10\n\
         b later 6\n\
+        version 1 parent 0 mode computed stages 2\n\
+        a async rank 0 value:4 at 20\n\
+        b thenApply rank 1 value:5 at 21\n\
         committed 2\n\
         changes of version 2 from 1 touched 0\n",
     )

@@ -4,7 +4,7 @@ ghost use Rattle.std.specs.Prelude.{◌≤◌, ◌^◌};
 use level_pool::OneThread;
 use recording::{Step, read_recording, read_step};
 use row_kit::{CHAIN, COMPOSE_PICKS, FIRST_RUN, edits_of};
-use session_core::{Event, Reply, Table, TableFault, run};
+use session_core::{Event, Reply, Table, TableFault, draft_of, run};
 use share_tree::Held;
 use stage_graph::{InFlat, InShared};
 use stage_ops::Meter;
@@ -234,6 +234,22 @@ fn edit_list_refusals(rt: HostRuntime) -> Result<(), Fail> {
     )
 }
 
+/// A place that a list adds and removes again is not taken by the next stage.
+#[test]
+fn edit_list_refusals_next_place(rt: HostRuntime) -> Result<(), Fail> {
+    let mut table: Table<InFlat> = table(rt.alloc(), FIRST_RUN, 65_536)?;
+    let steps = [
+        r#"{"do":"open","session":1,"version":0}"#,
+        r#"{"do":"edits","session":1,"base":0,"edits":[{"do":"add","new":{"name":"t","op":"manual"}},{"do":"remove","stage":"t"}]}"#,
+        r#"{"do":"add","session":1,"base":1,"new":{"name":"u","op":"manual"}}"#,
+    ];
+    let found = replies(&rt, rt.alloc(), &mut table, &steps)?;
+    assert_eq!(rt; found.as_str(), "opened 0\ncommitted 1\ncommitted 2\nlog 3");
+    assert!(rt; table.version(1)?.touched().is_empty());
+    assert_eq!(rt; table.version(2)?.id_of("u"), Ok(3));
+    Ok(())
+}
+
 /// The marker of the meter of a draft that is handed to a table.
 #[derive(Drop)]
 struct HandedOver;
@@ -311,6 +327,54 @@ fn takes_own<R: StateRepresentation, H: Abort + Threads + Sync>(
     };
     assert_eq!(rt; (entry.who, entry.reply), (7, Reply::Committed(1)));
     Ok(())
+}
+
+/// `prepare` changes nothing and tells the version to come, and `finish` makes it and books the commit, as `commit` does.
+fn prepares_own<R: StateRepresentation, H: Abort + Threads + Sync>(
+    rt: &H,
+    alloc: Global,
+) -> Result<(), Fail> {
+    let mut table: Table<R> = table(alloc, FIRST_RUN, 65_536)?;
+    assert_eq!(rt; number_of(table.open(0, 1, 0)), 0);
+    let edits = Held::new(alloc, edits_of(alloc, PIN_BARE)?)?;
+    let draft = draft_of(alloc, table.version(0)?, &edits, &OneThread::new(rt))?;
+    let ready = table.prepare(7, 1, &draft)?;
+    let version = ready.version();
+    assert_eq!(rt; (version.number(), version.parent()), (1, Some(0)));
+    assert_eq!(rt; version.moment(1), Ok(Some(10)));
+    assert_eq!(rt; table.history().len(), 1);
+    assert_eq!(rt; table.finish(ready), 1);
+    assert_eq!(rt; table.version(1)?.moment(1), Ok(Some(10)));
+    let [_, entry] = table.history() else {
+        panic!(rt; "two entries");
+    };
+    assert_eq!(rt; (entry.who, entry.reply), (7, Reply::Committed(1)));
+    Ok(())
+}
+
+/// `prepare` books a refusal as `commit` does.
+fn prepare_refuses<H: Abort + Threads + Sync>(rt: &H, alloc: Global) -> Result<(), Fail> {
+    let mut table: Table<InShared> = table(alloc, FIRST_RUN, 65_536)?;
+    let edits = Held::new(alloc, edits_of(alloc, PIN_BARE)?)?;
+    let draft = draft_of(alloc, table.version(0)?, &edits, &OneThread::new(rt))?;
+    assert_eq!(rt; number_of(table.prepare(7, 1, &draft)), 51);
+    let [entry] = table.history() else {
+        panic!(rt; "an entry");
+    };
+    assert_eq!(rt; entry.who, 7);
+    assert_eq!(rt; number_of(table.commit(7, 1, &draft)), 51);
+    let [first, second] = table.history() else {
+        panic!(rt; "two entries");
+    };
+    assert!(rt; first.same(second));
+    Ok(())
+}
+
+#[test]
+fn pin_bare_by_parts(rt: HostRuntime) -> Result<(), Fail> {
+    prepares_own::<InFlat, _>(&rt, rt.alloc())?;
+    prepares_own::<InShared, _>(&rt, rt.alloc())?;
+    prepare_refuses(&rt, rt.alloc())
 }
 
 #[test]

@@ -172,6 +172,10 @@ fn timeouts(rt: HostRuntime) -> Result<(), Fail> {
         ),
         (
             r#"{"at":0,"do":"orTimeout","delay":9}"#,
+            "m async rank 0 bare:java.util.concurrent.TimeoutException at 9",
+        ),
+        (
+            r#"{"at":0,"do":"orTimeout","delay":9}"#,
             "d thenApply rank 1 wrapped:java.util.concurrent.TimeoutException at 9",
         ),
         (
@@ -298,23 +302,60 @@ fn form_two_refusals(rt: HostRuntime) -> Result<(), Fail> {
 }
 
 #[test]
-fn arithmetic(rt: HostRuntime) -> Result<(), Fail> {
+fn same_pin_and_arithmetic(rt: HostRuntime) -> Result<(), Fail> {
     let alloc = rt.alloc();
-    for (action, line) in [
+    for (members, line) in [
         (
-            "[\"div\",-9223372036854775808,-1]",
+            r#""action":["div",-9223372036854775808,-1]"#,
             "a async rank 0 value:-9223372036854775808 at 0",
         ),
-        ("[\"div\",-7,2]", "a async rank 0 value:-3 at 0"),
+        (r#""action":["div",-7,2]"#, "a async rank 0 value:-3 at 0"),
         (
-            "[\"div\",1,0]",
+            r#""action":["div",1,0]"#,
             "a async rank 0 wrapped:java.lang.ArithmeticException at 0",
+        ),
+        (
+            r#""action":1,"created":1099511627776"#,
+            "a async rank 0 value:1 at 1099511627776",
+        ),
+        (
+            r#""action":1,"created":1099511627777"#,
+            "refused 15 Limit at 0",
         ),
     ] {
         let recording = format!(in alloc;
-            "{{\"stages\":[{{\"name\":\"a\",\"op\":\"async\",\"action\":{action}}}]}}"
+            "{{\"stages\":[{{\"name\":\"a\",\"op\":\"async\",{members}}}]}}"
         )?;
         has_line(&rt, alloc, recording.as_str(), line)?;
     }
     Ok(())
+}
+
+/// A recording of one stage with so many ends.
+fn ending(alloc: Global, count: usize) -> Result<String, Fail> {
+    let end = r#"{"at":6,"do":"cancel"}"#;
+    let mut ends = String::from_str(alloc, end)?;
+    for _end in 1..count {
+        ends = format!(in alloc; "{ends},{end}")?;
+    }
+    Ok(format!(in alloc;
+        "{{\"stages\":[{{\"name\":\"m\",\"op\":\"manual\",\"ends\":[{ends}]}}]}}"
+    )?)
+}
+
+#[test]
+fn pins_and_ends_of_seventeen(rt: HostRuntime) -> Result<(), Fail> {
+    let alloc = rt.alloc();
+    has_line(
+        &rt,
+        alloc,
+        ending(alloc, 16)?.as_str(),
+        "m manual rank 0 bare:java.util.concurrent.CancellationException at 6",
+    )?;
+    has_line(
+        &rt,
+        alloc,
+        ending(alloc, 17)?.as_str(),
+        "refused 15 Limit at 0",
+    )
 }

@@ -8,7 +8,7 @@ use report_text::{CountedWriter, ReportFault, What, report};
 use row_kit::{CHAIN, COMPOSE_PICKS, FIRST_RUN, REWIRE_A, REWIRED, edits_of};
 use share_tree::Held;
 use stage_graph::{Fault, InFlat, InShared};
-use stage_ops::{Join, Meter};
+use stage_ops::{Join, Meter, Reads};
 use std::alloc::{AllocError, Global};
 use std::process::Abort;
 use std::sync::atomic::{AtomicU64, Ordering};
@@ -212,20 +212,25 @@ fn add_after_pin(rt: HostRuntime) -> Result<(), Fail> {
 
 #[test]
 fn when_complete(rt: HostRuntime) -> Result<(), Fail> {
-    let failed = Row {
-        recording: r#"{"wrap":"literal","stages":[{"name":"s","op":"failed","throws":"X","created":3},
-            {"name":"w","op":"whenComplete","sources":["s"],"takes":2,"action":["throw","Y"]}]}"#,
-        steps: &[],
-        told: &[("blame w", "blame w s\n")],
-    };
-    in_each(&rt, rt.alloc(), &failed)?;
-    let normal = Row {
-        recording: r#"{"stages":[{"name":"s","op":"completed","value":1,"created":3},
-            {"name":"w","op":"whenComplete","sources":["s"],"takes":2,"action":["throw","Y"]}]}"#,
-        steps: &[],
-        told: &[("blame w", "blame w\n")],
-    };
-    in_each(&rt, rt.alloc(), &normal)
+    let failed = r#""stages":[{"name":"s","op":"failed","throws":"X","created":3},
+        {"name":"w","op":"whenComplete","sources":["s"],"takes":2,"action":["throw","Y"]}]}"#;
+    let normal = r#""stages":[{"name":"s","op":"completed","value":1,"created":3},
+        {"name":"w","op":"whenComplete","sources":["s"],"takes":2,"action":["throw","Y"]}]}"#;
+    for (mode, stages, blame) in [
+        ("computed", failed, "blame w s\n"),
+        ("literal", failed, "blame w s\n"),
+        ("computed", normal, "blame w\n"),
+        ("literal", normal, "blame w\n"),
+    ] {
+        let recording = format!(in rt.alloc(); "{{\"wrap\":\"{mode}\",{stages}")?;
+        let row = Row {
+            recording: recording.as_str(),
+            steps: &[],
+            told: &[("blame w", blame)],
+        };
+        in_each(&rt, rt.alloc(), &row)?;
+    }
+    Ok(())
 }
 
 #[test]
@@ -371,6 +376,25 @@ fn same_pin_and_arithmetic(rt: HostRuntime) -> Result<(), Fail> {
         )],
     };
     in_each(&rt, rt.alloc(), &row)
+}
+
+#[test]
+fn pins_and_ends(rt: HostRuntime) -> Result<(), Fail> {
+    let row = Row {
+        recording: FIRST_RUN,
+        steps: &[r#"{"do":"pinMoment","session":1,"stage":"b","at":3}"#],
+        told: &[(
+            "changes",
+            "changes of version 1 from 0 touched 1\nb value:5 at 15 -> value:5 at 3\n",
+        )],
+    };
+    in_each(&rt, rt.alloc(), &row)?;
+    let pinned = r#"{"stages":[{"name":"m","op":"manual","pinMoment":5,"pinResult":{"value":2}}]}"#;
+    let flat: Version<InFlat> = opened(rt.alloc(), pinned)?;
+    assert_eq!(rt; flat.state(0)?.reads, Reads::Nothing);
+    let shared: Version<InShared> = opened(rt.alloc(), pinned)?;
+    assert_eq!(rt; shared.state(0)?.reads, Reads::Nothing);
+    Ok(())
 }
 
 #[test]
