@@ -19,7 +19,7 @@ use Rattle.recording.specs.declared.edits.EditName.TheVariants as name
 use Rattle.recording.specs.declared.member.Member.TheVariants as member
 use Rattle.recording.specs.declared.stage.FormNumber.TheVariants.{Two}
 use Rattle.recording.specs.declared.step.Asked.{Asked}
-use Rattle.recording.specs.declared.step.Asked.TheVariants.{All as AllStages, One, Blame, Changes, Drift, Times}
+use Rattle.recording.specs.declared.step.Asked.TheVariants.{All as AllStages, One, Blame, Path, Changes, Drift, Times}
 use Rattle.recording.specs.declared.step.StepName.TheVariants as step_name
 use Rattle.recording.specs.declared.step.Step.TheVariants.{Open, Head, Undo, Close, Change, Report}
 
@@ -119,6 +119,7 @@ unfolding step_with
 report_back version AllStages h = simp (found, count32_back version h) refl
 report_back version (One stage) h = simp (found, count32_back version h) refl
 report_back version (Blame stage) h = simp (found, count32_back version h) refl
+report_back version (Path stage) h = simp (found, count32_back version h) refl
 report_back version Changes h = simp (found, count32_back version h) refl
 report_back version Drift h = simp (found, count32_back version h) refl
 report_back version Times h = simp (found, count32_back version h) refl

@@ -127,16 +127,17 @@ base_member d = optional member.Base None (λ base. option_map Some (count32_in 
 
 abbrev pub report_names : List (List ℕ × ReportName)
 report_names =
-    (codes "all", report.All) ∷ (codes "one", report.One) ∷ (codes "blame", report.Blame)
+    (codes "all", report.All) ∷ (codes "one", report.One) ∷ (codes "blame", report.Blame) ∷ (codes "path", report.Path)
     ∷ (codes "changes", report.Changes) ∷ (codes "drift", report.Drift) ∷ (codes "times", report.Times) ∷ []
 
 abbrev pub report_name_in : Data → Option ReportName
 report_name_in d = option_and_then (beside report_names) (as_str d)
 
--- `stage` is read for the two reports of one stage
+-- `stage` is read for the three reports of one stage
 abbrev pub asked_of : ReportName → Data → Result Asked Fault
 asked_of report.One d = then_on (stage_member d) (λ stage. Ok (asked.One stage))
 asked_of report.Blame d = then_on (stage_member d) (λ stage. Ok (asked.Blame stage))
+asked_of report.Path d = then_on (stage_member d) (λ stage. Ok (asked.Path stage))
 asked_of report.All d = Ok asked.All
 asked_of report.Changes d = Ok asked.Changes
 asked_of report.Drift d = Ok asked.Drift

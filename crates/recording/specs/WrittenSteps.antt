@@ -8,7 +8,7 @@ use Rattle.recording.specs.Written.{written, IsWellFormed}
 use Rattle.recording.specs.WrittenStages.{object_of, row, array_of, count, null_or, written_outcome, written_end, written_stage, IsOutcome, AreEnds, IsStage}
 use Rattle.recording.specs.declared.stage.FormNumber.TheVariants.{Two}
 use Rattle.recording.specs.declared.step.Asked.{Asked}
-use Rattle.recording.specs.declared.step.Asked.TheVariants.{All as AllStages, One, Blame, Changes, Drift, Times}
+use Rattle.recording.specs.declared.step.Asked.TheVariants.{All as AllStages, One, Blame, Path, Changes, Drift, Times}
 use Rattle.recording.specs.declared.step.Step.{Step}
 use Rattle.recording.specs.declared.step.Step.TheVariants.{Open, Head, Undo, Close, Change, Report}
 
@@ -45,6 +45,7 @@ abbrev pub asked_rows : Asked → List (List ℕ × Option Data)
 asked_rows AllStages = row (codes "what") (string (codes "all")) ∷ []
 asked_rows (One stage) = row (codes "what") (string (codes "one")) ∷ row (codes "stage") (string stage) ∷ []
 asked_rows (Blame stage) = row (codes "what") (string (codes "blame")) ∷ row (codes "stage") (string stage) ∷ []
+asked_rows (Path stage) = row (codes "what") (string (codes "path")) ∷ row (codes "stage") (string stage) ∷ []
 asked_rows Changes = row (codes "what") (string (codes "changes")) ∷ []
 asked_rows Drift = row (codes "what") (string (codes "drift")) ∷ []
 asked_rows Times = row (codes "what") (string (codes "times")) ∷ []

@@ -25,6 +25,8 @@ pub enum Asked {
     One(Name),
     /// The chain of blame from the stage of this name.
     Blame(Name),
+    /// Why the stage of this name completed when it did, or why it is pending.
+    Path(Name),
     /// The stages that the version touched.
     Changes,
     /// The stages that the version moved in time.
@@ -104,6 +106,7 @@ pub(crate) enum ReportName {
     All,
     One,
     Blame,
+    Path,
     Changes,
     Drift,
     Times,
@@ -118,6 +121,7 @@ impl ReportName {
             "all" => Some(ReportName::All),
             "one" => Some(ReportName::One),
             "blame" => Some(ReportName::Blame),
+            "path" => Some(ReportName::Path),
             "changes" => Some(ReportName::Changes),
             "drift" => Some(ReportName::Drift),
             "times" => Some(ReportName::Times),
@@ -165,7 +169,7 @@ fn read_base(object: &Value) -> Result<Option<u32>, Fault>
     }
 }
 
-/// What the report is to tell, with the stage that two reports are of.
+/// What the report is to tell, with the stage that three reports are of.
 fn read_asked(alloc: Global, name: ReportName, object: &Value) -> Result<Asked, Fault>
     ensures { IsRead result (asked_of name (view object.now)) }
 {
@@ -173,6 +177,7 @@ fn read_asked(alloc: Global, name: ReportName, object: &Value) -> Result<Asked, 
         ReportName::All => Ok(Asked::All),
         ReportName::One => Ok(Asked::One(read_stage_name(alloc, object)?)),
         ReportName::Blame => Ok(Asked::Blame(read_stage_name(alloc, object)?)),
+        ReportName::Path => Ok(Asked::Path(read_stage_name(alloc, object)?)),
         ReportName::Changes => Ok(Asked::Changes),
         ReportName::Drift => Ok(Asked::Drift),
         ReportName::Times => Ok(Asked::Times),

@@ -1,3 +1,4 @@
 pub mod Lines
+pub mod PathTexts
 pub mod Reports
 pub mod Texts

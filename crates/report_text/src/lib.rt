@@ -7,6 +7,7 @@ mod fault;
 mod headers;
 mod lines;
 mod one;
+mod path;
 mod queries;
 mod reporting;
 mod shift;

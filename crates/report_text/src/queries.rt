@@ -5,11 +5,12 @@ ghost use Rattle.stage_graph.specs.Walk.{rank};
 ghost use Rattle.stage_ops.specs.Java.{java_step};
 ghost use Rattle.stage_ops.specs.Joins.{joined};
 ghost use Rattle.scratch_eval.specs.Blame.{chain};
-ghost use Rattle.version_store.specs.Queries.{before, start_in, state_of};
+ghost use Rattle.scratch_eval.specs.Path.{path, reason_at};
+ghost use Rattle.version_store.specs.Queries.{before, moment_in, start_in, state_of};
 
 use propagate::StateRepresentation;
 use stage_graph::Places;
-use stage_ops::{Join, State};
+use stage_ops::{Join, Reason, State};
 use std::alloc::{AllocError, Global};
 use version_store::{Before, QueryFault, Version};
 
@@ -67,6 +68,43 @@ pub(crate) fn chain_of<R: StateRepresentation>(
         Ok(chain) => Ok(chain),
         Err(QueryFault::Memory) => Err(AllocError),
         Err(QueryFault::NoStage) => unreachable!(),
+    }
+}
+
+/// The places of the path.
+pub(crate) fn path_of<R: StateRepresentation>(
+    alloc: Global,
+    version: &Version<R>,
+    place: u32,
+) -> Result<Places, AllocError>
+    requires { IsLive version.now.graph.places place }
+    ensures { IfOk result (λ places. places ≡ path version.now.graph place) }
+{
+    match version.path(alloc, place) {
+        Ok(path) => Ok(path),
+        Err(QueryFault::Memory) => Err(AllocError),
+        Err(QueryFault::NoStage) => unreachable!(),
+    }
+}
+
+/// What led to the stage's state.
+pub(crate) fn reason_of<R: StateRepresentation>(version: &Version<R>, place: u32) -> Reason
+    requires { IsLive version.now.graph.places place }
+    ensures { result ≡ reason_at version.now.graph place }
+{
+    match version.reason(place) {
+        Ok(reason) => reason,
+        Err(_) => unreachable!(),
+    }
+}
+
+pub(crate) fn moment_of<R: StateRepresentation>(version: &Version<R>, place: u32) -> Option<u64>
+    requires { IsLive version.now.graph.places place }
+    ensures { result ≡ moment_in (state_of version.now.graph place) }
+{
+    match version.moment(place) {
+        Ok(moment) => moment,
+        Err(_) => unreachable!(),
     }
 }
 

@@ -9,6 +9,7 @@ use crate::changes::write_changes;
 use crate::fault::ReportFault;
 use crate::lines::Lines;
 use crate::one::write_one;
+use crate::path::write_path;
 use crate::what::What;
 use crate::writing::write_lines;
 use propagate::StateRepresentation;
@@ -37,6 +38,7 @@ pub fn report<R: StateRepresentation, S: Sink>(
         What::All => write_lines(&mut line, Lines::States, version, sink),
         What::One(place) => write_one(&mut line, version, place, sink),
         What::Blame(place) => write_blame(alloc, &mut line, version, place, sink),
+        What::Path(place) => write_path(alloc, &mut line, version, place, sink),
         What::Changes => write_changes(&mut line, version, sink),
         What::Drift => write_lines(&mut line, Lines::Shifts, version, sink),
         What::Times => write_lines(&mut line, Lines::Times, version, sink),

@@ -9,6 +9,8 @@ pub enum What {
     One(u32),
     /// How the stage at a place came by its exception.
     Blame(u32),
+    /// Why the stage at a place completed when it did, or why it is pending.
+    Path(u32),
     /// Each stage that the edits touched: what it was in the parent, and what it is here.
     Changes,
     /// Each stage that completes at another moment than in the parent: how much later or earlier.

@@ -57,8 +57,8 @@ fn push_names<R: Representation>(
     Ok(())
 }
 
-// The name of the stage at a place.
-fn name_of<R: Representation>(graph: &Graph<R>, place: u32) -> &str
+/// The name of the stage at a place.
+pub(crate) fn name_of<R: Representation>(graph: &Graph<R>, place: u32) -> &str
     ensures { result.now ≡ name_of (stage_at graph.now.places place) }
 {
     match graph.stage(place) {

@@ -1,2 +1,3 @@
 pub mod Evaluating
 pub mod Querying
+pub mod Pathing

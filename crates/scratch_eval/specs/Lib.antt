@@ -1,3 +1,4 @@
 pub mod Answers
 pub mod Blame
+pub mod Path
 pub mod Queries

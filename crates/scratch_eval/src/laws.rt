@@ -6,6 +6,7 @@ ghost use Rattle.stage_ops.specs.States.{Completion};
 ghost use Rattle.stage_ops.specs.Evaluation.{ReadsDecide, BlamesRead, IsSoon, IsPrompt, OneAnswer};
 ghost use Rattle.scratch_eval.specs.Answers.{MomentsFollowRanks, MomentsFollowRanksUnqueued};
 ghost use Rattle.scratch_eval.specs.Blame.{ChainsFollowBlame};
+ghost use Rattle.scratch_eval.specs.Path.{PathsAddUp, PathsMove};
 
 /// On a ranked graph, states that meet each stage's equation are those of evaluation from scratch.
 pub fn one_answer()
@@ -25,4 +26,14 @@ pub fn moments_follow_ranks_unqueued()
 /// The chain of blame of a stage is the stage, and then the chain of the source that it blames.
 pub fn chains_follow_blame()
     ensures { (step : Stage → (ℕ → Option Completion) → State) → ReadsDecide step → ((stage : Stage) (inputs : ℕ → Option Completion) → BlamesRead stage (step stage inputs)) → ChainsFollowBlame step }
+{}
+
+/// The path of a stage is the stage, and then the path of the feed that its cause names. A completed stage completed the
+/// ticks of its path after the tick at which the path began, and the path of a pending one is of pending stages.
+///
+/// While a stage keeps its path and the tick at which it begins, it completes later by as many ticks as the actions on
+/// the path take longer.
+pub fn paths_add_up()
+    ensures adds_up { PathsAddUp }
+    ensures moves { PathsMove }
 {}

@@ -11,6 +11,7 @@ pub use answers::{Answer, Answers};
 pub use fault::{NoStage, QueryFault};
 pub use laws::{
     chains_follow_blame, moments_follow_ranks, moments_follow_ranks_unqueued, one_answer,
+    paths_add_up,
 };
 pub use queries::{chain, users};
 pub use scratch::evaluate;

@@ -67,6 +67,7 @@ abbrev pub what_asked : List (Option Stage) → Asked → Option What
 what_asked places asked.All = Some what.All
 what_asked places (asked.One name) = option_map what.One (place_named places name)
 what_asked places (asked.Blame name) = option_map what.Blame (place_named places name)
+what_asked places (asked.Path name) = option_map what.Path (place_named places name)
 what_asked places asked.Changes = Some what.Changes
 what_asked places asked.Drift = Some what.Drift
 what_asked places asked.Times = Some what.Times

@@ -94,6 +94,7 @@ fn what_asked<R: StateRepresentation>(version: &Version<R>, asked: &Asked) -> Op
         Asked::All => Some(What::All),
         Asked::One(name) => Some(What::One(place_named(version, name)?)),
         Asked::Blame(name) => Some(What::Blame(place_named(version, name)?)),
+        Asked::Path(name) => Some(What::Path(place_named(version, name)?)),
         Asked::Changes => Some(What::Changes),
         Asked::Drift => Some(What::Drift),
         Asked::Times => Some(What::Times),

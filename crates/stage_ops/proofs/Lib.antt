@@ -4,3 +4,5 @@ pub mod EndsLemmas
 pub mod InnerLemmas
 pub mod AmongLemmas
 pub mod OneDurationLemmas
+pub mod Accounting
+pub mod ReasonsLemmas

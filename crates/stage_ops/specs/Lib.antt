@@ -16,6 +16,8 @@ pub mod Java
 pub mod OneDuration
 pub mod Evaluation
 pub mod Joins
+pub mod Reasons
+pub mod Accounts
 pub mod SourceLaws
 pub mod ProgressLaws
 pub mod AmongLaws

@@ -40,7 +40,7 @@ pub(crate) fn pinned(stage: &Stage, done: Option<Done>) -> Option<Done>
 }
 
 /// What an end sets.
-fn set_by(end: &End) -> Done
+pub(crate) fn set_by(end: &End) -> Done
     requires { acts_at end.now ≤ 2 ^ 41 }
     ensures { result ≡ set_by end.now }
 {

@@ -10,6 +10,8 @@ mod meter;
 mod names;
 mod natural;
 mod ops;
+mod reason;
+mod reasons;
 mod sources;
 mod state;
 mod texts;
@@ -17,9 +19,10 @@ mod texts;
 pub use java::JavaOps;
 pub use joins::join;
 pub use laws::{
-    earliest_completion_is_earliest, earliest_of_one, earliest_source_is_earliest,
-    prompt_where_nothing_is_queued,
+    each_reason_accounts, earliest_completion_is_earliest, earliest_of_one,
+    earliest_source_is_earliest, prompt_where_nothing_is_queued,
 };
 pub use meter::{Meter, Pass};
 pub use ops::{Look, StageOps};
+pub use reason::{Cause, Reason};
 pub use state::{Done, Join, Reads, State};

@@ -9,6 +9,8 @@ mod devices;
 #[cfg(test)]
 mod from_scratch;
 #[cfg(test)]
+mod paths;
+#[cfg(test)]
 mod reports;
 #[cfg(test)]
 mod versions;

@@ -71,6 +71,7 @@ pub(crate) fn asked<R: StateRepresentation>(
     Ok(match words.split_once(" ") {
         Some(("one", name)) => What::One(version.id_of(name)?),
         Some(("blame", name)) => What::Blame(version.id_of(name)?),
+        Some(("path", name)) => What::Path(version.id_of(name)?),
         _ => match words {
             "all" => What::All,
             "changes" => What::Changes,
@@ -82,7 +83,7 @@ pub(crate) fn asked<R: StateRepresentation>(
 }
 
 /// The text of a report.
-fn told<R: StateRepresentation>(
+pub(crate) fn told<R: StateRepresentation>(
     rt: &impl Abort,
     alloc: Global,
     version: &Version<R>,

@@ -1,3 +1,4 @@
 pub mod Blaming
 pub mod Telling
 pub mod Moments
+pub mod Reasoning

@@ -1,9 +1,10 @@
 //! A graph with its order and with what its stages come to.
-ghost use Rattle.std.specs.Prelude.{◌≡◌, ◌≤◌, ◌+◌, ◌^◌, None, IfOk, IfErr, OnErr, MatchResult, Ok, Err, length};
+ghost use Rattle.std.specs.Prelude.{◌≡◌, ◌≤◌, ◌+◌, ◌^◌, None, Some, IfOk, IfErr, OnErr, MatchResult, Ok, Err, length};
 ghost use Rattle.stage_graph.specs.Changes.{changed, IsNewCycle, IsSettled};
 ghost use Rattle.stage_graph.specs.Plain.{stage_at, dependents, IsLive};
 ghost use Rattle.stage_graph.specs.Walk.{IsRanked, rank};
 ghost use Rattle.stage_ops.specs.Java.{java_step};
+ghost use Rattle.scratch_eval.specs.Path.{reason_in};
 ghost use Rattle.propagate.specs.Patched.{touched_by};
 ghost use Rattle.version_store.specs.Drafts.{IsCountAfter};
 ghost use Rattle.version_store.specs.Queries.{state_of, told, held, held_by};
@@ -14,8 +15,8 @@ use propagate::{Old, StateRepresentation, States, propagate};
 use rank_order::Order;
 use scratch_eval::{NoStage, evaluate};
 use share_tree::Held;
-use stage_graph::{Edits, Fault, Graph, Places};
-use stage_ops::{Done, JavaOps, Meter, State};
+use stage_graph::{Edits, Fault, Graph, Places, Stage};
+use stage_ops::{Done, JavaOps, Meter, Reason, State};
 use std::alloc::{AllocError, Global};
 use std::marker::{Model, Sync};
 use std::ops::Deref;
@@ -136,6 +137,16 @@ impl<R: StateRepresentation> Evaluated<R> {
             Some(_) => Ok(self.state_at(place)),
             None => Err(NoStage),
         }
+    }
+
+    /// What led to the state of a stage.
+    pub(crate) fn reason_of(&self, stage: &Stage) -> Reason
+        requires { stage_at self.now.places stage.now.place ≡ Some stage.now }
+        ensures { result ≡ reason_in self.now stage.now }
+    {
+        let mode = self.graph().mode();
+        let _ = self.graph().len();
+        JavaOps.reason(mode, stage, &self.states)
     }
 
     /// The rank of the stage at a place.

@@ -12,6 +12,7 @@ mod draft;
 mod drafting;
 mod evaluated;
 mod origin;
+mod path;
 mod version;
 
 pub use before::Before;

@@ -5,7 +5,8 @@ ghost use Rattle.stage_graph.specs.Walk.{IsRanked, rank};
 ghost use Rattle.stage_ops.specs.Joins.{joined};
 ghost use Rattle.stage_ops.specs.Java.{java_step};
 ghost use Rattle.scratch_eval.specs.Answers.{NoneQueued};
-ghost use Rattle.scratch_eval.specs.Queries.{AnswersOrMemory, chain_at};
+ghost use Rattle.scratch_eval.specs.Path.{IsPath, path, reason_at};
+ghost use Rattle.scratch_eval.specs.Queries.{AnswersOrMemory, chain_at, list_at};
 ghost use Rattle.version_store.specs.Plain.{opening_version, numbered, parent_of};
 ghost use Rattle.version_store.specs.Queries.{state_of, told, found, outcome_in, moment_in, start_in, before, touched_in, touched_of};
 
@@ -17,7 +18,7 @@ use propagate::StateRepresentation;
 use scratch_eval::{NoStage, QueryFault};
 use share_tree::{Again, Held};
 use stage_graph::{Graph, Places};
-use stage_ops::{Join, State, join};
+use stage_ops::{Join, Reason, State, join};
 use std::alloc::{AllocError, Global};
 use std::marker::Model;
 
@@ -223,6 +224,22 @@ impl<R: StateRepresentation> Version<R> {
         ensures { AnswersOrMemory (chain_at (java_step self.now.graph.mode) self.now.graph.places place) result }
     {
         self.graph.blame(alloc, place)
+    }
+
+    /// What led to the state of the stage at a place: why it completed when it did, or why it is pending.
+    pub fn reason(&self, place: u32) -> Result<Reason, NoStage>
+        ensures { result ≡ told self.now.graph place (reason_at self.now.graph place) }
+    {
+        self.graph.reason(place)
+    }
+
+    /// The path of the stage at a place: the stage itself, and then the path of the feed that its cause names. It looks
+    /// at the stages on the path and at their feeds alone.
+    pub fn path(&self, alloc: Global, place: u32) -> Result<Places, QueryFault>
+        ensures answer { AnswersOrMemory (list_at (path self.now.graph) place (stage_at self.now.graph.places place)) result }
+        ensures adds_up { IfOk result (IsPath self.now.graph place) }
+    {
+        self.graph.path(alloc, place)
     }
 
     /// What the stage at a place was in the parent.

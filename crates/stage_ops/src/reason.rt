@@ -1,0 +1,29 @@
+//! What led to a stage's state.
+
+/// Why a stage completed when it did, or why it is pending.
+#[derive(Clone, Copy, Debug, PartialEq, Eq)]
+pub enum Cause {
+    /// Its creation was its trigger.
+    Created,
+    /// Its trigger was the completion of the source at this place.
+    After(u32),
+    /// It took over the stage at this place, which its function picked and which completed after the function's end.
+    Inner(u32),
+    /// Its moment is pinned.
+    Pinned,
+    /// The end of this index completed it.
+    Ended(usize),
+    /// It is pending, since the feed at this place is.
+    Waiting(u32),
+    /// It is pending, and waits for no feed.
+    Open,
+}
+
+/// What led to a stage's state: its cause, and for how many ticks its own action was queued and ran since; none where
+/// the action did not run, and where the cause came after it.
+#[derive(Clone, Copy, Debug, PartialEq, Eq)]
+pub struct Reason {
+    pub cause: Cause,
+    pub queued: u64,
+    pub ran: u64,
+}

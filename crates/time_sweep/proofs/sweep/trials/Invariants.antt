@@ -1,0 +1,11 @@
+use Rattle.std.proofs.Common.{◌≡◌, length}
+use Rattle.std.specs.Prelude.{filter_map}
+use Rattle.std.specs.List.{range_with_len}
+use Rattle.time_sweep.specs.Sweep.{trial_at}
+use Rattle.time_sweep.proofs.sweep.trials.Given as goal
+
+abbrev pub invariant-loop-place : goal.invariant-loop-place
+invariant-loop-place g l = record {
+  found : l.found.items ≡ filter_map (trial_at l.version.graph l.target) (range_with_len 0 l.place);
+  ends : l.place-end ≡ length l.version.graph.places;
+}

@@ -1,0 +1,49 @@
+-- Which stages are worth making faster: how much sooner a stage would complete if the action of another took no time.
+use Rattle.std.specs.Prelude.{ℕ, List, [], ◌∷◌, Option, Some, None, filter_map, is_some, nat_lt, if◌then◌else◌, slice_set, IsPermutation}
+use Rattle.std.specs.List.Sorted.{IsNonDecreasingBy, IsStableByKey}
+use Rattle.std.specs.Ordering.{nat_cmp}
+use Rattle.stage_graph.specs.declared.edit.Edit.{Edit}
+use Rattle.stage_graph.specs.declared.edit.Edit.TheVariants.{SetTimes}
+use Rattle.stage_graph.specs.declared.stage.Stage.{Stage}
+use Rattle.stage_graph.specs.Plain.{PlainGraph, stage_at, all_places}
+use Rattle.version_store.specs.Queries.{state_of, moment_in}
+use Rattle.time_sweep.specs.declared.trial.Trial.{Trial}
+
+-- the graph in which the stage's action is not queued and takes no time
+abbrev pub hurried : PlainGraph → Stage → PlainGraph
+hurried graph stage = record graph { places = slice_set graph.places stage.place (Some (record stage { queued = 0; runs = 0 })) }
+
+-- the edits that make it of the graph
+abbrev pub hurry : Stage → List Edit
+hurry stage = SetTimes stage.name 0 0 ∷ []
+
+-- when a stage completes in a graph
+abbrev pub completes_at : PlainGraph → ℕ → Option ℕ
+completes_at graph place = moment_in (state_of graph place)
+
+-- a trial that completes sooner
+abbrev pub sooner_trial : ℕ → Option ℕ → Option ℕ → Option Trial
+sooner_trial place (Some old) (Some new) = if nat_lt new old then Some (record { place = place; moment = new }) else None
+sooner_trial place old new = None
+
+-- what the target would come to if the action of a stage took no time, where it has one and the target would complete sooner
+abbrev pub trial_of : PlainGraph → ℕ → ℕ → Option Stage → Option Trial
+trial_of graph target place None = None
+trial_of graph target place (Some stage) =
+    if is_some stage.action then sooner_trial place (completes_at graph target) (completes_at (hurried graph stage) target) else None
+
+abbrev pub trial_at : PlainGraph → ℕ → ℕ → Option Trial
+trial_at graph target place = trial_of graph target place (stage_at graph.places place)
+
+-- all of them, by place
+abbrev pub trials : PlainGraph → ℕ → List Trial
+trials graph target = filter_map (trial_at graph target) (all_places graph.places)
+
+abbrev pub trial_moment : Trial → ℕ
+trial_moment trial = trial.moment
+
+-- the same in another order: the soonest first, and at one tick by place
+pub record IsSweep (graph : PlainGraph) (target : ℕ) (found : List Trial) : Type 0 where
+  pub permutation : IsPermutation (trials graph target) found
+  pub ordered : IsNonDecreasingBy trial_moment found
+  pub by_place : IsStableByKey trial_moment nat_cmp (trials graph target) found

@@ -1,0 +1,10 @@
+//! Which stages are worth making faster: for each stage with an action, when another stage would complete if that action
+//! took no time. Each is a draft of the version, so only the stages that it can reach are computed.
+#![tactic(auto)]
+
+mod hurried;
+mod sweep;
+mod trial;
+
+pub use sweep::sweep_of;
+pub use trial::Trial;
