@@ -1,5 +1,5 @@
 -- The text of the report of why a stage completed when it did, or why it is pending.
-use Rattle.std.specs.Prelude.{ℕ, List, [], ◌++◌, Option, None, Some, codes, slice_get}
+use Rattle.std.specs.Prelude.{ℕ, List, [], ◌++◌, Option, None, Some, codes, length, slice_get}
 use Rattle.std.specs.List.{flat_map}
 use Rattle.std.specs.Fmt.{decimal}
 use Rattle.stage_graph.specs.declared.end.Act.{Act}
@@ -56,9 +56,10 @@ step_line graph place stage = stage.name ++ at_text [] (moment_in (state_of grap
 abbrev pub step_line_at : PlainGraph → ℕ → List ℕ
 step_line_at graph place = line_of (step_line graph) place (stage_at graph.places place)
 
--- path of NAME at M, or path of NAME pending
-abbrev pub path_header : PlainGraph → ℕ → Stage → List ℕ
-path_header graph place stage = codes "path of " ++ stage.name ++ at_text (codes " pending") (moment_in (state_of graph place)) ++ line_end
+-- path of NAME at M stages K, or path of NAME pending stages K
+abbrev pub path_header : PlainGraph → ℕ → Stage → ℕ → List ℕ
+path_header graph place stage count = codes "path of " ++ stage.name ++ at_text (codes " pending") (moment_in (state_of graph place))
+    ++ codes " stages " ++ decimal count ++ line_end
 
 abbrev pub path_text : PlainGraph → ℕ → Stage → List ℕ
-path_text graph place stage = path_header graph place stage ++ flat_map (step_line_at graph) (path graph place)
+path_text graph place stage = path_header graph place stage (length (path graph place)) ++ flat_map (step_line_at graph) (path graph place)

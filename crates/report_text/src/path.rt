@@ -56,9 +56,10 @@ fn write_path_of<R: StateRepresentation, S: Sink>(
     ensures failures { S.failures sink.new ≡ S.failures sink.old + failed_writes result }
 {
     let path = path_of(alloc, version, place)?;
+    let places = path.as_slice();
     line.clear();
-    push_path_header(line, version, place, stage)?;
-    write_each_step(line, version, path.as_slice(), sink)
+    push_path_header(line, version, place, stage, places.len())?;
+    write_each_step(line, version, places, sink)
 }
 
 // Writes the header, which stands in the line's room, and then the line of each of the places.
@@ -138,15 +139,16 @@ fn push_path_header<R: StateRepresentation>(
     version: &Version<R>,
     place: u32,
     stage: &Stage,
+    count: usize,
 ) -> Result<(), AllocError>
     requires { stage_at version.now.graph.places place ≡ Some stage.now }
-    ensures { OnOk result (string_bytes line.new ≡ string_bytes line.old ++ path_header version.now.graph place stage.now) }
+    ensures { OnOk result (string_bytes line.new ≡ string_bytes line.old ++ path_header version.now.graph place stage.now count) }
 {
     let moment = moment_of(version, place);
     let name = stage.name.as_str();
     write!(line, "path of {name}")?;
     push_at(line, " pending", moment)?;
-    line.push_str("\n")
+    writeln!(line, " stages {count}")
 }
 
 // The moment, and another text where there is none.

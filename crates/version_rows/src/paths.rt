@@ -62,7 +62,7 @@ fn reply_is_late_by_the_database(rt: HostRuntime) -> Result<(), Fail> {
         alloc,
         LATE_REPLY,
         "reply",
-        "path of reply at 117\n\
+        "path of reply at 117 stages 5\n\
         reply at 117 queued 0 ran 0 after page\n\
         page at 117 queued 0 ran 0 after discount\n\
         discount at 117 queued 0 ran 3 after customer\n\
@@ -74,14 +74,14 @@ fn reply_is_late_by_the_database(rt: HostRuntime) -> Result<(), Fail> {
         alloc,
         LATE_REPLY,
         "stock-north",
-        "path of stock-north at 121\nstock-north at 121 ended by orTimeout\n",
+        "path of stock-north at 121 stages 1\nstock-north at 121 ended by orTimeout\n",
     )?;
     path_is(
         &rt,
         alloc,
         LATE_REPLY,
         "delivery",
-        "path of delivery at 59\n\
+        "path of delivery at 59 stages 6\n\
         delivery at 59 queued 0 ran 0 after stock\n\
         stock at 59 queued 0 ran 0 after stock-south\n\
         stock-south at 59 queued 3 ran 35 after basket\n\
@@ -98,25 +98,25 @@ fn all_are_waited_for(rt: HostRuntime) -> Result<(), Fail> {
         &rt,
         alloc,
         r#"{"name":"s","op":"allOf","sources":["four","also","nine"]}"#,
-        "path of s at 9\ns at 9 queued 0 ran 0 after also\nalso at 9 queued 0 ran 7 created 2\n",
+        "path of s at 9 stages 2\ns at 9 queued 0 ran 0 after also\nalso at 9 queued 0 ran 7 created 2\n",
     )?;
     after_sources(
         &rt,
         alloc,
         r#"{"name":"s","op":"thenCombine","created":10,"sources":["four","also"],"takes":5,"action":1}"#,
-        "path of s at 15\ns at 15 queued 0 ran 5 created 10\n",
+        "path of s at 15 stages 1\ns at 15 queued 0 ran 5 created 10\n",
     )?;
     after_sources(
         &rt,
         alloc,
         r#"{"name":"s","op":"thenCombine","created":9,"sources":["four","also"],"takes":5,"action":1}"#,
-        "path of s at 14\ns at 14 queued 0 ran 5 after also\nalso at 9 queued 0 ran 7 created 2\n",
+        "path of s at 14 stages 2\ns at 14 queued 0 ran 5 after also\nalso at 9 queued 0 ran 7 created 2\n",
     )?;
     after_sources(
         &rt,
         alloc,
         r#"{"name":"s","op":"runAfterBoth","sources":["nine","open"],"action":1}"#,
-        "path of s pending\ns waits for open\nopen open\n",
+        "path of s pending stages 2\ns waits for open\nopen open\n",
     )
 }
 
@@ -127,25 +127,25 @@ fn the_earliest_decides(rt: HostRuntime) -> Result<(), Fail> {
         &rt,
         alloc,
         r#"{"name":"s","op":"anyOf","sources":["open","nine","four"]}"#,
-        "path of s at 4\ns at 4 queued 0 ran 0 after four\nfour at 4 queued 0 ran 4 created 0\n",
+        "path of s at 4 stages 2\ns at 4 queued 0 ran 0 after four\nfour at 4 queued 0 ran 4 created 0\n",
     )?;
     after_sources(
         &rt,
         alloc,
         r#"{"name":"s","op":"acceptEither","sources":["also","nine"],"takes":1,"action":1}"#,
-        "path of s at 10\ns at 10 queued 0 ran 1 after also\nalso at 9 queued 0 ran 7 created 2\n",
+        "path of s at 10 stages 2\ns at 10 queued 0 ran 1 after also\nalso at 9 queued 0 ran 7 created 2\n",
     )?;
     after_sources(
         &rt,
         alloc,
         r#"{"name":"s","op":"acceptEither","created":9,"sources":["four","nine"],"takes":1,"action":1}"#,
-        "path of s at 10\ns at 10 queued 0 ran 1 created 9\n",
+        "path of s at 10 stages 1\ns at 10 queued 0 ran 1 created 9\n",
     )?;
     after_sources(
         &rt,
         alloc,
         r#"{"name":"s","op":"anyOf","sources":[]}"#,
-        "path of s pending\ns open\n",
+        "path of s pending stages 1\ns open\n",
     )
 }
 
@@ -156,25 +156,25 @@ fn functions_pick(rt: HostRuntime) -> Result<(), Fail> {
         &rt,
         alloc,
         r#"{"name":"s","op":"thenCompose","sources":["four"],"inner":["also"],"takes":5,"action":0}"#,
-        "path of s at 9\ns at 9 queued 0 ran 5 after four\nfour at 4 queued 0 ran 4 created 0\n",
+        "path of s at 9 stages 2\ns at 9 queued 0 ran 5 after four\nfour at 4 queued 0 ran 4 created 0\n",
     )?;
     after_sources(
         &rt,
         alloc,
         r#"{"name":"s","op":"thenCompose","sources":["four"],"inner":["also"],"takes":4,"action":0}"#,
-        "path of s at 9\ns at 9 took over also\nalso at 9 queued 0 ran 7 created 2\n",
+        "path of s at 9 stages 2\ns at 9 took over also\nalso at 9 queued 0 ran 7 created 2\n",
     )?;
     after_sources(
         &rt,
         alloc,
         r#"{"name":"s","op":"thenCompose","sources":["four"],"inner":["open"],"takes":4,"action":0}"#,
-        "path of s pending\ns waits for open\nopen open\n",
+        "path of s pending stages 2\ns waits for open\nopen open\n",
     )?;
     after_sources(
         &rt,
         alloc,
         r#"{"name":"s","op":"thenCompose","sources":["open"],"inner":["four"],"takes":4,"action":0}"#,
-        "path of s pending\ns waits for open\nopen open\n",
+        "path of s pending stages 2\ns waits for open\nopen open\n",
     )
 }
 
@@ -185,31 +185,31 @@ fn pins_and_ends(rt: HostRuntime) -> Result<(), Fail> {
         &rt,
         alloc,
         r#"{"name":"s","op":"thenRun","sources":["four"],"takes":3,"action":0,"pinMoment":2}"#,
-        "path of s at 2\ns at 2 pinned\n",
+        "path of s at 2 stages 1\ns at 2 pinned\n",
     )?;
     after_sources(
         &rt,
         alloc,
         r#"{"name":"s","op":"thenRun","sources":["four"],"takes":3,"action":0,"pinResult":{"bare":"Y"}}"#,
-        "path of s at 7\ns at 7 queued 0 ran 3 after four\nfour at 4 queued 0 ran 4 created 0\n",
+        "path of s at 7 stages 2\ns at 7 queued 0 ran 3 after four\nfour at 4 queued 0 ran 4 created 0\n",
     )?;
     after_sources(
         &rt,
         alloc,
         r#"{"name":"s","op":"thenRun","sources":["open"],"takes":3,"action":0,"pinMoment":2}"#,
-        "path of s pending\ns waits for open\nopen open\n",
+        "path of s pending stages 2\ns waits for open\nopen open\n",
     )?;
     after_sources(
         &rt,
         alloc,
         r#"{"name":"s","op":"thenRun","sources":["four"],"takes":3,"action":0,"ends":[{"at":7,"do":"cancel"}]}"#,
-        "path of s at 7\ns at 7 queued 0 ran 3 after four\nfour at 4 queued 0 ran 4 created 0\n",
+        "path of s at 7 stages 2\ns at 7 queued 0 ran 3 after four\nfour at 4 queued 0 ran 4 created 0\n",
     )?;
     after_sources(
         &rt,
         alloc,
         r#"{"name":"s","op":"thenRun","sources":["open"],"action":0,"ends":[{"at":8,"do":"cancel"},{"at":0,"do":"completeOnTimeout","delay":6,"value":1},{"at":6,"do":"complete","value":1}]}"#,
-        "path of s at 6\ns at 6 ended by completeOnTimeout\n",
+        "path of s at 6 stages 1\ns at 6 ended by completeOnTimeout\n",
     )
 }
 
