@@ -16,6 +16,7 @@ use Rattle.stage_ops.specs.Evaluation.{on_states}
 use Rattle.stage_ops.specs.Java.{java_step}
 use Rattle.stage_ops.specs.JavaLaws.{java_reads_decide, java_blames_read}
 use Rattle.scratch_eval.proofs.Evaluating.{asks_feeds, same_above}
+use Rattle.scratch_eval.proofs.Pathing.{path_unfolds}
 use Rattle.scratch_eval.proofs.Querying.{chains_follow, chains_alone}
 use Rattle.version_store.specs.Plain.{PlainVersion, opening_version}
 use Rattle.session_core.specs.declared.event.Event.{Event}
@@ -234,6 +235,7 @@ one_answer graph sound ranked = record {
   ranks = λ ranks meets place. sym (found_alone 0 rank_step graph.places (λ stage inputs others same. same_above inputs others (feeds_of stage) same) ranked ranks meets place);
   chains = λ place. chains_follow (java_step graph.mode) (java_reads_decide graph.mode) (java_blames_read graph.mode) graph sound ranked place;
   chains_alone = λ chains goes place. chains_alone (java_step graph.mode) (java_reads_decide graph.mode) (java_blames_read graph.mode) graph sound ranked chains goes place;
+  paths = path_unfolds graph sound ranked;
 }
 
 pub leads : (graph : PlainGraph) (most : ℕ) (events : List Event) (replies : List Reply) (t u : TableView) → IsSound graph → IsRanked graph.places → t.state ≡ opening (opening_version graph) most → Runs t events replies u

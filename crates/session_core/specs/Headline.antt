@@ -2,7 +2,8 @@
 use Rattle.std.specs.Prelude.{◌≡◌, ℕ, suc, ◌+◌, ◌<◌, ◌==◌, ◌⊎◌, if◌then◌else◌, List, [], ◌∷◌, length, take, Option, Some, None, slice_get, Ok}
 use Rattle.std.specs.Option.{option_map}
 use Rattle.stage_graph.specs.declared.edit.Edit.{Edit}
-use Rattle.stage_graph.specs.Plain.{PlainGraph}
+use Rattle.stage_graph.specs.declared.stage.Stage.{Stage}
+use Rattle.stage_graph.specs.Plain.{PlainGraph, stage_at}
 use Rattle.stage_graph.specs.Sound.{IsSound}
 use Rattle.stage_graph.specs.Walk.{IsRanked, MeetsEach, rank, rank_step}
 use Rattle.stage_ops.specs.declared.state.State.{State as StageState}
@@ -11,6 +12,7 @@ use Rattle.stage_ops.specs.Evaluation.{on_states}
 use Rattle.stage_ops.specs.Java.{java_step}
 use Rattle.version_store.specs.Plain.{Origin, PlainVersion, opening_version}
 use Rattle.scratch_eval.specs.Blame.{chain, chain_of}
+use Rattle.scratch_eval.specs.Path.{next_feed, path, path_after}
 use Rattle.version_store.specs.Queries.{state_of}
 use Rattle.session_core.specs.Applied.{applied}
 use Rattle.session_core.specs.Machine.{State, Numbers, opening, alone, with_head, numbers_at, from_base}
@@ -104,13 +106,14 @@ abbrev pub all_made : List Reply → ℕ
 all_made [] = 0
 all_made (reply ∷ replies) = made reply + all_made replies
 
--- whatever meets each stage's equation is what the graph answers: states by the operations on the states of the feeds, ranks by the ranks of the feeds, and chains of blame, which go on with the chain of the blamed source
+-- whatever meets each stage's equation is what the graph answers: states by the operations on the states of the feeds, ranks by the ranks of the feeds, and chains of blame, which go on with the chain of the blamed source; and a path goes on with the path of the feed that the stage's cause names
 pub record HasOneAnswer (graph : PlainGraph) : Type 0 where
   pub states : (states : ℕ → StageState) → MeetsEach pending (on_states (java_step graph.mode)) graph.places states → (place : ℕ) → state_of graph place ≡ states place
   pub ranks : (ranks : ℕ → ℕ) → MeetsEach 0 rank_step graph.places ranks → (place : ℕ) → rank graph.places place ≡ ranks place
   pub chains : (place : ℕ) → chain (java_step graph.mode) graph.places place ≡ chain_of place (state_of graph place).done (chain (java_step graph.mode) graph.places)
   pub chains_alone : (chains : ℕ → List ℕ) → ((place : ℕ) → chains place ≡ chain_of place (state_of graph place).done chains)
       → (place : ℕ) → chain (java_step graph.mode) graph.places place ≡ chains place
+  pub paths : (place : ℕ) (stage : Stage) → stage_at graph.places place ≡ Some stage → path graph place ≡ place ∷ path_after (path graph) (next_feed graph.mode (state_of graph) stage)
 
 -- where the events lead, by the replies; the accepted commits make the versions 1, 2 and so on in turn, each by its own event, on the head that the events before it led its session to, and there are no others
 pub record LeadsTo (graph : PlainGraph) (events : List Event) (replies : List Reply) (t : State) : Type 0 where
