@@ -3,9 +3,9 @@
 //! Numbers are those of Java's type `long`, and arithmetic is that of the Java Language Specification
 //! (sections 15.17 to 15.21): sums, differences and products wrap at 64 bits, a quotient is truncated
 //! toward zero. Operands are evaluated from left to right, and the first throw is the answer.
-ghost use Rattle.std.specs.Prelude.{◌≡◌, ◌^◌, ◌-◌, ◌↔◌, min, IfOk, IsTrue};
+ghost use Rattle.std.specs.Prelude.{◌≡◌, ◌≤◌, ◌↔◌, IfOk, OnOk, IsTrue};
 ghost use Rattle.act_expr.specs.Expression.{depth, nodes};
-ghost use Rattle.act_expr.specs.Forms.{tree};
+ghost use Rattle.act_expr.specs.Forms.{tree, IsMade};
 ghost use Rattle.act_expr.specs.Meaning.{meaning, on_values, on_numbers, as_answer, check, fault_number};
 
 use crate::{ExName, Value};
@@ -19,6 +19,13 @@ const MOST_DEPTH: u32 = 32;
 
 /// No sound expression has more nodes.
 const MOST_NODES: u32 = 256;
+
+/// No expression is made with more levels than this, so that none is too deep to be walked.
+const MOST_MADE_DEPTH: u32 = 1024;
+
+/// No expression is made with more nodes than this, each counted as often as it stands in the tree. A recording of the greatest
+/// length has fewer.
+const MOST_MADE_NODES: u32 = 67_108_864;
 
 /// Which argument of the action.
 #[derive(Clone, Copy, PartialEq, Eq, Debug)]
@@ -80,6 +87,10 @@ pub enum ExprFault {
 #[derive(Drop)]
 pub struct Expr {
     form: Arc<Form>,
+    /// How many forms lie one inside the other.
+    levels: u32,
+    /// How many forms there are: those of a shared part count as often as it stands in the tree.
+    forms: u32,
 }
 
 /// The outermost form of an expression, with its operands.
@@ -111,9 +122,13 @@ impl Model for Expr {
 
     ghost coded = { coded_expression };
 
-    ghost use Rattle.act_expr.specs.Forms.{tree};
+    ghost use Rattle.std.specs.Prelude.{◌≡◌};
+    ghost use Rattle.act_expr.specs.Expression.{depth};
+    ghost use Rattle.act_expr.specs.Forms.{tree, IsMade};
 
     ghost view = { λ e. tree e.form.value };
+
+    ghost invariant = { λ e. (e.levels ≡ depth (tree e.form.value)) × (e.forms ≡ nodes (tree e.form.value)) × IsMade (tree e.form.value) };
 
     ghost size = { nodes };
 
@@ -123,12 +138,24 @@ impl Model for Expr {
 }
 
 impl Expr {
-    /// The expression of a form.
+    /// The expression of a form. As one for which there is no memory it refuses an expression of more than 1,024 levels, or of more than
+    /// 67,108,864 nodes where each shared part counts as often as it stands in the tree. So each expression can be walked, compared
+    /// and dropped.
     pub fn new(alloc: Global, form: Form) -> Result<Expr, AllocError>
-        ensures { IfOk result (λ e. e ≡ tree form) }
+        ensures tree { IfOk result (λ e. e ≡ tree form) }
+        ensures made { OnOk result (IsMade (tree form)) }
     {
+        let levels = form.depth();
+        let forms = form.nodes();
+        if levels > MOST_MADE_DEPTH || forms > MOST_MADE_NODES {
+            return Err(AllocError);
+        }
         let form = Arc::new(alloc, form)?;
-        Ok(Expr { form })
+        Ok(Expr {
+            form,
+            levels,
+            forms,
+        })
     }
 
     /// The outermost form.
@@ -180,35 +207,20 @@ impl Expr {
         }
     }
 
-    /// The depth, as far as a `u32` counts.
+    /// How many forms lie one inside the other.
     fn depth(&self) -> u32
-        ensures { result ≡ min (depth self.now) (2 ^ 32 - 1) }
+        ensures depth { result ≡ depth self.now }
+        ensures made { IsMade self.now }
     {
-        let operands = match &*self.form {
-            Form::Binary(_, left, right) => left.depth().max(right.depth()),
-            Form::If(condition, first, second) => {
-                condition.depth().max(first.depth().max(second.depth()))
-            }
-            Form::IsNull(operand) => operand.depth(),
-            _ => 0,
-        };
-        operands.saturating_add(1)
+        self.levels
     }
 
-    /// The number of nodes, as far as a `u32` counts: a tree whose parts are shared may have more.
+    /// How many forms there are.
     fn nodes(&self) -> u32
-        ensures { result ≡ min (nodes self.now) (2 ^ 32 - 1) }
+        ensures nodes { result ≡ nodes self.now }
+        ensures made { IsMade self.now }
     {
-        let operands = match &*self.form {
-            Form::Binary(_, left, right) => left.nodes().saturating_add(right.nodes()),
-            Form::If(condition, first, second) => {
-                let branches = first.nodes().saturating_add(second.nodes());
-                condition.nodes().saturating_add(branches)
-            }
-            Form::IsNull(operand) => operand.nodes(),
-            _ => 0,
-        };
-        operands.saturating_add(1)
+        self.forms
     }
 
     /// The value, or the exception that is thrown in place of one.
@@ -254,7 +266,39 @@ impl Clone for Expr {
     fn clone(&self) -> Result<Expr, AllocError> {
         Ok(Expr {
             form: Arc::try_clone(&self.form)?,
+            levels: self.levels,
+            forms: self.forms,
         })
+    }
+}
+
+impl Form {
+    /// The depth of the expression of this form.
+    fn depth(&self) -> u32
+        ensures { result ≡ depth (tree self.now) }
+    {
+        match self {
+            Form::Binary(_, left, right) => left.depth().max(right.depth()) + 1,
+            Form::If(condition, first, second) => {
+                condition.depth().max(first.depth().max(second.depth())) + 1
+            }
+            Form::IsNull(operand) => operand.depth() + 1,
+            _ => 1,
+        }
+    }
+
+    /// The number of nodes of the expression of this form.
+    fn nodes(&self) -> u32
+        ensures { result ≡ nodes (tree self.now) }
+    {
+        match self {
+            Form::Binary(_, left, right) => left.nodes() + right.nodes() + 1,
+            Form::If(condition, first, second) => {
+                condition.nodes() + first.nodes() + second.nodes() + 1
+            }
+            Form::IsNull(operand) => operand.nodes() + 1,
+            _ => 1,
+        }
     }
 }
 

@@ -123,6 +123,52 @@ fn a_size_of_256_is_accepted(rt: HostRuntime) -> Result<(), Fail> {
     Ok(())
 }
 
+/// An expression that is added to itself again and again.
+fn doubled(alloc: Global, times: u32) -> Result<Expr, AllocError> {
+    let mut expr = number(alloc, 1)?;
+    for _ in 0..times {
+        expr = Expr::new(alloc, Form::Binary(Operator::Add, expr.clone()?, expr))?;
+    }
+    Ok(expr)
+}
+
+/// An expression of so many levels.
+fn nested(alloc: Global, levels: u32) -> Result<Expr, AllocError> {
+    let mut expr = number(alloc, 1)?;
+    for _ in 1..levels {
+        expr = Expr::new(alloc, Form::IsNull(expr))?;
+    }
+    Ok(expr)
+}
+
+/// With 60 doublings, or 31, an expression would have more nodes than can be walked.
+#[test]
+fn shared_parts_count_as_often_as_they_stand(rt: HostRuntime) -> Result<(), Fail> {
+    let alloc = rt.alloc();
+    for times in [60, 31, 26] {
+        assert!(rt; doubled(alloc, times).is_err());
+    }
+    let largest = doubled(alloc, 25)?;
+    assert_eq!(rt; largest.check(), Err(ExprFault::TooLarge));
+    let some = doubled(alloc, 16)?;
+    assert!(rt; some.same(&doubled(alloc, 16)?));
+    assert!(rt; !some.same(&largest));
+    Ok(())
+}
+
+/// An expression of a million levels could not be walked or dropped.
+#[test]
+fn a_million_levels_are_refused(rt: HostRuntime) -> Result<(), Fail> {
+    let alloc = rt.alloc();
+    for levels in [1_000_000, 1025] {
+        assert!(rt; nested(alloc, levels).is_err());
+    }
+    let deepest = nested(alloc, 1024)?;
+    assert_eq!(rt; deepest.check(), Err(ExprFault::TooDeep));
+    assert!(rt; deepest.same(&deepest.clone()?));
+    Ok(())
+}
+
 fn is_printed(alloc: Global, outcome: Outcome, printed: &str) -> Result<bool, AllocError> {
     let text = format!(in alloc; "{outcome}")?;
     Ok(text.as_str() == printed)
