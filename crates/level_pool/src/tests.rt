@@ -2,7 +2,7 @@
 ghost use Rattle.std.specs.Prelude.{◌≡◌, ◌*◌, ◌<◌, ◌≤◌, ◌^◌, IfOk, All, map};
 
 use crate::{Gate, NoGate, OneThread, PoolFault, Pooled, Runner, Scoped};
-use std::alloc::Global;
+use std::alloc::{AllocError, Global};
 use std::process::Abort;
 use std::sync::atomic::{AtomicU64, Ordering};
 use std::thread;
@@ -138,5 +138,58 @@ fn each_piece_passes_the_gate(rt: HostRuntime) -> Result<(), PoolFault> {
     Scoped::new(&rt, 3, &sums).run(rt.alloc(), &[1, 10, 100, 1000], &|piece| piece)?;
     assert_eq!(rt; sums.entered.load(Ordering::SeqCst), 1111);
     assert_eq!(rt; sums.left.load(Ordering::SeqCst), 1111);
+    Ok(())
+}
+
+/// A gate that knows of each of four pieces whether it has entered, and whether it has left.
+#[derive(Drop)]
+struct Doors {
+    turns: Vec<AtomicU64>,
+}
+
+impl Doors {
+    fn new(alloc: Global) -> Result<Doors, AllocError> {
+        let mut turns = Vec::new(alloc);
+        for _piece in 0..4 {
+            turns.push(AtomicU64::new(0))?;
+        }
+        Ok(Doors { turns })
+    }
+
+    /// 0 for a piece that has not entered, 1 for one that is inside, and 2 for one that has left.
+    fn turn_of(&self, piece: u32) -> u64 {
+        match self.turns.get(piece as usize) {
+            Some(turn) => turn.load(Ordering::SeqCst),
+            None => 3,
+        }
+    }
+
+    fn turn(&self, piece: u32) {
+        if let Some(turn) = self.turns.get(piece as usize) {
+            turn.fetch_add(1, Ordering::SeqCst);
+        }
+    }
+}
+
+impl Gate for Doors {
+    fn enter(&self, piece: u32) {
+        self.turn(piece);
+    }
+
+    fn leave(&self, piece: u32) {
+        self.turn(piece);
+    }
+}
+
+/// A piece enters before it is computed, and leaves after it: computed at the wrong time, it would find itself outside.
+#[test]
+fn each_piece_is_computed_inside(rt: HostRuntime) -> Result<(), PoolFault> {
+    let doors = Doors::new(rt.alloc())?;
+    let runner = Scoped::new(&rt, 3, &doors);
+    let found = runner.run(rt.alloc(), &[0, 1, 2, 3], &|piece| doors.turn_of(piece))?;
+    assert_eq!(rt; found.as_slice(), [1, 1, 1, 1].as_slice());
+    for piece in 0..4 {
+        assert_eq!(rt; doors.turn_of(piece), 2);
+    }
     Ok(())
 }
