@@ -14,3 +14,5 @@ mod paths;
 mod reports;
 #[cfg(test)]
 mod versions;
+#[cfg(test)]
+mod workers;
