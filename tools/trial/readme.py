@@ -5,7 +5,7 @@ import re
 
 from .run import Case
 
-COMMAND = re.compile(r"\./whatif (report|serve) (examples/\S+?\.json)(?: < (examples/\S+?\.script))?(?=[\s`])")
+COMMAND = re.compile(r"\./whatif (report|serve|many)((?: [\w./-]+)+)(?: < (examples/[\w.-]+))?")
 BLOCK = re.compile(r"^```(\w*)\n(.*?)^```$", re.M | re.S)
 
 
@@ -28,19 +28,24 @@ def shown_runs(page):
 
 
 def shown_case(top, command, blocks):
-    """A report as it is; or steps and their answers in turn; or answers alone, which are somewhere in those to the whole script."""
-    words, path, script = command
-    name = os.path.basename(path)
-    how = {"files": {name: read(top, path)}}
+    """A report as it is; or steps and their answers in turn; or answers alone, which are somewhere in those to the whole script.
+
+    The numbers in the answers to several scripts at once depend on who comes first, and are not compared."""
+    subcommand, words, script = command
+    words = words.split()
+    paths = [it for it in words if it.startswith("examples/")]
+    how = {"files": {os.path.basename(it): read(top, it) for it in paths}}
     rows = "".join(blocks).splitlines(keepends=True)
     steps = [it for it in rows if it.startswith("{")]
     out = "".join(it for it in rows if not it.startswith("{"))
-    if words == "serve" and steps:
+    if subcommand == "serve" and steps:
         how["stdin"] = "".join(steps)
     elif script:
         how["stdin"] = read(top, script)
         out = re.compile(b"(?s).*" + b".*".join(re.escape(it.encode()) for it in blocks) + b".*")
-    return Case(f"README: {words} {path}", [words, name], out, **how)
+    elif len(paths) > 2:
+        out = re.compile(re.sub(rb"\d+", rb"\\d+", re.escape("".join(blocks).encode())))
+    return Case(f"README: {subcommand} {' '.join(words)}", [subcommand, *map(os.path.basename, words)], out, **how)
 
 
 def readme_cases(top):
