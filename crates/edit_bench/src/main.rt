@@ -143,29 +143,50 @@ fn edited<R: Representation>(alloc: Global, graph: &Graph<R>, edit: Edit) -> Res
     }
 }
 
-fn measure(rt: &HostRuntime, kind: Kind, stages: u32, edits: u32, keep: bool) -> Result<()> {
-    let alloc = rt.alloc();
-    let start = Instant::now(rt)?;
-    let mut graph: Graph<InShared> = match Graph::load(
-        alloc,
-        Mode::Computed,
-        &chain(alloc, stages)?,
-    ) {
-        Ok(graph) => graph,
+/// What is measured.
+#[derive(Clone, Copy)]
+struct Plan {
+    kind: Kind,
+    stages: u32,
+    edits: u32,
+    keep: bool,
+}
+
+/// The graph of a chain of so many stages.
+fn loaded<R: Representation>(alloc: Global, stages: u32) -> Result<Graph<R>> {
+    match Graph::load(alloc, Mode::Computed, &chain(alloc, stages)?) {
+        Ok(graph) => Ok(graph),
         Err(_) => bail!("the chain was refused"),
-    };
-    let loaded = start.elapsed(rt)?.as_micros();
-    let mut kept = Vec::new(alloc);
-    let start = Instant::now(rt)?;
-    for turn in 0..edits {
-        let next = edited(alloc, &graph, edit(alloc, kind, stages, turn)?)?;
-        if keep {
+    }
+}
+
+/// The graph that the plan's edits leave, one after the other; those before it are kept if the plan says so.
+fn edit_all<R: Representation>(
+    alloc: Global,
+    plan: Plan,
+    graph: Graph<R>,
+    kept: &mut Vec<Graph<R>>,
+) -> Result<Graph<R>> {
+    let mut graph = graph;
+    for turn in 0..plan.edits {
+        let next = edited(alloc, &graph, edit(alloc, plan.kind, plan.stages, turn)?)?;
+        if plan.keep {
             kept.push(graph)?;
         }
         graph = next;
     }
+    Ok(graph)
+}
+
+fn measure<R: Representation>(rt: &HostRuntime, plan: Plan) -> Result<()> {
+    let mut kept = Vec::new(rt.alloc());
+    let start = Instant::now(rt)?;
+    let graph: Graph<R> = loaded(rt.alloc(), plan.stages)?;
+    let loaded = start.elapsed(rt)?.as_micros();
+    let start = Instant::now(rt)?;
+    let graph = edit_all(rt.alloc(), plan, graph, &mut kept)?;
     let took = start.elapsed(rt)?.as_micros();
-    let places = graph.len();
+    let (stages, edits, places) = (plan.stages, plan.edits, graph.len());
     println!(rt;
         "{stages} stages loaded in {loaded} us, {edits} edits in {took} us, {places} places"
     )?;
@@ -184,7 +205,11 @@ fn main(rt: HostRuntime) -> Result<()> {
     let (Some(stages), Some(edits)) = (words.next(), words.next()) else {
         bail!("how many stages, and how many edits?");
     };
-    let stages: u32 = stages.parse()?;
-    let edits: u32 = edits.parse()?;
-    measure(&rt, kind, stages, edits, words.next().is_some())
+    let plan = Plan {
+        kind,
+        stages: stages.parse()?,
+        edits: edits.parse()?,
+        keep: words.next().is_some(),
+    };
+    measure::<InShared>(&rt, plan)
 }
