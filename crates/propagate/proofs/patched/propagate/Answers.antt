@@ -64,8 +64,8 @@ returns-in-Err-Memory-propagate_change-clause-refused g c =
     let answer : changed c.args.edits.now old ≡ Ok graph =
     subst (λ (from : PlainGraph). changed c.args.edits.now from ≡ Ok graph) c.deref-before.ensures (c.in-Ok.ensures.changed ∙ ap Ok (sym c.in_ok-graph.ensures)) in
     let few =
-        subst (λ (from : PlainGraph). count ≤ meter + length (touched_by (step graph.mode) c.args.edits.now from.places graph.places)) c.deref-before.ensures
-        (subst (λ (to : PlainGraph). count ≤ meter + length (touched_by (step to.mode) c.args.edits.now before.places to.places)) c.deref-after.ensures
-        (subst (λ (xs : List ℕ). count ≤ meter + length xs) by_edits c.in-Err-Memory-propagate_change.ensures.refused.1)) in
+    subst (λ (from : PlainGraph). count ≤ meter + length (touched_by (step graph.mode) c.args.edits.now from.places graph.places)) c.deref-before.ensures
+    (subst (λ (to : PlainGraph). count ≤ meter + length (touched_by (step to.mode) c.args.edits.now before.places to.places)) c.deref-after.ensures
+    (subst (λ (xs : List ℕ). count ≤ meter + length xs) by_edits c.in-Err-Memory-propagate_change.ensures.refused.1)) in
     count_of_ranked (λ to. touched_by (step to.mode) c.args.edits.now old.places to.places) (changed c.args.edits.now old) graph meter count answer c.in-Ok-patch.ensures.ranked
     (c.in-Err-Memory-propagate_change.ensures.refused.0, few)
