@@ -4,9 +4,9 @@ ghost use Rattle.std.specs.Prelude.{◌≤◌, ◌^◌};
 use level_pool::OneThread;
 use recording::{Step, read_recording, read_step};
 use row_kit::{CHAIN, COMPOSE_PICKS, FIRST_RUN, edits_of};
-use session_core::{Event, Reply, Table, TableFault, draft_of, run};
+use session_core::{Event, Reply, Table, TableFault, run};
 use share_tree::Held;
-use stage_graph::{Edits, InFlat, InShared};
+use stage_graph::{InFlat, InShared};
 use stage_ops::Meter;
 use std::alloc::Global;
 use std::process::Abort;
@@ -327,72 +327,6 @@ fn takes_own<R: StateRepresentation, H: Abort + Threads + Sync>(
     };
     assert_eq!(rt; (entry.who, entry.reply), (7, Reply::Committed(1)));
     Ok(())
-}
-
-/// Commits edits of version 0 in two parts: `prepare`, which books nothing, and `finish`.
-fn commit_by_parts<R: StateRepresentation, H: Abort + Threads + Sync>(
-    rt: &H,
-    alloc: Global,
-    table: &mut Table<R>,
-    edits: &Held<Edits>,
-) -> Result<u32, TableFault> {
-    let draft = draft_of(alloc, table.version(0)?, edits, &OneThread::new(rt))?;
-    let ready = table.prepare(7, 1, &draft)?;
-    let told = ready.version().number();
-    let booked = table.history().len();
-    let number = table.finish(ready);
-    assert_eq!(rt; (told, booked), (number, 1));
-    Ok(number)
-}
-
-/// A commit in two parts makes the version and books the entry that `commit` does.
-fn prepares_own<R: StateRepresentation, H: Abort + Threads + Sync>(
-    rt: &H,
-    alloc: Global,
-) -> Result<(), Fail> {
-    let mut table: Table<R> = table(alloc, FIRST_RUN, 65_536)?;
-    assert_eq!(rt; number_of(table.open(0, 1, 0)), 0);
-    let edits = Held::new(alloc, edits_of(alloc, PIN_BARE)?)?;
-    assert_eq!(rt; commit_by_parts(rt, alloc, &mut table, &edits)?, 1);
-    assert_eq!(rt; table.version(1)?.moment(1), Ok(Some(10)));
-    let [_, entry] = table.history() else {
-        panic!(rt; "two entries");
-    };
-    assert_eq!(rt; (entry.who, entry.reply), (7, Reply::Committed(1)));
-    Ok(())
-}
-
-/// The fault of `prepare`, and that of `commit` after it.
-fn refusals<H: Abort + Threads + Sync>(
-    rt: &H,
-    alloc: Global,
-    table: &mut Table<InShared>,
-    edits: &Held<Edits>,
-) -> Result<(u32, u32), TableFault> {
-    let draft = draft_of(alloc, table.version(0)?, edits, &OneThread::new(rt))?;
-    let prepared = number_of(table.prepare(7, 1, &draft));
-    let committed = number_of(table.commit(7, 1, &draft));
-    Ok((prepared, committed))
-}
-
-/// `prepare` books a refusal as `commit` does.
-fn prepare_refuses<H: Abort + Threads + Sync>(rt: &H, alloc: Global) -> Result<(), Fail> {
-    let mut table: Table<InShared> = table(alloc, FIRST_RUN, 65_536)?;
-    let edits = Held::new(alloc, edits_of(alloc, PIN_BARE)?)?;
-    assert_eq!(rt; refusals(rt, alloc, &mut table, &edits)?, (51, 51));
-    let [first, second] = table.history() else {
-        panic!(rt; "two entries");
-    };
-    assert_eq!(rt; first.who, 7);
-    assert!(rt; first.same(second));
-    Ok(())
-}
-
-#[test]
-fn pin_bare_by_parts(rt: HostRuntime) -> Result<(), Fail> {
-    prepares_own::<InFlat, _>(&rt, rt.alloc())?;
-    prepares_own::<InShared, _>(&rt, rt.alloc())?;
-    prepare_refuses(&rt, rt.alloc())
 }
 
 #[test]

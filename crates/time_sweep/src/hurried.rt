@@ -1,6 +1,7 @@
 //! A version with one action that takes no time.
 ghost use Rattle.std.specs.Prelude.{◌≡◌, IfOk, IsSome, Some};
 ghost use Rattle.stage_graph.specs.Plain.{IsLive, stage_at};
+ghost use Rattle.version_store.specs.Queries.{state_of, told, moment_in};
 ghost use Rattle.time_sweep.specs.Sweep.{completes_at, hurried, hurry};
 
 use level_pool::Runner;
@@ -50,6 +51,16 @@ fn hurried_draft<R: StateRepresentation, W: Runner>(
     }
 }
 
+/// When a stage of a version completes.
+fn moment_of<R: StateRepresentation>(
+    version: &Version<R>,
+    target: u32,
+) -> Result<Option<u64>, NoStage>
+    ensures { result ≡ told version.now.graph target (moment_in (state_of version.now.graph target)) }
+{
+    version.moment(target)
+}
+
 /// When a stage would complete if the action of another took no time.
 pub(crate) fn hurried_moment<R: StateRepresentation, W: Runner>(
     alloc: Global,
@@ -65,7 +76,7 @@ pub(crate) fn hurried_moment<R: StateRepresentation, W: Runner>(
 {
     let draft = hurried_draft(alloc, version, stage, runner)?;
     let hurried = draft.numbered(0)?;
-    match hurried.moment(target) {
+    match moment_of(&hurried, target) {
         Ok(moment) => Ok(moment),
         Err(NoStage) => unreachable!(),
     }
