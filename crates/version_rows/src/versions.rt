@@ -8,7 +8,7 @@ use report_text::{CountedWriter, ReportFault, What, report};
 use row_kit::{CHAIN, COMPOSE_PICKS, FIRST_RUN, REWIRE_A, REWIRED, edits_of};
 use share_tree::Held;
 use stage_graph::{Fault, InFlat, InShared};
-use stage_ops::{Join, Meter, Reads};
+use stage_ops::{Join, Meter};
 use std::alloc::{AllocError, Global};
 use std::process::Abort;
 use std::sync::atomic::{AtomicU64, Ordering};
@@ -389,13 +389,7 @@ fn pins_and_ends(rt: HostRuntime) -> Result<(), Fail> {
             "changes of version 1 from 0 touched 1\nb value:5 at 15 -> value:5 at 3\n",
         )],
     };
-    in_each(&rt, rt.alloc(), &row)?;
-    let pinned = r#"{"stages":[{"name":"m","op":"manual","pinMoment":5,"pinResult":{"value":2}}]}"#;
-    let flat: Version<InFlat> = opened(rt.alloc(), pinned)?;
-    assert_eq!(rt; flat.state(0)?.reads, Reads::Nothing);
-    let shared: Version<InShared> = opened(rt.alloc(), pinned)?;
-    assert_eq!(rt; shared.state(0)?.reads, Reads::Nothing);
-    Ok(())
+    in_each(&rt, rt.alloc(), &row)
 }
 
 #[test]
