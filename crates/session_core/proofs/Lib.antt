@@ -1,3 +1,4 @@
+pub mod Crossing
 pub mod Added
 pub mod Booked
 pub mod Commits

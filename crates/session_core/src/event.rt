@@ -1,4 +1,6 @@
 //! What is asked of a table, and what it answers.
+ghost use Rattle.std.specs.Prelude.{◌≡◌, ◌↔◌, IsTrue};
+
 use crate::refusal::Refusal;
 use share_tree::Held;
 use stage_graph::Edits;
@@ -52,4 +54,63 @@ pub struct Entry {
     pub who: u32,
     pub event: Event,
     pub reply: Reply,
+}
+
+impl Event {
+    /// Whether two events are the same. Takes no memory.
+    pub fn same(&self, other: &Event) -> bool
+        ensures { IsTrue result ↔ (self.now ≡ other.now) }
+    {
+        match (self, other) {
+            (
+                Event::Open { session, version },
+                Event::Open {
+                    session: other,
+                    version: others,
+                },
+            ) => *session == *other && *version == *others,
+            (Event::Head { session }, Event::Head { session: other }) => *session == *other,
+            (
+                Event::Commit {
+                    session,
+                    base,
+                    edit,
+                },
+                Event::Commit {
+                    session: other,
+                    base: other_base,
+                    edit: others,
+                },
+            ) => *session == *other && *base == *other_base && edit.same(others),
+            (Event::Undo { session }, Event::Undo { session: other }) => *session == *other,
+            (Event::Close { session }, Event::Close { session: other }) => *session == *other,
+            _ => false,
+        }
+    }
+}
+
+impl Reply {
+    /// Whether two replies are the same. Takes no memory.
+    pub fn same(self, other: Reply) -> bool
+        ensures { IsTrue result ↔ (self ≡ other) }
+    {
+        match (self, other) {
+            (Reply::Opened(version), Reply::Opened(other)) => version == other,
+            (Reply::At(version), Reply::At(other)) => version == other,
+            (Reply::Committed(version), Reply::Committed(other)) => version == other,
+            (Reply::Undone(version), Reply::Undone(other)) => version == other,
+            (Reply::Closed, Reply::Closed) => true,
+            (Reply::Refused(refusal), Reply::Refused(other)) => refusal.same(other),
+            _ => false,
+        }
+    }
+}
+
+impl Entry {
+    /// Whether two entries are the same. Takes no memory.
+    pub fn same(&self, other: &Entry) -> bool
+        ensures { IsTrue result ↔ (self.now ≡ other.now) }
+    {
+        self.who == other.who && self.event.same(&other.event) && self.reply.same(other.reply)
+    }
 }

@@ -13,5 +13,5 @@ pub use event::{Entry, Event, Reply};
 pub use headline::every_list_of_steps;
 pub use ready::Ready;
 pub use refusal::{Refusal, TableFault};
-pub use steps::run;
+pub use steps::{draft_of, run};
 pub use table::Table;

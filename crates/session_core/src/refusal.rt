@@ -1,5 +1,5 @@
 //! Why a table refuses.
-ghost use Rattle.std.specs.Prelude.{◌≡◌, ◌<◌, ◌^◌};
+ghost use Rattle.std.specs.Prelude.{◌≡◌, ◌<◌, ◌^◌, ◌↔◌, IsTrue};
 ghost use Rattle.session_core.specs.Refusals.{refusal, moved, foreign, detail_of, of_edit, of_fault, IsBelow, refusal_of};
 ghost use Rattle.session_core.specs.declared.refusal.TableFault.TheVariants.{Refused, Memory};
 
@@ -78,6 +78,13 @@ impl Refusal {
             detail: number,
             place: None,
         }
+    }
+
+    /// Whether two refusals are the same.
+    pub fn same(self, other: Refusal) -> bool
+        ensures { IsTrue result ↔ (self ≡ other) }
+    {
+        self.number == other.number && self.detail == other.detail && self.place == other.place
     }
 
     /// The refusal of an edit.

@@ -48,8 +48,8 @@ pub fn run<R: StateRepresentation, W: Runner>(
     Ok(())
 }
 
-/// The draft that a list of edits makes of a version.
-fn draft_of<R: StateRepresentation, W: Runner>(
+/// The draft that a list of edits makes of a version, or the refusal of the edits.
+pub fn draft_of<R: StateRepresentation, W: Runner>(
     alloc: Global,
     version: &Version<R>,
     edit: &Held<Edits>,

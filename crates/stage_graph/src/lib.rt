@@ -23,6 +23,7 @@ mod order;
 mod reach;
 mod representation;
 mod same;
+mod same_edits;
 mod settle;
 mod stage;
 mod stage_edits;

@@ -6,7 +6,7 @@ use crate::representation::Representation;
 use crate::stage::Stage;
 use act_expr::Expr;
 
-fn same_action(action: &Option<Expr>, other: &Option<Expr>) -> bool
+pub(crate) fn same_action(action: &Option<Expr>, other: &Option<Expr>) -> bool
     ensures { IsTrue result ↔ (action.now ≡ other.now) }
 {
     match (action, other) {

@@ -1,3 +1,4 @@
+pub mod Crossing
 pub mod Blaming
 pub mod Telling
 pub mod Moments

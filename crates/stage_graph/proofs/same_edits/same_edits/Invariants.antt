@@ -1,0 +1,6 @@
+use Rattle.std.proofs.Common.{◌≡◌, take}
+use Rattle.stage_graph.proofs.same_edits.same_edits.Given as goal
+
+-- the edits so far are the same
+abbrev pub invariant-loop-at : goal.invariant-loop-at
+invariant-loop-at l = take l.at l.edits ≡ take l.at l.others
