@@ -1,0 +1,13 @@
+use Rattle.std.proofs.Common.{rules, ◌≡◌}
+use Rattle.session_core.specs.declared.event.Event.TheVariants.{Open}
+use Rattle.session_core.specs.TableView.{Books}
+use Rattle.desk.specs.Clients.{HasSeen}
+use Rattle.desk.proofs.Locking.{stays, sees_named}
+use Rattle.desk.proofs.shared.Shared.open.Goals as goal
+
+pub invariant_of-self-2 : goal.invariant_of-self-2
+invariant_of-self-2 g c =
+    let t = c.self.inside.table in
+    let u = c.open-answer.new.self in
+    let booked : Books t c.client.inside.number (Open c.args.session c.args.version) c.match-answer.reply u = search rules in
+    (stays _ t u _ _ _ _ c.client.inside.number (Open c.args.session c.args.version) c.match-answer.reply c.self.invariant.0 booked c.open-answer.ensures.versions c.keep.ensures.entries, c.self.invariant.1, c.self.invariant.2)

@@ -1,0 +1,9 @@
+pub mod Archive
+pub mod Clients
+pub mod Closing
+pub mod Committing
+pub mod Edits
+pub mod Faults
+pub mod Locked
+pub mod Publishing
+pub mod Recognizing

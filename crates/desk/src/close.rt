@@ -1,0 +1,80 @@
+//! What is compared where a desk is closed.
+ghost use Rattle.std.specs.Prelude.{◌≡◌, ◌↔◌, All, IsTrue, length};
+ghost use Rattle.desk.specs.Locked.{IsReplayed};
+ghost use Rattle.desk.specs.Closing.{Agrees, GoesWith, HaveOwnNumbers};
+
+use crate::client::Client;
+use crate::front::Front;
+use crate::name::Naming;
+use session_core::{Entry, Table};
+use std::marker::Model;
+use version_store::StateRepresentation;
+
+/// The entries of a desk that is closed, in order.
+#[derive(Drop)]
+pub struct Log<R: StateRepresentation> {
+    table: Table<R>,
+}
+
+impl<R: StateRepresentation> Model for Log<R> {
+    ghost use Rattle.std.specs.Coded.{codes};
+    ghost use Rattle.act_expr.specs.ExpressionCode.{coded_expression};
+    ghost use Rattle.session_core.specs.TableView.{TableView};
+
+    ghost Value = { TableView };
+
+    ghost coded = { Prim.hlevel (codes, coded_expression) };
+
+    ghost view = { λ l. l.table };
+}
+
+impl<R: StateRepresentation> Log<R> {
+    pub(crate) fn of(table: Table<R>) -> Log<R>
+        ensures { result ≡ table }
+    {
+        Log { table }
+    }
+
+    /// What was asked and answered, in order.
+    pub fn entries(&self) -> &[Entry]
+        ensures { result.now ≡ self.now.history }
+    {
+        self.table.history()
+    }
+}
+
+/// Whether each client's calls are what the log has of it.
+pub(crate) fn agree<N: Naming, R: StateRepresentation>(
+    clients: &[Client<N, R>],
+    log: &[Entry],
+) -> bool
+    ensures { IsTrue result ↔ All (Agrees log.now) clients.now }
+{
+    clients.iter().all(|client| client.agrees(log))
+}
+
+/// Whether no two clients have one number.
+pub(crate) fn have_own_numbers<N: Naming, R: StateRepresentation>(clients: &[Client<N, R>]) -> bool
+    ensures { IsTrue result ↔ HaveOwnNumbers clients.now }
+{
+    let [client, others @ ..] = clients else {
+        return true;
+    };
+    let number = client.number();
+    others.iter().all(|other| other.number() != number) && have_own_numbers(others)
+}
+
+/// Whether what each client has seen goes with what is in front. It always does, by what is known of fronts.
+pub(crate) fn go_with<N: Naming, R: StateRepresentation>(
+    clients: &[Client<N, R>],
+    front: &Front<N, R>,
+) -> bool
+    ensures { IsTrue result → All (GoesWith front.now) clients.now }
+{
+    for client in clients {
+        if !client.goes_with(front) {
+            return false;
+        }
+    }
+    true
+}

@@ -1,0 +1,22 @@
+//! A table that the clients of several threads share.
+#![tactic(auto)]
+
+mod client;
+mod close;
+mod desk;
+mod fault;
+mod front;
+mod known;
+mod name;
+mod shared;
+mod shelf;
+mod starting;
+
+pub use client::Client;
+pub use close::Log;
+pub use desk::Desk;
+pub use fault::{CloseFault, EditFault, ReadFault};
+pub use front::NewArchive;
+pub use known::Known;
+pub use name::Naming;
+pub use starting::start;
