@@ -1,0 +1,61 @@
+-- What the clients have done, gathered.
+use Rattle.std.proofs.Common.{◌≡◌, ℕ, suc, ◌<◌, List, [], ◌∷◌, ◌++◌, append-nil, length, slice_index_or, arith, refl, map, sym, ap, ◌∙◌, subst, Result, Ok, Err, Contains}
+use Rattle.std.specs.List.{AllZip, flat_map}
+use Rattle.std.proofs.lemmas.List.{map-append}
+use Rattle.std.proofs.lemmas.Grind.{flat_map-append}
+use Rattle.many_scripts.specs.Gathered.{AreGathered, with_client}
+
+pub gathered_more : {P C E : Type 0} (plays : List (Result P E)) (client : P → C) (text : P → List ℕ) (clients next : List C) (output more : List ℕ) (play : Result P E) (done : P)
+    → AreGathered plays client text clients output → play ≡ Ok done → next ≡ clients ++ client done ∷ [] → more ≡ output ++ text done
+    → AreGathered (plays ++ play ∷ []) client text next more
+gathered_more plays client text clients next output more play done so_far is clients_are output_is = record {
+  done = so_far.done ++ done ∷ [];
+  plays_are = ap (λ p. plays ++ p ∷ []) is ∙ ap (λ l. l ++ Ok done ∷ []) so_far.plays_are ∙ sym (map-append Ok so_far.done (done ∷ []));
+  clients_are = clients_are ∙ ap (λ l. l ++ client done ∷ []) so_far.clients_are ∙ sym (map-append client so_far.done (done ∷ []));
+  output_is = output_is ∙ ap (λ l. l ++ text done) so_far.output_is ∙ ap (λ l. flat_map text so_far.done ++ l) (sym (append-nil (text done))) ∙ sym (flat_map-append text so_far.done (done ∷ []));
+}
+
+-- what holds of the two lists at each place holds of them in their order
+pub all_zip : {X : Type 0} (P : X → X → Type 0) (xs ys : List X) → length ys ≡ length xs
+    → ((i : ℕ) (d : X) → i < length xs → P (slice_index_or xs i d) (slice_index_or ys i d)) → AllZip P xs ys
+all_zip P [] [] same each = tt
+all_zip P [] (y ∷ ys) same each = absurd (omega (arith, same))
+all_zip P (x ∷ xs) [] same each = absurd (omega (arith, same))
+all_zip P (x ∷ xs) (y ∷ ys) same each = (
+  each 0 x (omega arith),
+  all_zip P xs ys (omega (arith, same)) (λ i d within. each (suc i) d (omega (arith, within))),
+)
+
+contains_between : {X : Type 0} (xs : List X) (x : X) (ys : List X) → Contains (xs ++ x ∷ ys) x
+contains_between [] x ys = (0, omega arith, refl)
+contains_between (y ∷ xs) x ys = let (k, below, at) = contains_between xs x ys in (suc k, omega (arith, below), at)
+
+module _ {S C T E : Type 0} (client : S → C) (text : S → Result T E) (items : T → List ℕ) where
+  -- the clients and texts with those of one seat more
+  pub seat_more : (seats : List S) (seat : S) (told : T) (clients next : List C) (output more : List ℕ)
+      → AreGathered (map (λ s. with_client (client s) (text s)) seats) (λ (played : C × T). played.0) (λ played. items played.1) clients output
+      → text seat ≡ Ok told → next ≡ clients ++ client seat ∷ [] → more ≡ output ++ items told
+      → AreGathered (map (λ s. with_client (client s) (text s)) (seats ++ seat ∷ [])) (λ (played : C × T). played.0) (λ played. items played.1) next more
+  seat_more seats seat told clients next output more so_far is clients_are output_is =
+      subst (λ plays. AreGathered plays (λ (played : C × T). played.0) (λ played. items played.1) next more)
+      (sym (map-append (λ s. with_client (client s) (text s)) seats (seat ∷ [])))
+      (gathered_more (map (λ s. with_client (client s) (text s)) seats) (λ (played : C × T). played.0) (λ played. items played.1) clients next output more (with_client (client seat) (text seat)) (client seat, told)
+          so_far (ap (with_client (client seat)) is) clients_are output_is)
+
+  -- a seat that failed is among them
+  pub seat_failed : (all yielded rest : List S) (seat : S) (fault : E) → all ≡ yielded ++ seat ∷ rest → text seat ≡ Err fault
+      → Contains (map (λ s. with_client (client s) (text s)) all) (Err fault)
+  seat_failed all yielded rest seat fault are is =
+      subst (λ l. Contains l (Err fault))
+      (ap (λ play. map (λ s. with_client (client s) (text s)) yielded ++ play ∷ map (λ s. with_client (client s) (text s)) rest) (ap (with_client (client seat)) (sym is))
+          ∙ sym (map-append (λ s. with_client (client s) (text s)) yielded (seat ∷ rest))
+          ∙ ap (map (λ s. with_client (client s) (text s))) (sym are))
+      (contains_between (map (λ s. with_client (client s) (text s)) yielded) (Err fault) (map (λ s. with_client (client s) (text s)) rest))
+
+  -- when no seat is left, these are the clients and texts of all
+  pub seats_done : (all yielded rest : List S) (clients : List C) (output : List ℕ) → all ≡ yielded ++ rest → length rest ≡ 0
+      → AreGathered (map (λ s. with_client (client s) (text s)) yielded) (λ (played : C × T). played.0) (λ played. items played.1) clients output
+      → AreGathered (map (λ s. with_client (client s) (text s)) all) (λ (played : C × T). played.0) (λ played. items played.1) clients output
+  seats_done all yielded [] clients output are none gathered =
+      subst (λ l. AreGathered (map (λ s. with_client (client s) (text s)) l) (λ (played : C × T). played.0) (λ played. items played.1) clients output) (sym (are ∙ append-nil yielded)) gathered
+  seats_done all yielded (s ∷ rest) clients output are none gathered = absurd (omega (arith, none))

@@ -1,0 +1,10 @@
+pub mod Beginnings
+pub mod Crossing
+pub mod Heard
+pub mod Steps
+pub mod LineByLine
+pub mod PlayedOn
+pub mod Alone
+pub mod Assembly
+pub mod Counting
+pub mod GatheredMore

@@ -1,0 +1,9 @@
+use Rattle.std.proofs.Common.{◌≡◌, ◌++◌, map, length}
+use Rattle.many_scripts.proofs.gathering.seats_of.Given as goal
+
+abbrev pub invariant-loop-client : goal.invariant-loop-client
+invariant-loop-client g l =
+    (l.initial.client-iterator.rest.items ≡ l.yielded ++ l.client-iterator.rest.items)
+    × (map (λ seat. seat.client) l.seats.items ≡ l.yielded)
+    × (l.initial.sources.rest.items ≡ map (λ seat. seat.source) l.seats.items ++ l.sources.rest.items)
+    × (length l.sources.rest.items ≡ length l.client-iterator.rest.items)

@@ -1,0 +1,136 @@
+-- What a script does at a desk that others use too: the entries that its lines make in the log, and what is printed for them.
+--
+-- A script belongs to a client, by its number, which `who` is in its entries. `seen` are the versions that the client has
+-- seen, and `earlier` the entries of the lines that came before.
+use Rattle.std.specs.Prelude.{◌≡◌, ◌<◌, ◌⊎◌, ℕ, Bool, false, List, [], ◌∷◌, ◌++◌, All, Option, Some, None, IfSome, slice_get, codes, Result, Ok, Err}
+use Rattle.stage_graph.specs.declared.edit.Edit.{Edit}
+use Rattle.version_store.specs.Plain.{PlainVersion}
+use Rattle.report_text.specs.Texts.{line_end}
+use Rattle.recording.specs.StepOf.{step_of}
+use Rattle.recording.specs.declared.fault.Fault.{Fault}
+use Rattle.recording.specs.declared.fault.Fault.TheVariants.{TooLong}
+use Rattle.recording.specs.declared.step.Asked.{Asked}
+use Rattle.recording.specs.declared.step.Step.{Step}
+use Rattle.recording.specs.declared.step.Step.TheVariants as step
+use Rattle.script_lines.specs.Lines.{ScriptLine, kept, too_long}
+use Rattle.session_core.specs.Applied.{applied}
+use Rattle.session_core.specs.Log.{entry}
+use Rattle.session_core.specs.declared.event.Entry.{Entry}
+use Rattle.session_core.specs.declared.event.Event.{Event}
+use Rattle.session_core.specs.declared.event.Event.TheVariants.{Open, Head, Commit, Undo, Close}
+use Rattle.session_core.specs.declared.event.Reply.{Reply}
+use Rattle.session_core.specs.declared.event.Reply.TheVariants.{At, Refused}
+use Rattle.session_core.specs.declared.refusal.Refusal.{Refusal}
+use Rattle.serve_script.specs.Answers.{fault_line, report_asked}
+use Rattle.serve_script.specs.Replies.{reply_line}
+use Rattle.desk.specs.Clients.{named}
+
+-- ---- versions
+
+-- the number is not that of version 0, and is above all that the earlier replies name
+pub record IsUnheardOf (earlier : List Entry) (number : ℕ) : Type 0 where
+  pub above_the_first : 0 < number
+  pub above_all : All (λ e. IfSome (named e.reply) (λ k. k < number)) earlier
+
+-- the client has seen the version of this number, of which this holds; or it answers that there is none, which it may of
+-- versions that it has not heard of
+abbrev pub AtVersion : List PlainVersion → List Entry → ℕ → (PlainVersion → Type 0) → Type 0 → Type 0
+AtVersion seen earlier number Found Missing =
+    ((version : PlainVersion) × (slice_get seen number ≡ Some version) × Found version)
+    ⊎ (IsUnheardOf earlier number × Missing)
+
+-- there is no version of the number
+abbrev pub no_version_line : List ℕ
+no_version_line = codes "refused 52 NoVersion" ++ line_end
+
+-- ---- what a line comes to: its entries, and what is printed
+
+-- the event has an entry, and its reply is printed
+pub record IsBooked (who : ℕ) (base : Option PlainVersion) (event : Event) (listed : Bool) (entries : List Entry) (text : List ℕ) : Type 0 where
+  pub reply : Reply
+  pub entry : entries ≡ entry who event reply ∷ []
+  pub printed : text ≡ reply_line base event listed reply
+
+-- there is no entry, and this is printed
+abbrev pub IsPrinted : List ℕ → List Entry → List ℕ → Type 0
+IsPrinted line entries text = (entries ≡ []) × (text ≡ line)
+
+-- the version's graph refuses the edits, which is printed
+pub record IsRefused (session base : ℕ) (edits : List Edit) (listed : Bool) (version : PlainVersion) (entries : List Entry) (text : List ℕ) : Type 0 where
+  pub refusal : Refusal
+  pub refused : applied edits version.graph ≡ Err refusal
+  pub printed : IsPrinted (reply_line (Some version) (Commit session base edits) listed (Refused refusal)) entries text
+
+-- edits of a version: its graph refuses them, or their commit is booked
+abbrev pub IsCommit : ℕ → ℕ → ℕ → List Edit → Bool → PlainVersion → List Entry → List ℕ → Type 0
+IsCommit who session base edits listed version entries text =
+    IsRefused session base edits listed version entries text
+    ⊎ IsBooked who (Some version) (Commit session base edits) listed entries text
+
+-- the head was refused, which is printed
+pub record IsHeadRefused (who session : ℕ) (listed : Bool) (entries : List Entry) (text : List ℕ) : Type 0 where
+  pub refusal : Refusal
+  pub entry : entries ≡ entry who (Head session) (Refused refusal) ∷ []
+  pub printed : text ≡ reply_line None (Head session) listed (Refused refusal)
+
+-- the head was answered, and the edits are of that version
+pub record IsHeadCommit (who : ℕ) (seen : List PlainVersion) (session : ℕ) (edits : List Edit) (listed : Bool) (entries : List Entry) (text : List ℕ) : Type 0 where
+  pub head : ℕ
+  pub version : PlainVersion
+  pub found : slice_get seen head ≡ Some version
+  pub later : List Entry
+  pub entry : entries ≡ entry who (Head session) (At head) ∷ later
+  pub commit : IsCommit who session head edits listed version later text
+
+-- edits of a version, or of the session's head
+abbrev pub IsChange : ℕ → List PlainVersion → List Entry → ℕ → Option ℕ → List Edit → Bool → List Entry → List ℕ → Type 0
+IsChange who seen earlier session None edits listed entries text =
+    IsHeadRefused who session listed entries text
+    ⊎ IsHeadCommit who seen session edits listed entries text
+IsChange who seen earlier session (Some base) edits listed entries text =
+    AtVersion seen earlier base
+    (λ version. IsCommit who session base edits listed version entries text)
+    (IsPrinted no_version_line entries text)
+
+-- the report of the version that the client has seen
+abbrev pub IsReport : List PlainVersion → List Entry → ℕ → Asked → List Entry → List ℕ → Type 0
+IsReport seen earlier number asked entries text =
+    AtVersion seen earlier number
+    (λ version. IsPrinted (report_asked version asked) entries text)
+    (IsPrinted no_version_line entries text)
+
+abbrev pub IsStep : ℕ → List PlainVersion → List Entry → Step → List Entry → List ℕ → Type 0
+IsStep who seen earlier (step.Open session version) entries text = IsBooked who None (Open session version) false entries text
+IsStep who seen earlier (step.Head session) entries text = IsBooked who None (Head session) false entries text
+IsStep who seen earlier (step.Undo session) entries text = IsBooked who None (Undo session) false entries text
+IsStep who seen earlier (step.Close session) entries text = IsBooked who None (Close session) false entries text
+IsStep who seen earlier (step.Change session base edits listed) entries text = IsChange who seen earlier session base edits listed entries text
+IsStep who seen earlier (step.Report number asked) entries text = IsReport seen earlier number asked entries text
+
+-- the step that a line names is done; a fault in it is printed
+abbrev pub IsNamed : ℕ → List PlainVersion → List Entry → Result Step Fault → List Entry → List ℕ → Type 0
+IsNamed who seen earlier (Ok step) entries text = IsStep who seen earlier step entries text
+IsNamed who seen earlier (Err fault) entries text = IsPrinted (fault_line fault) entries text
+
+abbrev pub IsLine : ℕ → List PlainVersion → List Entry → ScriptLine → List Entry → List ℕ → Type 0
+IsLine who seen earlier (kept bytes) entries text = IsNamed who seen earlier (step_of bytes) entries text
+IsLine who seen earlier too_long entries text = IsPrinted (fault_line TooLong) entries text
+
+-- ---- line after line
+
+-- the entries and the text of the first line, and then those of the other lines
+pub record AreJoined (entries : List Entry) (text : List ℕ) (IsFirst : List Entry → List ℕ → Type 0) (AreOthers : List Entry → List Entry → List ℕ → Type 0) : Type 0 where
+  pub here : List Entry
+  pub told : List ℕ
+  pub later : List Entry
+  pub rest : List ℕ
+  pub first : IsFirst here told
+  pub entries_are : entries ≡ here ++ later
+  pub text_is : text ≡ told ++ rest
+  pub others : AreOthers here later rest
+
+-- these are the entries of the lines, in order, and no others, and this is what is printed for them
+abbrev pub IsPlayed : ℕ → List PlainVersion → List Entry → List ScriptLine → List Entry → List ℕ → Type 0
+IsPlayed who seen earlier [] entries text = IsPrinted [] entries text
+IsPlayed who seen earlier (line ∷ lines) entries text =
+    AreJoined entries text (IsLine who seen earlier line) (λ here. IsPlayed who seen (earlier ++ here) lines)

@@ -1,0 +1,14 @@
+//! What a client asks its desk with.
+use desk::{Desk, Naming};
+use std::alloc::Global;
+use std::sync::Wait;
+use version_store::StateRepresentation;
+
+/// What a client asks its desk with.
+#[derive(Drop)]
+pub(crate) struct Access<'a, N: Naming, K: StateRepresentation, H: Wait + Drop, W> {
+    pub(crate) rt: &'a H,
+    pub(crate) alloc: Global,
+    pub(crate) desk: &'a Desk<N, K, H>,
+    pub(crate) runner: &'a W,
+}

@@ -1,0 +1,210 @@
+//! What answers the steps of a script.
+ghost use Rattle.std.specs.Prelude.{◌≡◌, ◌+◌, ◌-◌, ◌^◌, ◌<◌, false, None, Some, OnOk, option_copied};
+ghost use Rattle.std.specs.Io.KnownBytes.{Appends};
+ghost use Rattle.script_lines.specs.Faults.{failed_writes};
+ghost use Rattle.serve_script.specs.Replies.{reply_line};
+ghost use Rattle.many_scripts.specs.Played.{IsBooked, IsChange, IsCommit, IsReport, IsStep, no_version_line};
+ghost use Rattle.many_scripts.specs.Playing.{Answers, HasHeard, IsAskedAlone};
+
+use crate::access::Access;
+use crate::events::{book, commit};
+use desk::{Client, Known, Naming, ReadFault};
+use level_pool::Runner;
+use recording::{Asked, Step};
+use script_lines::AnswerFault;
+use serve_script::{push_reply, write_asked, write_text};
+use session_core::{Event, Reply, TableFault};
+use share_tree::Held;
+use stage_graph::{Edits, InShared};
+use std::alloc::Global;
+use std::sync::Wait;
+use text_io::Sink;
+use version_store::{StateRepresentation, Version};
+
+/// Writes the reply to an event, which is of this base if it is a commit.
+fn write_reply<K: StateRepresentation, S: Sink>(
+    alloc: Global,
+    base: Option<&Version<K>>,
+    event: &Event,
+    listed: bool,
+    reply: Reply,
+    sink: &mut S,
+) -> Result<(), AnswerFault>
+    requires { S.failures sink.old < 2 ^ 64 - 1 }
+    ensures ok { OnOk result (Appends (S.held sink.old) (S.held sink.new) (reply_line (option_copied base.entry) event.now listed reply)) }
+    ensures failures { S.failures sink.new ≡ S.failures sink.old + failed_writes result }
+{
+    let mut line = String::new(alloc);
+    push_reply(&mut line, base, event, listed, reply)?;
+    write_text(line.as_bytes(), sink)
+}
+
+/// Writes that there is no version of the number.
+fn write_no_version<S: Sink>(sink: &mut S) -> Result<(), AnswerFault>
+    requires { S.failures sink.old < 2 ^ 64 - 1 }
+    ensures ok { OnOk result (Appends (S.held sink.old) (S.held sink.new) no_version_line) }
+    ensures failures { S.failures sink.new ≡ S.failures sink.old + failed_writes result }
+{
+    write_text(b"refused 52 NoVersion\n", sink)
+}
+
+/// Asks for an event that is no commit, and writes its reply.
+fn answer_event<N: Naming, K: StateRepresentation, H: Wait + Drop, W, S: Sink>(
+    access: &Access<'_, N, K, H, W>,
+    client: &mut Client<N, K>,
+    event: &Event,
+    sink: &mut S,
+) -> Result<(), AnswerFault>
+    requires alone { IsAskedAlone event.now }
+    requires heard { HasHeard client.old }
+    requires room { S.failures sink.old < 2 ^ 64 - 1 }
+    ensures ok { OnOk result (Answers (λ seen earlier. IsBooked client.old.number None event.now false) client.old client.new (S.held sink.old) (S.held sink.new)) }
+    ensures failures { S.failures sink.new ≡ S.failures sink.old + failed_writes result }
+{
+    let reply = book(access, client, event)?;
+    write_reply::<InShared, S>(access.alloc, None, event, false, reply, sink)
+}
+
+/// Asks for edits of a version, and writes the reply.
+fn answer_commit<N: Naming, K: StateRepresentation, H: Wait + Drop, W: Runner, S: Sink>(
+    access: &Access<'_, N, K, H, W>,
+    client: &mut Client<N, K>,
+    session: u32,
+    base: &Known<N, K>,
+    edits: Edits,
+    listed: bool,
+    sink: &mut S,
+) -> Result<(), AnswerFault>
+    requires heard { HasHeard client.old }
+    requires room { S.failures sink.old < 2 ^ 64 - 1 }
+    ensures ok { OnOk result (Answers (λ seen earlier. IsCommit client.old.number session base.now.number edits listed base.now) client.old client.new (S.held sink.old) (S.held sink.new)) }
+    ensures failures { S.failures sink.new ≡ S.failures sink.old + failed_writes result }
+{
+    let edit = Held::new(access.alloc, edits)?;
+    let reply = commit(access, client, session, base, &edit)?;
+    let event = Event::Commit {
+        session,
+        base: base.number(),
+        edit,
+    };
+    write_reply(access.alloc, Some(&**base), &event, listed, reply, sink)
+}
+
+/// Asks for edits of the version of a number, and writes the reply.
+fn answer_at<N: Naming, K: StateRepresentation, H: Wait + Drop, W: Runner, S: Sink>(
+    access: &Access<'_, N, K, H, W>,
+    client: &mut Client<N, K>,
+    session: u32,
+    number: u32,
+    edits: Edits,
+    listed: bool,
+    sink: &mut S,
+) -> Result<(), AnswerFault>
+    requires heard { HasHeard client.old }
+    requires room { S.failures sink.old < 2 ^ 64 - 1 }
+    ensures ok { OnOk result (Answers (λ seen earlier. IsChange client.old.number seen earlier session (Some number) edits listed) client.old client.new (S.held sink.old) (S.held sink.new)) }
+    ensures failures { S.failures sink.new ≡ S.failures sink.old + failed_writes result }
+{
+    match client.version(number) {
+        Ok(base) => answer_commit(access, client, session, &base, edits, listed, sink),
+        Err(ReadFault::NoVersion) => write_no_version(sink),
+        Err(ReadFault::Memory) => Err(AnswerFault::Memory),
+    }
+}
+
+/// Asks for edits of the version at which a session stands, and writes the reply.
+fn answer_head<N: Naming, K: StateRepresentation, H: Wait + Drop, W: Runner, S: Sink>(
+    access: &Access<'_, N, K, H, W>,
+    client: &mut Client<N, K>,
+    session: u32,
+    edits: Edits,
+    listed: bool,
+    sink: &mut S,
+) -> Result<(), AnswerFault>
+    requires heard { HasHeard client.old }
+    requires room { S.failures sink.old < 2 ^ 64 - 1 }
+    ensures ok { OnOk result (Answers (λ seen earlier. IsChange client.old.number seen earlier session None edits listed) client.old client.new (S.held sink.old) (S.held sink.new)) }
+    ensures failures { S.failures sink.new ≡ S.failures sink.old + failed_writes result }
+{
+    match access.desk.snapshot(access.rt, client, session) {
+        Ok(base) => answer_commit(access, client, session, &base, edits, listed, sink),
+        Err(TableFault::Refused(refusal)) => {
+            let event = Event::Head { session };
+            let reply = Reply::Refused(refusal);
+            write_reply::<InShared, S>(access.alloc, None, &event, listed, reply, sink)
+        }
+        Err(TableFault::Memory) => Err(AnswerFault::Memory),
+    }
+}
+
+/// Asks for edits of a version or of the session's head, and writes the reply.
+fn answer_change<N: Naming, K: StateRepresentation, H: Wait + Drop, W: Runner, S: Sink>(
+    access: &Access<'_, N, K, H, W>,
+    client: &mut Client<N, K>,
+    session: u32,
+    base: Option<u32>,
+    edits: Edits,
+    listed: bool,
+    sink: &mut S,
+) -> Result<(), AnswerFault>
+    requires heard { HasHeard client.old }
+    requires room { S.failures sink.old < 2 ^ 64 - 1 }
+    ensures ok { OnOk result (Answers (λ seen earlier. IsChange client.old.number seen earlier session base edits listed) client.old client.new (S.held sink.old) (S.held sink.new)) }
+    ensures failures { S.failures sink.new ≡ S.failures sink.old + failed_writes result }
+{
+    match base {
+        Some(number) => answer_at(access, client, session, number, edits, listed, sink),
+        None => answer_head(access, client, session, edits, listed, sink),
+    }
+}
+
+/// Writes the report of the version of a number, or that there is no such version.
+fn answer_report<N: Naming, K: StateRepresentation, S: Sink>(
+    alloc: Global,
+    client: &mut Client<N, K>,
+    number: u32,
+    asked: &Asked,
+    sink: &mut S,
+) -> Result<(), AnswerFault>
+    requires heard { HasHeard client.old }
+    requires room { S.failures sink.old < 2 ^ 64 - 1 }
+    ensures ok { OnOk result (Answers (λ seen earlier. IsReport seen earlier number asked.now) client.old client.new (S.held sink.old) (S.held sink.new)) }
+    ensures failures { S.failures sink.new ≡ S.failures sink.old + failed_writes result }
+{
+    match client.version(number) {
+        Ok(version) => write_asked(alloc, &version, asked, sink),
+        Err(ReadFault::NoVersion) => write_no_version(sink),
+        Err(ReadFault::Memory) => Err(AnswerFault::Memory),
+    }
+}
+
+/// Does a step, and writes the reply or the report.
+pub(crate) fn answer_step<N: Naming, K: StateRepresentation, H: Wait + Drop, W: Runner, S: Sink>(
+    access: &Access<'_, N, K, H, W>,
+    client: &mut Client<N, K>,
+    step: Step,
+    sink: &mut S,
+) -> Result<(), AnswerFault>
+    requires heard { HasHeard client.old }
+    requires room { S.failures sink.old < 2 ^ 64 - 1 }
+    ensures ok { OnOk result (Answers (λ seen earlier. IsStep client.old.number seen earlier step) client.old client.new (S.held sink.old) (S.held sink.new)) }
+    ensures failures { S.failures sink.new ≡ S.failures sink.old + failed_writes result }
+{
+    match step {
+        Step::Open { session, version } => {
+            answer_event(access, client, &Event::Open { session, version }, sink)
+        }
+        Step::Head { session } => answer_event(access, client, &Event::Head { session }, sink),
+        Step::Undo { session } => answer_event(access, client, &Event::Undo { session }, sink),
+        Step::Close { session } => answer_event(access, client, &Event::Close { session }, sink),
+        Step::Change {
+            session,
+            base,
+            edits,
+            listed,
+        } => answer_change(access, client, session, base, edits, listed, sink),
+        Step::Report { version, asked } => {
+            answer_report(access.alloc, client, version, &asked, sink)
+        }
+    }
+}

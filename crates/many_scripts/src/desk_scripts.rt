@@ -1,0 +1,162 @@
+//! Several scripts at once.
+ghost use Rattle.std.specs.Prelude.{◌≡◌, ◌≢◌, ◌≤◌, ◌<◌, ◌+◌, ◌-◌, ◌^◌, ◌++◌, All, OnOk, IfOk, IfErr, length, vec_len};
+ghost use Rattle.std.specs.Io.KnownBytes.{Appends};
+ghost use Rattle.text_io.specs.Sink.{AppendsPrefix};
+ghost use Rattle.stage_graph.specs.Walk.{IsRanked};
+ghost use Rattle.session_core.specs.Log.{opening_of};
+ghost use Rattle.session_core.specs.TableView.{TableView};
+ghost use Rattle.serve_script.specs.Answers.{opening_state};
+ghost use Rattle.desk.specs.Closing.{IsClosed};
+ghost use Rattle.many_scripts.specs.Faults.{failed_writes_of_many};
+ghost use Rattle.many_scripts.specs.Outputs.{log_line};
+ghost use Rattle.many_scripts.specs.Scripts.{EndsBy, IsOutputOf, EndsManyBy, Writes};
+ghost use Rattle.many_scripts.specs.declared.fault.ManyFault.{ManyFault};
+
+use crate::fault::ManyFault;
+use crate::gathering::{gather, play_all, seats_of};
+use desk::{Client, CloseFault, Desk, Naming, NewArchive, start};
+use level_pool::Workers;
+use stage_graph::{Graph, InShared};
+use std::alloc::{AllocError, Global};
+use std::fmt::Write;
+use std::marker::Brand;
+use std::sync::Wait;
+use std::sync::ledger::Blank;
+use std::thread::Threads;
+use text_io::{Sink, Source};
+use version_store::{StateRepresentation, Version};
+
+/// The most versions of a desk.
+const MOST_VERSIONS: u32 = 65_536;
+
+/// Closes the desk, and answers how many entries its log has.
+fn entries_of_closed<N: Naming, K: StateRepresentation, H: Wait + Drop>(
+    desk: Desk<N, K, H>,
+    clients: Vec<Client<N, K>>,
+) -> Result<usize, ManyFault>
+    requires { N.clients ≡ N.parts }
+    ensures ok { IfOk result (λ count. (log : TableView) × IsClosed log clients.items × (opening_of log.state ≡ N.opening) × (count ≡ length log.history)) }
+    ensures err { IfErr result (λ fault. (fault ≢ ManyFault.Read) × (fault ≢ ManyFault.Write)) }
+{
+    match desk.close(clients) {
+        Ok(log) => Ok(log.entries().len()),
+        Err((CloseFault::Missing, _, _)) => Err(ManyFault::Missing),
+        Err((CloseFault::Torn, _, _)) => Err(ManyFault::Torn),
+    }
+}
+
+/// The texts with the last line, which tells how many entries the log has.
+fn with_log_line(alloc: Global, texts: Vec<u8>, count: usize) -> Result<Vec<u8>, AllocError>
+    ensures { IfOk result (λ whole. whole.items ≡ texts.items ++ log_line count) }
+{
+    let mut line = String::new(alloc);
+    writeln!(line, "log {count}")?;
+    let mut whole = texts;
+    whole.extend_from_slice(line.as_bytes())?;
+    Ok(whole)
+}
+
+/// The output for the scripts, by the clients of the desk that has this name.
+fn played<
+    N: Naming + Send + Sync,
+    H: Threads + Wait + Copy + Drop + Send + Sync,
+    R: Source + Send + Drop,
+>(
+    rt: H,
+    alloc: Global,
+    blank: Blank,
+    archive: NewArchive<InShared>,
+    workers: Workers,
+    scripts: Vec<R>,
+    graph: Graph<InShared>,
+) -> Result<Vec<u8>, ManyFault>
+    requires ranked { IsRanked graph.places }
+    requires scripts { (1 ≤ vec_len scripts) × (vec_len scripts ≤ 64) }
+    requires reads { All (λ script. R.failures script < 2 ^ 64 - 1) scripts.items }
+    requires name { blank.name ≡ N.name }
+    requires parts { (blank.parts ≡ N.parts) × (blank.parts ≡ vec_len scripts) × (N.clients ≡ vec_len scripts) }
+    requires book { archive.seen.book ≡ N.book }
+    requires opening { N.opening ≡ opening_state graph }
+    ensures ok { IfOk result (λ output. IsOutputOf R.remaining R.failures graph scripts.items output.items) }
+    ensures err { IfErr result (EndsBy R.remaining R.failures scripts.items) }
+{
+    let count = scripts.len() as u32;
+    let first = Version::load(alloc, graph)?;
+    let (desk, clients) = start::<N, InShared, H>(
+        rt,
+        alloc,
+        blank,
+        archive,
+        first,
+        count,
+        MOST_VERSIONS,
+    )?;
+    let mut seats = seats_of(&rt, alloc, &desk, workers, clients, scripts)?;
+    play_all(&rt, &mut seats);
+    let (clients, texts) = gather(alloc, seats)?;
+    let count = entries_of_closed(desk, clients)?;
+    Ok(with_log_line(alloc, texts, count)?)
+}
+
+/// The output for the scripts, by the clients of a new desk.
+fn by_new_desk<H: Threads + Wait + Copy + Drop + Send + Sync, R: Source + Send + Drop>(
+    rt: H,
+    alloc: Global,
+    workers: Workers,
+    scripts: Vec<R>,
+    graph: Graph<InShared>,
+) -> Result<Vec<u8>, ManyFault>
+    requires ranked { IsRanked graph.places }
+    requires scripts { (1 ≤ vec_len scripts) × (vec_len scripts ≤ 64) }
+    requires reads { All (λ script. R.failures script < 2 ^ 64 - 1) scripts.items }
+    ensures ok { IfOk result (λ output. IsOutputOf R.remaining R.failures graph scripts.items output.items) }
+    ensures err { IfErr result (EndsBy R.remaining R.failures scripts.items) }
+{
+    let blank = Blank::new(scripts.len() as u64);
+    let archive = NewArchive::new();
+    played::<Brand, H, R>(rt, alloc, blank, archive, workers, scripts, graph)
+}
+
+/// Answers several scripts, each by a client of its own in a thread of its own, about one recording: version 0 has the
+/// graph, and 65,536 versions are allowed. When all have ended, each script's lines are written in the order of the
+/// scripts, and then how many entries the log of their desk has.
+///
+/// Errors: `Read` where a read of a script failed or 1,073,741,824 bytes of it were read, `Write` where a write or a
+/// flush failed or took nothing, `Missing` and `Torn` where the desk isn't closed, `Memory`. At another one than `Write`
+/// nothing is written.
+pub fn many<H: Threads + Wait + Copy + Drop + Send + Sync, R: Source + Send + Drop, S: Sink>(
+    rt: H,
+    alloc: Global,
+    scripts: Vec<R>,
+    sink: &mut S,
+    graph: Graph<InShared>,
+    workers: usize,
+) -> Result<(), ManyFault>
+    requires ranked { IsRanked graph.places }
+    requires scripts { (1 ≤ vec_len scripts) × (vec_len scripts ≤ 64) }
+    requires workers { (1 ≤ workers) × (workers ≤ 16) }
+    requires reads { All (λ script. R.failures script < 2 ^ 64 - 1) scripts.items }
+    requires writes { S.failures sink.old < 2 ^ 64 - 1 }
+    ensures ok { OnOk result (Writes R.remaining R.failures graph scripts.items (S.held sink.old) (S.held sink.new)) }
+    ensures err { IfErr result (EndsManyBy R.remaining R.failures graph scripts.items (S.held sink.old) (S.held sink.new)) }
+    ensures failures { S.failures sink.new ≡ S.failures sink.old + failed_writes_of_many result }
+{
+    let output = by_new_desk(rt, alloc, Workers::new(workers), scripts, graph)?;
+    write_output(&output, sink)
+}
+
+/// Writes the output.
+fn write_output<S: Sink>(output: &[u8], sink: &mut S) -> Result<(), ManyFault>
+    requires { S.failures sink.old < 2 ^ 64 - 1 }
+    ensures ok { OnOk result (Appends (S.held sink.old) (S.held sink.new) output.now) }
+    ensures err { IfErr result (λ fault. (fault ≡ ManyFault.Write) × AppendsPrefix (S.held sink.old) (S.held sink.new) output.now) }
+    ensures failures { S.failures sink.new ≡ S.failures sink.old + failed_writes_of_many result }
+{
+    match sink.write(output) {
+        Ok(()) => match sink.flush() {
+            Ok(()) => Ok(()),
+            Err(_) => Err(ManyFault::Write),
+        },
+        Err(_) => Err(ManyFault::Write),
+    }
+}

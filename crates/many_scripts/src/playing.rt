@@ -1,0 +1,46 @@
+//! A client's loop over its script.
+ghost use Rattle.std.specs.Prelude.{◌≡◌, ◌≢◌, ◌+◌, ◌-◌, ◌^◌, ◌<◌, [], OnOk, IfErr};
+ghost use Rattle.script_lines.specs.Faults.{failed_writes_of_serve};
+ghost use Rattle.script_lines.specs.LineReader.{StopsReading};
+ghost use Rattle.many_scripts.specs.Playing.{HasHeard, PlaysScript};
+
+use crate::access::Access;
+use crate::lines::answer_any;
+use desk::{Client, Naming};
+use level_pool::Runner;
+use script_lines::{LineReader, ServeFault};
+use std::sync::Wait;
+use text_io::{Sink, Source};
+use version_store::StateRepresentation;
+
+/// Reads a script to its end, and answers its lines as they come.
+pub(crate) fn play<
+    N: Naming,
+    K: StateRepresentation,
+    H: Wait + Drop,
+    W: Runner,
+    R: Source,
+    S: Sink,
+>(
+    access: &Access<'_, N, K, H, W>,
+    client: &mut Client<N, K>,
+    reader: &mut LineReader,
+    source: &mut R,
+    sink: &mut S,
+) -> Result<(), ServeFault>
+    requires heard { HasHeard client.old }
+    requires nothing { reader.old.waiting ≡ [] }
+    requires reads { R.failures source.old < 2 ^ 64 - 1 }
+    requires writes { S.failures sink.old < 2 ^ 64 - 1 }
+    ensures ok { OnOk result (PlaysScript reader.old.left client.old client.new (R.remaining source.old) (R.remaining source.new)
+        (R.failures source.old) (R.failures source.new) (S.held sink.old) (S.held sink.new)) }
+    ensures err { IfErr result (λ fault. StopsReading fault reader.old.left (R.remaining source.old) (R.remaining source.new)
+        (R.failures source.old) (R.failures source.new)) }
+    ensures failures { S.failures sink.new ≡ S.failures sink.old + failed_writes_of_serve result }
+{
+    while reader.advance(source)? {
+        answer_any(access, client, reader.line(), sink)?;
+    }
+    answer_any(access, client, reader.line(), sink)?;
+    Ok(())
+}
