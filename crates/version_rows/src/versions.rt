@@ -8,7 +8,7 @@ use report_text::{CountedWriter, ReportFault, What, report};
 use row_kit::{CHAIN, COMPOSE_PICKS, FIRST_RUN, REWIRE_A, REWIRED, edits_of};
 use share_tree::Held;
 use stage_graph::{Fault, InFlat, InShared};
-use stage_ops::{Join, Meter};
+use stage_ops::{Join, Meter, Reads};
 use std::alloc::{AllocError, Global};
 use std::process::Abort;
 use std::sync::atomic::{AtomicU64, Ordering};
@@ -379,6 +379,19 @@ fn same_pin_and_arithmetic(rt: HostRuntime) -> Result<(), Fail> {
     in_each(&rt, rt.alloc(), &row)
 }
 
+/// A stage that is open but for its pins reads nothing.
+fn pinned_reads_nothing<R: StateRepresentation>(
+    rt: &impl Abort,
+    alloc: Global,
+) -> Result<(), Fail> {
+    let recording =
+        r#"{"stages":[{"name":"m","op":"manual","pinMoment":5,"pinResult":{"value":2}}]}"#;
+    let version: Version<R> = opened(alloc, recording)?;
+    let state = version.state(0)?;
+    assert!(rt; matches!(&state.reads, Reads::Nothing));
+    Ok(())
+}
+
 #[test]
 fn pins_and_ends(rt: HostRuntime) -> Result<(), Fail> {
     let row = Row {
@@ -389,7 +402,9 @@ fn pins_and_ends(rt: HostRuntime) -> Result<(), Fail> {
             "changes of version 1 from 0 touched 1\nb value:5 at 15 -> value:5 at 3\n",
         )],
     };
-    in_each(&rt, rt.alloc(), &row)
+    in_each(&rt, rt.alloc(), &row)?;
+    pinned_reads_nothing::<InFlat>(&rt, rt.alloc())?;
+    pinned_reads_nothing::<InShared>(&rt, rt.alloc())
 }
 
 #[test]
