@@ -1,18 +1,19 @@
 //! Sessions on a table of versions: the replies to the events that steps name.
-ghost use Rattle.std.specs.Prelude.{◌≤◌, ◌^◌};
+ghost use Rattle.std.specs.Prelude.{◌≤◌, ◌^◌, IfOk};
+ghost use Rattle.session_core.specs.Adding.{IsOfState};
 
 use level_pool::OneThread;
 use recording::{Step, read_recording, read_step};
 use row_kit::{CHAIN, COMPOSE_PICKS, FIRST_RUN, edits_of};
-use session_core::{Event, Reply, Table, TableFault, run};
-use share_tree::Held;
+use session_core::{Event, Reply, Table, TableFault, draft_of, run};
+use share_tree::{Again, Held};
 use stage_graph::{InFlat, InShared};
 use stage_ops::Meter;
 use std::alloc::Global;
 use std::process::Abort;
 use std::test::Fail;
 use std::thread::Threads;
-use version_store::{StateRepresentation, Version};
+use version_store::{Draft, StateRepresentation, Version};
 
 /// A table of a recording, with room for so many versions.
 fn table<R: StateRepresentation>(
@@ -333,4 +334,88 @@ fn takes_own<R: StateRepresentation, H: Abort + Threads + Sync>(
 fn pin_bare(rt: HostRuntime) -> Result<(), Fail> {
     takes_own::<InFlat, _>(&rt, rt.alloc())?;
     takes_own::<InShared, _>(&rt, rt.alloc())
+}
+
+/// A table of the first run, at whose version 0 session 1 stands.
+fn begun<R: StateRepresentation>(alloc: Global) -> Result<Table<R>, Fail> {
+    let mut table: Table<R> = table(alloc, FIRST_RUN, 65_536)?;
+    table.open(7, 1, 0)?;
+    Ok(table)
+}
+
+/// Two versions have the same number and graph.
+fn are_same<R: StateRepresentation>(rt: &impl Abort, one: &Version<R>, other: &Version<R>) {
+    assert_eq!(rt; one.number(), other.number());
+    assert!(rt; one.graph().same(other.graph()));
+}
+
+/// Session 1 stands at one version in both tables, by the same two entries.
+fn stands_alike<R: StateRepresentation>(
+    rt: &impl Abort,
+    one: &mut Table<R>,
+    other: &mut Table<R>,
+) -> Result<(), Fail> {
+    let ([_, entry], [_, booked]) = (one.history(), other.history()) else {
+        panic!(rt; "two entries each");
+    };
+    assert!(rt; entry.same(booked));
+    are_same(rt, &one.head(7, 1)?, &other.head(7, 1)?);
+    Ok(())
+}
+
+/// A draft of a pin on version 0 of a table.
+fn pinned<R: StateRepresentation, H: Abort + Threads + Sync>(
+    rt: &H,
+    alloc: Global,
+    table: &Table<R>,
+) -> Result<Draft<R>, Fail>
+    ensures { IfOk result (λ draft. IsOfState table.now.state 1 draft) }
+{
+    let edits = Held::new(alloc, edits_of(alloc, PIN_BARE)?)?;
+    let draft = draft_of(alloc, table.version(0)?, &edits, &OneThread::new(rt))?;
+    Ok(draft)
+}
+
+/// The version that a draft becomes, where its commit is prepared and finished by itself.
+fn made_by_parts<R: StateRepresentation>(
+    rt: &impl Abort,
+    table: &mut Table<R>,
+    draft: &Draft<R>,
+) -> Result<Version<R>, Fail>
+    requires { IsOfState table.old.state 1 draft.now }
+{
+    let ready = table.prepare(7, 1, draft)?;
+    let version = ready.version().again()?;
+    let number = table.finish(ready);
+    assert_eq!(rt; number, version.number());
+    Ok(version)
+}
+
+/// Of two tables that begin alike, one commits a draft in one call and one in its parts.
+fn commits_alike<R: StateRepresentation, H: Abort + Threads + Sync>(
+    rt: &H,
+    alloc: Global,
+    whole: &mut Table<R>,
+    parts: &mut Table<R>,
+) -> Result<(), Fail> {
+    let draft = pinned(rt, alloc, parts)?;
+    let made = made_by_parts(rt, parts, &draft)?;
+    are_same(rt, &made, &whole.commit(7, 1, &draft)?);
+    stands_alike(rt, whole, parts)
+}
+
+/// A commit in its parts does what a commit in one call does.
+fn commits_by_parts<R: StateRepresentation, H: Abort + Threads + Sync>(
+    rt: &H,
+    alloc: Global,
+) -> Result<(), Fail> {
+    let mut whole: Table<R> = begun(alloc)?;
+    let mut parts: Table<R> = begun(alloc)?;
+    commits_alike(rt, alloc, &mut whole, &mut parts)
+}
+
+#[test]
+fn pin_bare_by_parts(rt: HostRuntime) -> Result<(), Fail> {
+    commits_by_parts::<InFlat, _>(&rt, rt.alloc())?;
+    commits_by_parts::<InShared, _>(&rt, rt.alloc())
 }
