@@ -1,5 +1,6 @@
 //! What ends the program early.
 use crate::report_all::ReportAllFault;
+use many_scripts::ManyFault;
 use recording::Fault as ReadingFault;
 use serve_script::ServeFault;
 use std::alloc::AllocError;
@@ -16,6 +17,12 @@ pub(crate) enum Fault {
     Write,
     /// The command line is no text, or names nothing to do.
     CommandLine,
+    /// A desk isn't closed, since a client of it is missing.
+    Missing,
+    /// A desk isn't closed, since its log is another one than its clients kept.
+    Torn,
+    /// A thread can't be started.
+    NoThread,
     Memory,
 }
 
@@ -26,8 +33,8 @@ impl Fault {
             Fault::Refused(ReadingFault::Memory) => 4,
             Fault::Refused(_) => 1,
             Fault::CommandLine => 2,
-            Fault::Read | Fault::Write => 3,
-            Fault::Memory => 4,
+            Fault::Read | Fault::Write | Fault::Missing | Fault::Torn => 3,
+            Fault::NoThread | Fault::Memory => 4,
         }
     }
 }
@@ -39,6 +46,9 @@ impl fmt::Display for Fault {
             Fault::Read => f.write_str("refused 41 ReadFault"),
             Fault::Write => f.write_str("refused 40 WriteFault"),
             Fault::CommandLine => f.write_str("error: the command line is not UTF-8 text"),
+            Fault::Missing => f.write_str("refused 60 Missing"),
+            Fault::Torn => f.write_str("refused 61 Torn"),
+            Fault::NoThread => f.write_str("refused 35 NoThread"),
             Fault::Memory => f.write_str("refused 90 Memory"),
         }
     }
@@ -66,6 +76,19 @@ impl From<ServeFault> for Fault {
             ServeFault::Read => Fault::Read,
             ServeFault::Write => Fault::Write,
             ServeFault::Memory => Fault::Memory,
+        }
+    }
+}
+
+impl From<ManyFault> for Fault {
+    fn from(fault: ManyFault) -> Fault {
+        match fault {
+            ManyFault::NoThread => Fault::NoThread,
+            ManyFault::Write => Fault::Write,
+            ManyFault::Read => Fault::Read,
+            ManyFault::Missing => Fault::Missing,
+            ManyFault::Torn => Fault::Torn,
+            ManyFault::Memory => Fault::Memory,
         }
     }
 }

@@ -6,11 +6,13 @@ ghost use Rattle.clap.specs.Values.{kind_of};
 ghost use Rattle.clap.specs.declared.error.kind.ErrorKind.TheVariants.{OutOfMemory};
 ghost use Rattle.whatif.specs.declared.fault.Fault.TheVariants.{Memory};
 
+mod at_once;
 mod fault;
 mod input;
 mod options;
 mod report_all;
 
+use at_once::run_many;
 use clap::ArgMatches;
 use clap::error::ErrorKind as ClapErrorKind;
 use fault::Fault;
@@ -21,10 +23,12 @@ use serve_script::serve;
 use stage_graph::{Graph, InShared};
 use std::io::{self, BufWriter, ErrorKind};
 use std::process::ExitCode;
+use std::sync::Wait;
+use std::thread::Threads;
 use text_io::{CountedReader, CountedWriter, Sink};
 
 fn main(rt: HostRuntime) -> ExitCode {
-    match run(&rt, &OneThread::new(&rt)) {
+    match run(&rt, rt, &OneThread::new(&rt)) {
         Ok(code) => code,
         Err(fault) => refuse(&rt, &fault),
     }
@@ -43,7 +47,11 @@ fn refuse(rt: &HostRuntime, fault: &Fault) -> ExitCode {
     }
 }
 
-fn run<W: Runner>(rt: &HostRuntime, runner: &W) -> Result<ExitCode, Fault> {
+fn run<H: Threads + Wait + Copy + Drop + Send + Sync, W: Runner>(
+    rt: &HostRuntime,
+    threads: H,
+    runner: &W,
+) -> Result<ExitCode, Fault> {
     let alloc = rt.alloc();
     let words = words(rt)?;
     let command = options::command(alloc)?;
@@ -54,6 +62,7 @@ fn run<W: Runner>(rt: &HostRuntime, runner: &W) -> Result<ExitCode, Fault> {
     match matches.subcommand() {
         Some(("report", matches)) => run_report(rt, matches)?,
         Some(("serve", matches)) => run_serve(rt, runner, matches)?,
+        Some(("many", matches)) => run_many(rt, threads, matches)?,
         _ => return Err(Fault::CommandLine),
     }
     Ok(ExitCode::SUCCESS)
