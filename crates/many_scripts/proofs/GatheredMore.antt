@@ -40,7 +40,7 @@ module _ {S C T E : Type 0} (client : S → C) (text : S → Result T E) (items 
       subst (λ plays. AreGathered plays (λ (played : C × T). played.0) (λ played. items played.1) next more)
       (sym (map-append (λ s. with_client (client s) (text s)) seats (seat ∷ [])))
       (gathered_more (map (λ s. with_client (client s) (text s)) seats) (λ (played : C × T). played.0) (λ played. items played.1) clients next output more (with_client (client seat) (text seat)) (client seat, told)
-          so_far (ap (with_client (client seat)) is) clients_are output_is)
+      so_far (ap (with_client (client seat)) is) clients_are output_is)
 
   -- a seat that failed is among them
   pub seat_failed : (all yielded rest : List S) (seat : S) (fault : E) → all ≡ yielded ++ seat ∷ rest → text seat ≡ Err fault
@@ -48,8 +48,8 @@ module _ {S C T E : Type 0} (client : S → C) (text : S → Result T E) (items 
   seat_failed all yielded rest seat fault are is =
       subst (λ l. Contains l (Err fault))
       (ap (λ play. map (λ s. with_client (client s) (text s)) yielded ++ play ∷ map (λ s. with_client (client s) (text s)) rest) (ap (with_client (client seat)) (sym is))
-          ∙ sym (map-append (λ s. with_client (client s) (text s)) yielded (seat ∷ rest))
-          ∙ ap (map (λ s. with_client (client s) (text s))) (sym are))
+      ∙ sym (map-append (λ s. with_client (client s) (text s)) yielded (seat ∷ rest))
+      ∙ ap (map (λ s. with_client (client s) (text s))) (sym are))
       (contains_between (map (λ s. with_client (client s) (text s)) yielded) (Err fault) (map (λ s. with_client (client s) (text s)) rest))
 
   -- when no seat is left, these are the clients and texts of all

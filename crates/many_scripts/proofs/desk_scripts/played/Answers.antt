@@ -41,9 +41,9 @@ returns-in_err-clients-clause-err g c =
     at_err c.from_residual-in_err-clients.result (λ (fault : ManyFault). EndsBy g.R.Source.remaining g.R.Source.failures c.args.scripts.items fault)
     c.in_err-clients.field-0.0 (err_from_is_err_and c.from_residual-in_err-clients.result c.from_residual-in_err-clients.ensures.1)
     (ends_so _ _ _ _ g.R.Source.remaining g.R.Source.failures c.in_ok-seats.seats.items _ c.args.scripts.items c.in_err-clients.field-0.0 c.in_ok-desk.clients.items c.in_ok-seats.ensures (each_came_back (λ seat. seat.client) (λ seat. seat.source) (λ seat. seat.text) (λ text. text.items) g.R.Source.remaining g.R.Source.failures c.in_ok-seats.seats.items c.play_all.new.seats
-        (take c.in_ok-seats.seats.len (c.play_all.new.seats ++ rest))
-        (ap (λ n. take n (c.play_all.new.seats ++ rest)) (sym (c.play_all.auto.seats ∙ c.deref_mut.ensures.len)) ∙ take-append_seam c.play_all.new.seats rest)
-        (subst (λ seats. AllZip (λ before after. MatchResult after.text (λ text. IsPlay g.R.Source.remaining g.R.Source.failures before.client before.source after.client text.items) (EndsReading g.R.Source.remaining g.R.Source.failures before.source)) seats c.play_all.new.seats) c.deref_mut.ensures.value c.play_all.ensures)) c.in_err-clients.ensures.err)
+    (take c.in_ok-seats.seats.len (c.play_all.new.seats ++ rest))
+    (ap (λ n. take n (c.play_all.new.seats ++ rest)) (sym (c.play_all.auto.seats ∙ c.deref_mut.ensures.len)) ∙ take-append_seam c.play_all.new.seats rest)
+    (subst (λ seats. AllZip (λ before after. MatchResult after.text (λ text. IsPlay g.R.Source.remaining g.R.Source.failures before.client before.source after.client text.items) (EndsReading g.R.Source.remaining g.R.Source.failures before.source)) seats c.play_all.new.seats) c.deref_mut.ensures.value c.play_all.ensures)) c.in_err-clients.ensures.err)
 
 pub returns-clause-ok : goal.returns-clause-ok
 returns-clause-ok g c =
@@ -52,7 +52,7 @@ returns-clause-ok g c =
     whole_output _ _ _ _ g.R.Source.remaining g.R.Source.failures c.args.graph closed.0 (c.in_ok-first.first ∷ []) c.len-count.result
     c.in_ok-seats.seats.items _ c.in_ok-clients.clients.items c.in_ok-desk.clients.items c.args.scripts.items c.in_ok-clients.texts.items c.in_ok-with_log_line.field-0.items g.N.Naming.opening
     (each_came_back (λ seat. seat.client) (λ seat. seat.source) (λ seat. seat.text) (λ text. text.items) g.R.Source.remaining g.R.Source.failures c.in_ok-seats.seats.items c.play_all.new.seats
-        (take c.in_ok-seats.seats.len (c.play_all.new.seats ++ rest))
-        (ap (λ n. take n (c.play_all.new.seats ++ rest)) (sym (c.play_all.auto.seats ∙ c.deref_mut.ensures.len)) ∙ take-append_seam c.play_all.new.seats rest)
-        (subst (λ seats. AllZip (λ before after. MatchResult after.text (λ text. IsPlay g.R.Source.remaining g.R.Source.failures before.client before.source after.client text.items) (EndsReading g.R.Source.remaining g.R.Source.failures before.source)) seats c.play_all.new.seats) c.deref_mut.ensures.value c.play_all.ensures)) c.in_ok-clients.ensures.ok c.in_ok-seats.ensures c.in_ok-desk.ensures.clients closed.1 closed.2 c.requires.opening
+    (take c.in_ok-seats.seats.len (c.play_all.new.seats ++ rest))
+    (ap (λ n. take n (c.play_all.new.seats ++ rest)) (sym (c.play_all.auto.seats ∙ c.deref_mut.ensures.len)) ∙ take-append_seam c.play_all.new.seats rest)
+    (subst (λ seats. AllZip (λ before after. MatchResult after.text (λ text. IsPlay g.R.Source.remaining g.R.Source.failures before.client before.source after.client text.items) (EndsReading g.R.Source.remaining g.R.Source.failures before.source)) seats c.play_all.new.seats) c.deref_mut.ensures.value c.play_all.ensures)) c.in_ok-clients.ensures.ok c.in_ok-seats.ensures c.in_ok-desk.ensures.clients closed.1 closed.2 c.requires.opening
     (c.in_ok-with_log_line.ensures ∙ ap (λ n. c.in_ok-clients.texts.items ++ log_line n) closed.3)

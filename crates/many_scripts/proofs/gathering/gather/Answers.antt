@@ -24,8 +24,8 @@ returns-in_err-text-clause-err g c =
     at_err c.from_residual.result (λ (fault : ManyFault). (fault ≡ Memory) ⊎ Contains (map (λ seat. with_client seat.client seat.text) c.args.seats.items) (Err fault))
     c.in_err-text.field-0.0 (err_from_is_err_and c.from_residual.result c.from_residual.ensures.1)
     (inr (seat_failed (λ seat. seat.client) (λ seat. seat.text) (λ text. text.items) c.args.seats.items c.loop-seat.yielded c.next.new.self.rest.items c.in-Some.seat c.in_err-text.field-0.0
-        (sym c.into_iter-seat-iterator.ensures.into_iter_gives.0 ∙ c.loop-seat.invariant.0 ∙ ap (λ rest. c.loop-seat.yielded ++ rest) c.in-Some.ensures.steps.0)
-        c.in_err-text.was))
+    (sym c.into_iter-seat-iterator.ensures.into_iter_gives.0 ∙ c.loop-seat.invariant.0 ∙ ap (λ rest. c.loop-seat.yielded ++ rest) c.in-Some.ensures.steps.0)
+    c.in_err-text.was))
 
 pub returns-clause-ok : goal.returns-clause-ok
 returns-clause-ok g c =
