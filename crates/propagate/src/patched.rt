@@ -1,7 +1,9 @@
 //! Edits of a graph with its order and its states.
-ghost use Rattle.std.specs.Prelude.{◌≡◌, ◌≤◌, ◌+◌, ◌^◌, IfOk, IfErr, OnErr, Ok, Err, vec_len};
+ghost use Rattle.std.specs.Prelude.{◌≡◌, ◌≤◌, ◌+◌, ◌^◌, IfOk, IfErr, OnOk, OnErr, Ok, Err, vec_len};
 ghost use Rattle.stage_graph.specs.Changes.{changed, IsNewCycle, IsSettled};
+ghost use Rattle.stage_graph.specs.Kept.{IsChangeBy};
 ghost use Rattle.stage_graph.specs.Walk.{IsRanked};
+ghost use Rattle.rank_order.specs.Orders.{order_of};
 ghost use Rattle.propagate.specs.Reach.{AreStates};
 ghost use Rattle.propagate.specs.Patched.{touched_by, IsCountOf};
 
@@ -33,6 +35,26 @@ pub struct Patched<R: StateRepresentation> {
     pub states: States<R>,
     /// The stages that were computed, by rank and then by place.
     pub touched: Vec<u32>,
+}
+
+/// The order of the changed graph, or the refusal of edits that close a cycle.
+fn changed_order<R: StateRepresentation>(
+    alloc: Global,
+    old: &Old<'_, R>,
+    graph: &Held<Graph<R>>,
+    edits: &Edits,
+) -> Result<Order<R>, Fault>
+    requires ranked { IsRanked old.now.graph.now.places }
+    requires change { IsChangeBy edits.now old.now.order.now.graph graph.now }
+    ensures ranked { OnOk result (IsRanked graph.now.places) }
+    ensures order { IfOk result (λ order. order ≡ order_of graph.now) }
+    ensures fault { IfErr result (λ fault. IsSettled (IsNewCycle edits.now) (Err fault) (Ok graph.now)) }
+{
+    match old.order.patch(alloc, graph, edits) {
+        Ok(order) => Ok(order),
+        Err(PatchFault::Cycle(path)) => Err(Fault::Cycle(path)),
+        Err(PatchFault::Memory) => Err(Fault::Memory),
+    }
 }
 
 /// The graph that a list of edits makes, with its order and its states. The stages that the edits can reach are computed again, each
@@ -74,10 +96,9 @@ pub fn propagate<R: StateRepresentation, N: Sync, O: StageOps<N> + Sync, W: Runn
     let _ = changed.len();
     let graph = Held::new(alloc, changed)?;
     let after = graph.deref();
-    let order = match old.order.patch(alloc, &graph, edits) {
+    let order = match changed_order(alloc, &old, &graph, edits) {
         Ok(order) => order,
-        Err(PatchFault::Cycle(path)) => return Err(Fault::Cycle(path)),
-        Err(PatchFault::Memory) => return Err(Fault::Memory),
+        Err(fault) => return Err(fault),
     };
     let edited = edits.edited_places(alloc, before, after)?;
     let places = edited.as_slice();

@@ -46,8 +46,8 @@ returns-in-Ok-propagate_change-clause-touched g c =
     (subst (λ (to : PlainGraph). found ≡ touched_by (step to.mode) c.args.edits.now before.places to.places) c.deref-after.ensures
     (c.in-Ok-propagate_change.ensures.touched ∙ by_edits))
 
-pub returns-in-Err-Memory-propagate_change-clause-refused : goal.returns-in-Err-Memory-propagate_change-clause-refused
-returns-in-Err-Memory-propagate_change-clause-refused g c =
+pub returns-in-Err-Memory-clause-refused : goal.returns-in-Err-Memory-clause-refused
+returns-in-Err-Memory-clause-refused g c =
     let before = c.deref-before.result.now in
     let after = c.deref-after.result.now in
     let places = c.as_slice-places.result.now in
@@ -66,6 +66,6 @@ returns-in-Err-Memory-propagate_change-clause-refused g c =
     let few =
     subst (λ (from : PlainGraph). count ≤ meter + length (touched_by (step graph.mode) c.args.edits.now from.places graph.places)) c.deref-before.ensures
     (subst (λ (to : PlainGraph). count ≤ meter + length (touched_by (step to.mode) c.args.edits.now before.places to.places)) c.deref-after.ensures
-    (subst (λ (xs : List ℕ). count ≤ meter + length xs) by_edits c.in-Err-Memory-propagate_change.ensures.refused.1)) in
-    count_of_ranked (λ to. touched_by (step to.mode) c.args.edits.now old.places to.places) (changed c.args.edits.now old) graph meter count answer c.in-Ok-patch.ensures.ranked
-    (c.in-Err-Memory-propagate_change.ensures.refused.0, few)
+    (subst (λ (xs : List ℕ). count ≤ meter + length xs) by_edits c.in-Err-Memory.ensures.refused.1)) in
+    count_of_ranked (λ to. touched_by (step to.mode) c.args.edits.now old.places to.places) (changed c.args.edits.now old) graph meter count answer c.in-Ok-changed_order.ensures.ranked
+    (c.in-Err-Memory.ensures.refused.0, few)
