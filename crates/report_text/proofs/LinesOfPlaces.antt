@@ -20,11 +20,16 @@ pub next_place : (line : ℕ → List ℕ) (place end : ℕ) → place < end
 next_place line place end before_end =
     let one_more : end - place ≡ suc (end - (place + 1)) = omega arith in ap (λ n. flat_map line (range_with_len place n)) one_more
 
--- the same of listed places
-pub next_of : (line : ℕ → List ℕ) (places : List ℕ) (i d : ℕ) → i < length places
+-- the same of listed places, or of other listed things
+pub next_of : {X : Type 0} (line : X → List ℕ) (places : List X) (i : ℕ) (d : X) → i < length places
     → flat_map line (drop i places) ≡ line (get_or places i d) ++ flat_map line (drop (i + 1) places)
 next_of line places i d within =
     ap (flat_map line) (drop-cons places i d within ∙ ap (λ n. get_or places i d ∷ drop n places) (sym (add-one i)))
+
+-- the same, where the item at the place is known
+pub next_is : {X : Type 0} (line : X → List ℕ) (items : List X) (i : ℕ) (item : X) → item ≡ get_or items i item → i < length items
+    → flat_map line (drop i items) ≡ line item ++ flat_map line (drop (i + 1) items)
+next_is line items i item is within = next_of line items i item within ∙ ap (λ x. line x ++ flat_map line (drop (i + 1) items)) (sym is)
 
 -- a prefix of the next piece
 pub stops_in_next : (a b c : Option (List ℕ)) (text rest piece more : List ℕ) → AppendsBut rest a b text → rest ≡ piece ++ more → AppendsPrefix b c piece → AppendsPrefix a c text

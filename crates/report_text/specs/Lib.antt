@@ -1,4 +1,6 @@
+pub mod AgainstTexts
 pub mod Lines
 pub mod PathTexts
 pub mod Reports
+pub mod SweepTexts
 pub mod Texts

@@ -4,6 +4,7 @@ ghost use Rattle.version_store.specs.Plain.{parent_of};
 ghost use Rattle.report_text.specs.Lines.{header};
 ghost use Rattle.report_text.specs.Texts.{all_header, changes_header, comparison, drift_header, number_or_dash, times_header};
 
+use crate::against::{push_changes_against_header, push_drift_against_header};
 use crate::lines::Lines;
 use crate::words::mode_text;
 use propagate::StateRepresentation;
@@ -16,14 +17,17 @@ pub(crate) fn push_header<R: StateRepresentation>(
     line: &mut String,
     lines: Lines,
     version: &Version<R>,
+    against: &Version<R>,
     count: usize,
 ) -> Result<(), AllocError>
-    ensures { OnOk result (string_bytes line.new ≡ string_bytes line.old ++ header lines version.now count) }
+    ensures { OnOk result (string_bytes line.new ≡ string_bytes line.old ++ header lines version.now against.now count) }
 {
     match lines {
         Lines::States => push_all_header(line, version, count),
         Lines::Times => push_times_header(line, version, count),
         Lines::Shifts => push_drift_header(line, version, count),
+        Lines::ChangesAgainst => push_changes_against_header(line, version, against, count),
+        Lines::ShiftsAgainst => push_drift_against_header(line, version, against, count),
     }
 }
 

@@ -1,8 +1,10 @@
 //! Reports of a version, written to a sink a line at a time.
 #![tactic(auto)]
 
+mod against;
 mod blame;
 mod changes;
+mod comparison;
 mod fault;
 mod headers;
 mod lines;
@@ -11,11 +13,14 @@ mod path;
 mod queries;
 mod reporting;
 mod shift;
+mod sweep;
 mod what;
 mod words;
 mod writing;
 
+pub use comparison::Comparison;
 pub use fault::ReportFault;
-pub use reporting::report;
+pub use reporting::{compare, report};
+pub use sweep::report_sweep;
 pub use text_io::{CountedWriter, Sink, WriteFault};
 pub use what::What;

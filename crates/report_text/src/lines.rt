@@ -4,6 +4,7 @@ ghost use Rattle.stage_graph.specs.Plain.{stage_at};
 ghost use Rattle.report_text.specs.Lines.{has_line, line_count, place_line};
 ghost use Rattle.report_text.specs.Texts.{drift_line, stage_line, times_line};
 
+use crate::against::{is_changed, push_change_against, push_drift_against, shift_against};
 use crate::queries::{rank_of, start_of, state_of};
 use crate::shift::Shift;
 use crate::words::push_number_or_dash;
@@ -22,15 +23,23 @@ pub(crate) enum Lines {
     Times,
     /// How much later or earlier than in the parent it completes, if it does.
     Shifts,
+    /// What it is in another version and here, if that is not the same.
+    ChangesAgainst,
+    /// How much later or earlier than in another version it completes, if it does.
+    ShiftsAgainst,
 }
 
-/// How many places have a line.
-pub(crate) fn line_count<R: StateRepresentation>(lines: Lines, version: &Version<R>) -> usize
-    ensures { result ≡ line_count lines version.now }
+/// How many places have a line; `against` is the version with which two of the reports compare.
+pub(crate) fn line_count<R: StateRepresentation>(
+    lines: Lines,
+    version: &Version<R>,
+    against: &Version<R>,
+) -> usize
+    ensures { result ≡ line_count lines version.now against.now }
 {
     let mut count = 0;
     for place in 0..version.graph().len() as u32 {
-        if has_line(lines, version, place) {
+        if has_line(lines, version, against, place) {
             count += 1;
         }
     }
@@ -38,12 +47,25 @@ pub(crate) fn line_count<R: StateRepresentation>(lines: Lines, version: &Version
 }
 
 // Whether a place has a line.
-fn has_line<R: StateRepresentation>(lines: Lines, version: &Version<R>, place: u32) -> bool
-    ensures { result ≡ has_line lines version.now place }
+fn has_line<R: StateRepresentation>(
+    lines: Lines,
+    version: &Version<R>,
+    against: &Version<R>,
+    place: u32,
+) -> bool
+    ensures { result ≡ has_line lines version.now against.now place }
 {
     match lines {
         Lines::States | Lines::Times => version.graph().stage(place).is_some(),
         Lines::Shifts => Shift::at(version, place).is_some(),
+        Lines::ChangesAgainst => match version.graph().stage(place) {
+            Some(stage) => is_changed(version, against, place, stage),
+            None => false,
+        },
+        Lines::ShiftsAgainst => match version.graph().stage(place) {
+            Some(stage) => shift_against(version, against, place, stage).is_some(),
+            None => false,
+        },
     }
 }
 
@@ -52,9 +74,10 @@ pub(crate) fn push_line<R: StateRepresentation>(
     line: &mut String,
     lines: Lines,
     version: &Version<R>,
+    against: &Version<R>,
     place: u32,
 ) -> Result<(), AllocError>
-    ensures { OnOk result (string_bytes line.new ≡ string_bytes line.old ++ place_line lines version.now place) }
+    ensures { OnOk result (string_bytes line.new ≡ string_bytes line.old ++ place_line lines version.now against.now place) }
 {
     let Some(stage) = version.graph().stage(place) else {
         return Ok(());
@@ -63,6 +86,8 @@ pub(crate) fn push_line<R: StateRepresentation>(
         Lines::States => push_stage(line, version, place, stage),
         Lines::Times => push_times(line, version, place, stage),
         Lines::Shifts => push_drift(line, version, place, stage),
+        Lines::ChangesAgainst => push_change_against(line, version, against, place, stage),
+        Lines::ShiftsAgainst => push_drift_against(line, version, against, place, stage),
     }
 }
 

@@ -56,7 +56,7 @@ fn write_lines_of<R: StateRepresentation, S: Sink>(
     let sources = stage.sources.as_slice();
     let inner = stage.inner.as_slice();
     let dependents = dependents_of(version, place);
-    write_place(line, Lines::States, version, place, sink)?;
+    write_place(line, Lines::States, version, version, place, sink)?;
     write_names(line, "sources", version, sources, sink)?;
     write_names(line, "inner", version, inner, sink)?;
     write_names(line, "dependents", version, dependents, sink)?;

@@ -151,8 +151,12 @@ fn push_path_header<R: StateRepresentation>(
     writeln!(line, " stages {count}")
 }
 
-// The moment, and another text where there is none.
-fn push_at(line: &mut String, otherwise: &str, moment: Option<u64>) -> Result<(), AllocError>
+/// The moment, and another text where there is none.
+pub(crate) fn push_at(
+    line: &mut String,
+    otherwise: &str,
+    moment: Option<u64>,
+) -> Result<(), AllocError>
     ensures { OnOk result (string_bytes line.new ≡ string_bytes line.old ++ at_text otherwise.now moment) }
 {
     match moment {

@@ -1,6 +1,6 @@
 //! How a stage's moment differs from that in the parent.
 ghost use Rattle.std.specs.Prelude.{◌≡◌};
-ghost use Rattle.report_text.specs.Texts.{shift_at, shift_since};
+ghost use Rattle.report_text.specs.Texts.{shift_at, shift_between, shift_since};
 
 use propagate::StateRepresentation;
 use std::fmt;
@@ -28,6 +28,19 @@ impl fmt::Display for Shift {
 }
 
 impl Shift {
+    /// The shift between two moments, if they are not one.
+    pub(crate) fn between(old: u64, new: u64) -> Option<Shift>
+        ensures { result ≡ shift_between old new }
+    {
+        if old < new {
+            Some(Shift::Later(new - old))
+        } else if new < old {
+            Some(Shift::Earlier(old - new))
+        } else {
+            None
+        }
+    }
+
     /// The shift of a completion in the parent, where there is one, to one here.
     fn since(before: Before, moment: Option<u64>) -> Option<Shift>
         ensures { result ≡ shift_since before moment }

@@ -14,22 +14,25 @@ use propagate::StateRepresentation;
 use text_io::Sink;
 use version_store::Version;
 
-/// Writes the header and the lines of a report that goes over all places.
+/// Writes the header and the lines of a report that goes over all places; `against` is the version with which two of
+/// these reports compare.
 pub(crate) fn write_lines<R: StateRepresentation, S: Sink>(
     line: &mut String,
     lines: Lines,
     version: &Version<R>,
+    against: &Version<R>,
     sink: &mut S,
 ) -> Result<(), ReportFault>
     requires { S.failures sink.old < 2 ^ 64 - 1 }
-    ensures ok { OnOk result (Appends (S.held sink.old) (S.held sink.new) (lines_text lines version.now)) }
-    ensures err { OnErr result (AppendsPrefix (S.held sink.old) (S.held sink.new) (lines_text lines version.now)) }
+    ensures ok { OnOk result (Appends (S.held sink.old) (S.held sink.new) (lines_text lines version.now against.now)) }
+    ensures err { OnErr result (AppendsPrefix (S.held sink.old) (S.held sink.new) (lines_text lines version.now against.now)) }
     ensures found { result ≢ Err ReportFault.NoStage }
     ensures failures { S.failures sink.new ≡ S.failures sink.old + failed_writes result }
 {
     line.clear();
-    push_header(line, lines, version, line_count(lines, version))?;
-    write_each_place(line, lines, version, sink)
+    let count = line_count(lines, version, against);
+    push_header(line, lines, version, against, count)?;
+    write_each_place(line, lines, version, against, sink)
 }
 
 // Writes the header, which stands in the line's room, and then the line of each place.
@@ -37,19 +40,20 @@ fn write_each_place<R: StateRepresentation, S: Sink>(
     line: &mut String,
     lines: Lines,
     version: &Version<R>,
+    against: &Version<R>,
     sink: &mut S,
 ) -> Result<(), ReportFault>
     requires { S.failures sink.old < 2 ^ 64 - 1 }
     ensures ok { OnOk result (Appends (S.held sink.old) (S.held sink.new)
-        (string_bytes line.old ++ flat_map (place_line lines version.now) (all_places version.now.graph.places))) }
+        (string_bytes line.old ++ flat_map (place_line lines version.now against.now) (all_places version.now.graph.places))) }
     ensures err { OnErr result (AppendsPrefix (S.held sink.old) (S.held sink.new)
-        (string_bytes line.old ++ flat_map (place_line lines version.now) (all_places version.now.graph.places))) }
+        (string_bytes line.old ++ flat_map (place_line lines version.now against.now) (all_places version.now.graph.places))) }
     ensures found { result ≢ Err ReportFault.NoStage }
     ensures failures { S.failures sink.new ≡ S.failures sink.old + failed_writes result }
 {
     sink.write(line.as_bytes())?;
     for place in 0..version.graph().len() as u32 {
-        write_place(line, lines, version, place, sink)?;
+        write_place(line, lines, version, against, place, sink)?;
     }
     Ok(())
 }
@@ -59,17 +63,18 @@ pub(crate) fn write_place<R: StateRepresentation, S: Sink>(
     line: &mut String,
     lines: Lines,
     version: &Version<R>,
+    against: &Version<R>,
     place: u32,
     sink: &mut S,
 ) -> Result<(), ReportFault>
     requires { S.failures sink.old < 2 ^ 64 - 1 }
-    ensures ok { OnOk result (Appends (S.held sink.old) (S.held sink.new) (place_line lines version.now place)) }
-    ensures err { OnErr result (AppendsPrefix (S.held sink.old) (S.held sink.new) (place_line lines version.now place)) }
+    ensures ok { OnOk result (Appends (S.held sink.old) (S.held sink.new) (place_line lines version.now against.now place)) }
+    ensures err { OnErr result (AppendsPrefix (S.held sink.old) (S.held sink.new) (place_line lines version.now against.now place)) }
     ensures found { result ≢ Err ReportFault.NoStage }
     ensures failures { S.failures sink.new ≡ S.failures sink.old + failed_writes result }
 {
     line.clear();
-    push_line(line, lines, version, place)?;
+    push_line(line, lines, version, against, place)?;
     sink.write(line.as_bytes())?;
     Ok(())
 }

@@ -18,8 +18,9 @@ use Rattle.stage_graph.specs.Edits.{allowed, changed_at, standing}
 use Rattle.stage_graph.specs.Operations.{has_action}
 use Rattle.stage_graph.specs.Plain.{PlainGraph, stage_at, stage_named}
 use Rattle.stage_graph.specs.Sound.{IsSound}
+use Rattle.stage_ops.specs.declared.state.Done.{Done}
 use Rattle.time_sweep.specs.declared.trial.Trial.{Trial}
-use Rattle.time_sweep.specs.Sweep.{completes_at, hurried, hurry, sooner_trial, trial_of}
+use Rattle.time_sweep.specs.Sweep.{completion_of, hurried, hurry, sooner_trial, trial_of}
 
 acts : (op : Op) (action : Option Expression) → is_some action ≡ true → IsTrue (fits_action op action) → has_action op ≡ true
 acts op None some fits = cc
@@ -53,10 +54,11 @@ pub trials_more : (trial : ℕ → Option Trial) (count : ℕ) → filter_map tr
 trials_more trial count = ap (filter_map trial) (range_more count) ∙ filter_map-append trial (range_with_len 0 count) (count ∷ [])
 
 -- an action that takes no time already has no trial
-none_sooner : (acts : Bool) (place : ℕ) (moment : Option ℕ) → cond acts (sooner_trial place moment moment) None ≡ None
+none_sooner : (acts : Bool) (place : ℕ) (done : Option Done) → cond acts (sooner_trial place done done) None ≡ None
 none_sooner true place None = refl
-none_sooner true place (Some moment) = sym (cond_above moment moment (Some (record { place = place; moment = moment })) None None (omega arith) refl)
-none_sooner false place moment = refl
+none_sooner true place (Some done) =
+    sym (cond_above done.moment done.moment (Some (record { place = place; outcome = done.outcome; moment = done.moment })) None None (omega arith) refl)
+none_sooner false place done = refl
 
 pub untimed : (graph : PlainGraph) (stage : Stage) (target place : ℕ) → stage_at graph.places stage.place ≡ Some stage → stage.queued ≡ 0 → stage.runs ≡ 0 → trial_of graph target place (Some stage) ≡ None
 untimed graph stage target place stands queued runs =
@@ -66,5 +68,5 @@ untimed graph stage target place stands queued runs =
     ap (λ (made : Stage). record graph { places = slice_set graph.places stage.place (Some made) }) same_stage
     ∙ ap (λ (here : Option Stage). record graph { places = slice_set graph.places stage.place here }) (sym stands)
     ∙ ap (λ (places : List (Option Stage)). record graph { places = places }) (set-get_or graph.places stage.place None) in
-    ap (λ (made : PlainGraph). cond (is_some stage.action) (sooner_trial place (completes_at graph target) (completes_at made target)) None) same
-    ∙ none_sooner (is_some stage.action) place (completes_at graph target)
+    ap (λ (made : PlainGraph). cond (is_some stage.action) (sooner_trial place (completion_of graph target) (completion_of made target)) None) same
+    ∙ none_sooner (is_some stage.action) place (completion_of graph target)

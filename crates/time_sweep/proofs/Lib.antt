@@ -1,1 +1,2 @@
 pub mod Hurrying
+pub mod Soonest

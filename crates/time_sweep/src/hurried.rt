@@ -1,14 +1,13 @@
 //! A version with one action that takes no time.
 ghost use Rattle.std.specs.Prelude.{◌≡◌, IfOk, IsSome, Some};
 ghost use Rattle.stage_graph.specs.Plain.{IsLive, stage_at};
-ghost use Rattle.version_store.specs.Queries.{state_of, told, moment_in};
-ghost use Rattle.time_sweep.specs.Sweep.{completes_at, hurried, hurry};
+ghost use Rattle.time_sweep.specs.Sweep.{completion_of, hurried, hurry};
 
 use level_pool::Runner;
 use propagate::StateRepresentation;
 use share_tree::Held;
 use stage_graph::{Edit, Edits, Fault, Stage};
-use stage_ops::Meter;
+use stage_ops::{Done, Meter};
 use std::alloc::{AllocError, Global};
 use version_store::{Draft, NoStage, Version};
 
@@ -51,33 +50,23 @@ fn hurried_draft<R: StateRepresentation, W: Runner>(
     }
 }
 
-/// When a stage of a version completes.
-fn moment_of<R: StateRepresentation>(
-    version: &Version<R>,
-    target: u32,
-) -> Result<Option<u64>, NoStage>
-    ensures { result ≡ told version.now.graph target (moment_in (state_of version.now.graph target)) }
-{
-    version.moment(target)
-}
-
-/// When a stage would complete if the action of another took no time.
-pub(crate) fn hurried_moment<R: StateRepresentation, W: Runner>(
+/// How a stage would complete if the action of another took no time; none where it would be pending.
+pub(crate) fn hurried_completion<R: StateRepresentation, W: Runner>(
     alloc: Global,
     version: &Version<R>,
     stage: &Stage,
     target: u32,
     runner: &W,
-) -> Result<Option<u64>, AllocError>
+) -> Result<Option<Done>, AllocError>
     requires stands { stage_at version.now.graph.places stage.now.place ≡ Some stage.now }
     requires acts { IsSome stage.now.action }
     requires live { IsLive version.now.graph.places target }
-    ensures { IfOk result (λ moment. moment ≡ completes_at (hurried version.now.graph stage.now) target) }
+    ensures { IfOk result (λ done. done ≡ completion_of (hurried version.now.graph stage.now) target) }
 {
     let draft = hurried_draft(alloc, version, stage, runner)?;
     let hurried = draft.numbered(0)?;
-    match moment_of(&hurried, target) {
-        Ok(moment) => Ok(moment),
+    match hurried.state(target) {
+        Ok(state) => Ok(state.done),
         Err(NoStage) => unreachable!(),
     }
 }

@@ -3,23 +3,39 @@ ghost use Rattle.std.specs.Prelude.{◌≡◌, ◌↔◌, IfOk, IsTrue, None, Is
 ghost use Rattle.std.specs.List.Sorted.{IsNonDecreasingBy, IsStableByKey};
 ghost use Rattle.std.specs.Ordering.{nat_cmp};
 ghost use Rattle.stage_graph.specs.Plain.{IsLive, stage_at};
-ghost use Rattle.time_sweep.specs.Sweep.{completes_at, sooner_trial, trial_at, trial_moment, trials, IsSweep};
+ghost use Rattle.time_sweep.specs.Sweep.{completion_of, sooner_trial, sweep, trial_at, trial_moment, trials, IsSweep};
 
-use crate::hurried::hurried_moment;
+use crate::hurried::hurried_completion;
 use crate::trial::Trial;
 use level_pool::Runner;
 use propagate::StateRepresentation;
 use stage_graph::Stage;
+use stage_ops::Done;
 use std::alloc::{AllocError, Global};
 use version_store::{NoStage, QueryFault, Version};
 
 /// A trial by which a stage would complete sooner.
-fn sooner_trial(place: u32, old: Option<u64>, new: Option<u64>) -> Option<Trial>
-    ensures { result ≡ sooner_trial place old new }
+fn sooner_trial(place: u32, old: &Option<Done>, new: &Option<Done>) -> Option<Trial>
+    ensures { result ≡ sooner_trial place old.now new.now }
 {
     match (old, new) {
-        (Some(old), Some(moment)) if moment < old => Some(Trial { place, moment }),
+        (Some(old), Some(new)) if new.moment < old.moment => Some(Trial {
+            place,
+            outcome: new.outcome,
+            moment: new.moment,
+        }),
         _ => None,
+    }
+}
+
+/// How a stage completes as it is; none while it is pending.
+fn completion_of<R: StateRepresentation>(version: &Version<R>, target: u32) -> Option<Done>
+    requires { IsLive version.now.graph.places target }
+    ensures { result ≡ completion_of version.now.graph target }
+{
+    match version.state(target) {
+        Ok(state) => state.done,
+        Err(NoStage) => unreachable!(),
     }
 }
 
@@ -50,12 +66,9 @@ fn trial_at<R: StateRepresentation, W: Runner>(
     if takes_no_time(stage) {
         return Ok(None);
     }
-    let old = match version.moment(target) {
-        Ok(moment) => moment,
-        Err(NoStage) => unreachable!(),
-    };
-    let new = hurried_moment(alloc, version, stage, target, runner)?;
-    Ok(sooner_trial(place, old, new))
+    let old = completion_of(version, target);
+    let new = hurried_completion(alloc, version, stage, target, runner)?;
+    Ok(sooner_trial(place, &old, &new))
 }
 
 /// All trials by which the target would complete sooner, by place.
@@ -95,7 +108,8 @@ pub fn sweep_of<R: StateRepresentation, W: Runner>(
     target: u32,
     runner: &W,
 ) -> Result<Vec<Trial>, QueryFault>
-    ensures swept { IfOk result (λ found. IsSweep version.now.graph target found.items) }
+    ensures swept { IfOk result (λ found. found.items ≡ sweep version.now.graph target) }
+    ensures sorted { IfOk result (λ found. IsSweep version.now.graph target found.items) }
     ensures no_stage { (result ≡ Err QueryFault.NoStage) ↔ (stage_at version.now.graph.places target ≡ None) }
 {
     if version.graph().stage(target).is_none() {

@@ -1,11 +1,12 @@
 //! Why stages complete when they do, and why others are pending: worked rows of the report of a path.
 use crate::versions::{opened, told};
 use level_pool::{OneThread, Runner};
+use report_text::{CountedWriter, report_sweep};
 use stage_graph::InShared;
 use std::alloc::Global;
 use std::process::Abort;
 use std::test::Fail;
-use time_sweep::{Trial, sweep_of};
+use time_sweep::sweep_of;
 use version_store::{QueryFault, Version};
 
 /// The reply fails by the stock service at 59 ticks, and comes at 117, since the customer is read from the database.
@@ -213,59 +214,51 @@ fn pins_and_ends(rt: HostRuntime) -> Result<(), Fail> {
     )
 }
 
-/// What the trials of a stage are told to be, as `NAME at M` one after the other.
+/// The sweep of a stage of a recording is told so, with no more lines of stages than `most`.
 fn sweep_is<W: Runner>(
     rt: &impl Abort,
     alloc: Global,
     runner: &W,
-    recording: &str,
     stage: &str,
-    expected: &[(&str, u64)],
+    most: Option<usize>,
+    text: &str,
 ) -> Result<(), Fail> {
-    let version: Version<InShared> = opened(alloc, recording)?;
+    let version: Version<InShared> = opened(alloc, LATE_REPLY)?;
     let target = version.id_of(stage)?;
-    let found = sweep_of(alloc, &version, target, runner)?;
-    assert_eq!(rt; found.len(), expected.len());
-    for (trial, (name, moment)) in found.iter().zip(expected) {
-        let place = version.id_of(name)?;
-        assert_eq!(rt;
-            *trial,
-            Trial {
-                place,
-                moment: *moment
-            }
-        );
-    }
+    let mut sink = CountedWriter::new(Vec::new(alloc));
+    report_sweep(alloc, &version, target, most, runner, &mut sink)?;
+    let found = String::from_utf8(sink.into_inner())?;
+    assert_eq!(rt; found.as_str(), text);
     Ok(())
 }
 
 #[test]
 fn the_database_is_worth_most(rt: HostRuntime) -> Result<(), Fail> {
     let alloc = rt.alloc();
+    let runner = OneThread::new(&rt);
     sweep_is(
         &rt,
         alloc,
-        &OneThread::new(&rt),
-        LATE_REPLY,
+        &runner,
         "reply",
-        &[("customer-database", 59), ("discount", 114)],
+        None,
+        "sweep of reply at 117 stages 2\n\
+         customer-database sooner 58 -> wrapped:com.shop.StockServiceDown at 59\n\
+         discount sooner 3 -> wrapped:com.shop.StockServiceDown at 114\n",
     )?;
     sweep_is(
         &rt,
         alloc,
-        &OneThread::new(&rt),
-        LATE_REPLY,
+        &runner,
         "prices",
-        &[
-            ("prices", 21),
-            ("basket", 33),
-            ("session", 40),
-            ("request", 44),
-        ],
+        Some(2),
+        "sweep of prices at 46 stages 4\n\
+         prices sooner 25 -> value:5997 at 21\n\
+         basket sooner 13 -> value:5997 at 33\n",
     )?;
     let version: Version<InShared> = opened(alloc, LATE_REPLY)?;
     assert_eq!(rt;
-        sweep_of(alloc, &version, 99, &OneThread::new(&rt)),
+        sweep_of(alloc, &version, 99, &runner),
         Err(QueryFault::NoStage)
     );
     Ok(())

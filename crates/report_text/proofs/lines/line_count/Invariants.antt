@@ -12,6 +12,6 @@ pub record Counting (Counted Bounded Ends : Type 0) : Type 0 where
 -- the lines of the places so far are counted
 abbrev pub invariant-loop-place : goal.invariant-loop-place
 invariant-loop-place g l = Counting
-    (l.count ≡ count_by (has_line l.lines l.version) (range_with_len 0 l.place))
+    (l.count ≡ count_by (has_line l.lines l.version l.against) (range_with_len 0 l.place))
     (l.count ≤ l.place)
     (l.place-end ≡ length l.version.graph.places)

@@ -11,11 +11,11 @@ returns-in_err-write-clause-err g c =
 
 pub returns-in_err-write_place-clause-err : goal.returns-in_err-write_place-clause-err
 returns-in_err-write_place-clause-err g c =
-    on_err _ (stops_in_next _ _ _ _ _ _ _ c.loop-place.invariant.appended (next_place (place_line c.args.lines c.args.version.now) _ _ c.loop-place-test.true) c.in_err-write_place.ensures.err)
+    on_err _ (stops_in_next _ _ _ _ _ _ _ c.loop-place.invariant.appended (next_place (place_line c.args.lines c.args.version.now c.args.against.now) _ _ c.loop-place-test.true) c.in_err-write_place.ensures.err)
 
 pub loop-place-preserved : goal.loop-place-preserved
 loop-place-preserved g c = record {
-  appended = writes_on _ _ _ _ _ _ _ c.loop-place.invariant.appended (next_place (place_line c.args.lines c.args.version.now) _ _ c.loop-place-test.true) c.in_ok-write_place.ensures.ok;
+  appended = writes_on _ _ _ _ _ _ _ c.loop-place.invariant.appended (next_place (place_line c.args.lines c.args.version.now c.args.against.now) _ _ c.loop-place-test.true) c.in_ok-write_place.ensures.ok;
   unfailed = let more = c.in_ok-write_place.ensures.failures in let before = c.loop-place.invariant.unfailed in grind (arith, more, before);
   ends = c.loop-place.invariant.ends;
 }

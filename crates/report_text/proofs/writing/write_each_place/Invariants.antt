@@ -14,7 +14,7 @@ pub record Writing (Appended Unfailed Ends : Type 0) : Type 0 where
 -- the text is written but for the lines of the places that are left
 abbrev pub invariant-loop-place : goal.invariant-loop-place
 invariant-loop-place g l = Writing
-    (AppendsBut (flat_map (place_line l.lines l.version) (range_with_len l.place (l.place-end - l.place))) (g.S.Sink.held l.fn.sink) (g.S.Sink.held l.sink)
-    (string_bytes l.fn.line ++ flat_map (place_line l.lines l.version) (all_places l.version.graph.places)))
+    (AppendsBut (flat_map (place_line l.lines l.version l.against) (range_with_len l.place (l.place-end - l.place))) (g.S.Sink.held l.fn.sink) (g.S.Sink.held l.sink)
+    (string_bytes l.fn.line ++ flat_map (place_line l.lines l.version l.against) (all_places l.version.graph.places)))
     (g.S.Sink.failures l.sink ≡ g.S.Sink.failures l.fn.sink)
     (l.place-end ≡ length l.version.graph.places)

@@ -11,5 +11,5 @@ returns-in_err-push_header-clause-err g c = on_err _ (AppendsPrefix-none _ _)
 pub returns-clause-err : goal.returns-clause-err
 returns-clause-err g c =
     of_the_text _ _ _ _ _
-    (with_header _ _ _ _ (c.in_ok-push_header.ensures ∙ ap (λ count. string_bytes c.clear.new.self ++ header c.args.lines c.args.version.now count) c.line_count.ensures) c.clear.ensures.bytes)
+    (with_header _ _ _ _ (c.in_ok-push_header.ensures ∙ ap (λ count. string_bytes c.clear.new.self ++ header c.args.lines c.args.version.now c.args.against.now count) c.line_count-count.ensures) c.clear.ensures.bytes)
     c.write_each_place.ensures.err

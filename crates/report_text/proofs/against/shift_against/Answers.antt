@@ -1,0 +1,10 @@
+use Rattle.std.proofs.Common.{ap, ◌∙◌}
+use Rattle.report_text.specs.AgainstTexts.{done_of, shift_from}
+use Rattle.report_text.proofs.against.shift_against.Goals as goal
+
+pub returns : goal.returns
+returns g c =
+    let there = c.args.against.now.graph in
+    c.shift_from.ensures
+    ∙ ap (λ met. shift_from met c.moment_of.result) (c.done_of-there.ensures ∙ ap (done_of there) c.as_str.ensures)
+    ∙ ap (shift_from (done_of there c.args.stage.now.name)) c.moment_of.ensures

@@ -1,0 +1,219 @@
+//! How a stage stands against the one of its name in another version.
+ghost use Rattle.std.specs.Prelude.{◌≡◌, ◌++◌, Some, OnOk, string_bytes};
+ghost use Rattle.stage_graph.specs.Plain.{stage_at};
+ghost use Rattle.propagate.specs.Completions.{same_outcome};
+ghost use Rattle.report_text.specs.AgainstTexts.{change_against, changes_against_header, done_of, drift_against, drift_against_header, is_changed, is_unlike, same_blamed, same_done, shift_against, shift_from, there_text, unlike_line};
+
+use crate::queries::{moment_of, state_of};
+use crate::shift::Shift;
+use crate::words::name_of;
+use act_expr::Outcome;
+use propagate::StateRepresentation;
+use stage_graph::{Graph, Representation, Stage};
+use stage_ops::Done;
+use std::alloc::AllocError;
+use std::fmt::Write;
+use version_store::Version;
+
+/// The completion of the stage of a name, none while it is pending; none at all where the version has no such stage.
+fn done_of<R: StateRepresentation>(version: &Version<R>, name: &str) -> Option<Option<Done>>
+    ensures { result ≡ done_of version.now.graph name.now }
+{
+    let place = version.id_of(name).ok()?;
+    let state = version.state(place).ok()?;
+    Some(state.done)
+}
+
+fn same_outcome(one: &Outcome, other: &Outcome) -> bool
+    ensures { result ≡ same_outcome one.now other.now }
+{
+    *one == *other
+}
+
+/// Whether two completions, each in its graph, blame stages of one name, or both none.
+fn same_blamed<R: Representation>(
+    graph: &Graph<R>,
+    from: Option<u32>,
+    other: &Graph<R>,
+    there: Option<u32>,
+) -> bool
+    ensures { result ≡ same_blamed graph.now from other.now there }
+{
+    match (from, there) {
+        (None, None) => true,
+        (Some(from), Some(there)) => name_of(graph, from) == name_of(other, there),
+        _ => false,
+    }
+}
+
+/// Whether two stages, each in its graph, are both pending, or completed alike.
+fn same_done<R: Representation>(
+    graph: &Graph<R>,
+    done: &Option<Done>,
+    other: &Graph<R>,
+    there: &Option<Done>,
+) -> bool
+    ensures { result ≡ same_done graph.now done.now other.now there.now }
+{
+    match (done, there) {
+        (None, None) => true,
+        (Some(done), Some(there)) => {
+            same_outcome(&done.outcome, &there.outcome)
+                && done.moment == there.moment
+                && same_blamed(graph, done.from, other, there.from)
+        }
+        _ => false,
+    }
+}
+
+/// Whether a stage is not as the one in another graph, or that one is not there.
+fn is_unlike<R: Representation>(
+    graph: &Graph<R>,
+    done: &Option<Done>,
+    other: &Graph<R>,
+    there: &Option<Option<Done>>,
+) -> bool
+    ensures { result ≡ is_unlike graph.now done.now other.now there.now }
+{
+    match there {
+        Some(there) => !same_done(graph, done, other, there),
+        None => true,
+    }
+}
+
+/// Whether a stage is not as the one of its name in the other version, or that one is not there.
+pub(crate) fn is_changed<R: StateRepresentation>(
+    version: &Version<R>,
+    against: &Version<R>,
+    place: u32,
+    stage: &Stage,
+) -> bool
+    requires { stage_at version.now.graph.places place ≡ Some stage.now }
+    ensures { result ≡ is_changed version.now against.now place stage.now }
+{
+    let done = state_of(version, place).done;
+    let there = done_of(against, stage.name.as_str());
+    is_unlike(version.graph(), &done, against.graph(), &there)
+}
+
+/// What the stage is there and what it is here, or nothing where it is as there.
+pub(crate) fn push_change_against<R: StateRepresentation>(
+    line: &mut String,
+    version: &Version<R>,
+    against: &Version<R>,
+    place: u32,
+    stage: &Stage,
+) -> Result<(), AllocError>
+    requires { stage_at version.now.graph.places place ≡ Some stage.now }
+    ensures { OnOk result (string_bytes line.new ≡ string_bytes line.old ++ change_against version.now against.now place stage.now) }
+{
+    if is_changed(version, against, place, stage) {
+        push_unlike(line, version, against, place, stage)
+    } else {
+        Ok(())
+    }
+}
+
+fn push_unlike<R: StateRepresentation>(
+    line: &mut String,
+    version: &Version<R>,
+    against: &Version<R>,
+    place: u32,
+    stage: &Stage,
+) -> Result<(), AllocError>
+    requires { stage_at version.now.graph.places place ≡ Some stage.now }
+    ensures { OnOk result (string_bytes line.new ≡ string_bytes line.old ++ unlike_line version.now against.now place stage.now) }
+{
+    let name = stage.name.as_str();
+    let state = state_of(version, place);
+    write!(line, "{name} ")?;
+    push_there(line, done_of(against, name))?;
+    writeln!(line, " -> {state}")
+}
+
+fn push_there(line: &mut String, there: Option<Option<Done>>) -> Result<(), AllocError>
+    ensures { OnOk result (string_bytes line.new ≡ string_bytes line.old ++ there_text there) }
+{
+    match there {
+        None => line.push_str("absent"),
+        Some(None) => line.push_str("pending"),
+        Some(Some(done)) => {
+            let outcome = done.outcome;
+            let moment = done.moment;
+            write!(line, "{outcome} at {moment}")
+        }
+    }
+}
+
+/// How much later or earlier a completion is, where there is one there too and at another moment.
+fn shift_from(there: &Option<Option<Done>>, moment: Option<u64>) -> Option<Shift>
+    ensures { result ≡ shift_from there.now moment }
+{
+    match (there, moment) {
+        (Some(Some(there)), Some(moment)) => Shift::between(there.moment, moment),
+        _ => None,
+    }
+}
+
+/// How much later or earlier than the one of its name a stage completes, where both do and at another moment.
+pub(crate) fn shift_against<R: StateRepresentation>(
+    version: &Version<R>,
+    against: &Version<R>,
+    place: u32,
+    stage: &Stage,
+) -> Option<Shift>
+    requires { stage_at version.now.graph.places place ≡ Some stage.now }
+    ensures { result ≡ shift_against version.now against.now place stage.now }
+{
+    let there = done_of(against, stage.name.as_str());
+    shift_from(&there, moment_of(version, place))
+}
+
+pub(crate) fn push_drift_against<R: StateRepresentation>(
+    line: &mut String,
+    version: &Version<R>,
+    against: &Version<R>,
+    place: u32,
+    stage: &Stage,
+) -> Result<(), AllocError>
+    requires { stage_at version.now.graph.places place ≡ Some stage.now }
+    ensures { OnOk result (string_bytes line.new ≡ string_bytes line.old ++ drift_against version.now against.now place stage.now) }
+{
+    let name = stage.name.as_str();
+    match shift_against(version, against, place, stage) {
+        Some(shift) => writeln!(line, "{name} {shift}"),
+        None => Ok(()),
+    }
+}
+
+pub(crate) fn push_changes_against_header<R: StateRepresentation>(
+    line: &mut String,
+    version: &Version<R>,
+    against: &Version<R>,
+    count: usize,
+) -> Result<(), AllocError>
+    ensures { OnOk result (string_bytes line.new ≡ string_bytes line.old ++ changes_against_header version.now against.now count) }
+{
+    let number = version.number();
+    let other = against.number();
+    writeln!(
+        line,
+        "changes of version {number} against {other} changed {count}"
+    )
+}
+
+pub(crate) fn push_drift_against_header<R: StateRepresentation>(
+    line: &mut String,
+    version: &Version<R>,
+    against: &Version<R>,
+    count: usize,
+) -> Result<(), AllocError>
+    ensures { OnOk result (string_bytes line.new ≡ string_bytes line.old ++ drift_against_header version.now against.now count) }
+{
+    let number = version.number();
+    let other = against.number();
+    writeln!(
+        line,
+        "drift of version {number} against {other} moved {count}"
+    )
+}
