@@ -1,6 +1,6 @@
 //! Recordings and steps that are read, and faults that are found.
 use act_expr::{Answer, Args, Mode, Outcome, Value};
-use recording::{Asked, Step, read_recording, read_step};
+use recording::{Asked, Step, Subject, read_recording, read_step};
 use stage_graph::{Act, Edit, InFlat, InShared, Op};
 use std::test::Fail;
 
@@ -400,7 +400,7 @@ fn steps(rt: HostRuntime) -> Result<(), Fail> {
     assert_eq!(rt; (*queued, *runs), (0, 20));
     let blame = br#"{"do":"report","version":2,"what":"blame","stage":"\u0061"}"#;
     let Step::Report {
-        version: 2,
+        subject: Subject::Version(2),
         asked: Asked::Blame(name),
     } = read_step(rt.alloc(), blame)?
     else {

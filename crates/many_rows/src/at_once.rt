@@ -137,6 +137,36 @@ fn session_refusals(rt: HostRuntime) -> Result<(), Fail> {
     )
 }
 
+/// A report of a session asks for its head: an entry of its own.
+#[test]
+fn reports_of_sessions(rt: HostRuntime) -> Result<(), Fail> {
+    gives(
+        rt,
+        rt.alloc(),
+        FIRST_RUN,
+        r#"{"do":"open","session":1,"version":0}
+{"do":"setTakes","session":1,"base":0,"stage":"a","takes":20}
+{"do":"report","session":1,"what":"sweep","stage":"b"}
+{"do":"report","session":9,"what":"times"}
+{"do":"report","version":0,"what":"drift","against":1}
+{"do":"report","version":0,"what":"drift","against":2}
+"#,
+        1,
+        "script 1\n\
+        opened 1 at 0\n\
+        committed 1\n\
+        sweep of b at 25 stages 2\n\
+        a sooner 20 -> value:5 at 5\n\
+        b sooner 5 -> value:5 at 20\n\
+        refused 51 NoSession\n\
+        drift of version 0 against 1 moved 2\n\
+        a earlier 10\n\
+        b earlier 10\n\
+        refused 52 NoVersion\n\
+        log 4\n",
+    )
+}
+
 /// Lists of edits, by two workers. An edit that gives no base asks for the head first: an entry of its own.
 #[test]
 fn edit_list(rt: HostRuntime) -> Result<(), Fail> {

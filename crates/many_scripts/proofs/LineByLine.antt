@@ -8,13 +8,16 @@ use Rattle.version_store.specs.Plain.{PlainVersion}
 use Rattle.recording.specs.Reads.{IsRead}
 use Rattle.recording.specs.StepOf.{step_of}
 use Rattle.recording.specs.declared.fault.Fault.{Fault}
+use Rattle.recording.specs.declared.step.Asked.{Asked}
+use Rattle.recording.specs.declared.step.Subject.{Subject}
+use Rattle.recording.specs.declared.step.Subject.TheVariants as subject
 use Rattle.recording.specs.declared.step.Step.{Step}
 use Rattle.recording.specs.declared.step.Step.TheVariants as step
 use Rattle.script_lines.specs.Lines.{ScriptLine, kept, too_long}
 use Rattle.session_core.specs.declared.event.Entry.{Entry}
-use Rattle.serve_script.specs.Answers.{fault_line}
+use Rattle.serve_script.specs.Answers.{against_in, fault_line}
 use Rattle.desk.specs.Clients.{ClientView}
-use Rattle.many_scripts.specs.Played.{AtVersion, IsChange, IsLine, IsNamed, IsPlayed, IsStep}
+use Rattle.many_scripts.specs.Played.{AtVersion, IsChange, IsLine, IsNamed, IsPlayed, IsReport, IsReportAgainst, IsStep}
 use Rattle.many_scripts.specs.Playing.{Answers, HasHeard}
 use Rattle.many_scripts.proofs.Beginnings.{prefix_get, prefix_self, prefix_trans}
 use Rattle.many_scripts.proofs.Heard.{answers_weaker, prints}
@@ -94,6 +97,26 @@ change_later who seen more earlier session None edits listed entries text later 
 })
 change_later who seen more earlier session (Some base) edits listed entries text later is = at_later seen more earlier base _ _ later is
 
+against_later : (seen more : List PlainVersion) (earlier : List Entry) (version : PlainVersion) (asked : Asked) (number : Option ℕ) (entries : List Entry) (text : List ℕ) → IsPrefix seen more
+    → IsReportAgainst seen earlier version asked number entries text → IsReportAgainst more earlier version asked number entries text
+against_later seen more earlier version asked None entries text later is = is
+against_later seen more earlier version asked (Some number) entries text later is = at_later seen more earlier number _ _ later is
+
+report_later : (who : ℕ) (seen more : List PlainVersion) (earlier : List Entry) (s : Subject) (asked : Asked) (entries : List Entry) (text : List ℕ) → IsPrefix seen more
+    → IsReport who seen earlier s asked entries text → IsReport who more earlier s asked entries text
+report_later who seen more earlier (subject.Version number) asked entries text later (inl (version, found, is)) =
+    inl (version, prefix_get seen more number version later found, against_later seen more earlier version asked (against_in asked) entries text later is)
+report_later who seen more earlier (subject.Version number) asked entries text later (inr missing) = inr missing
+report_later who seen more earlier (subject.Head session) asked entries text later (inl refused) = inl refused
+report_later who seen more earlier (subject.Head session) asked entries text later (inr at) = inr (record {
+  head = at.head;
+  version = at.version;
+  found = prefix_get seen more at.head at.version later at.found;
+  later = at.later;
+  entry = at.entry;
+  report = against_later seen more _ at.version asked (against_in asked) at.later text later at.report;
+})
+
 step_later : (who : ℕ) (seen more : List PlainVersion) (earlier : List Entry) (s : Step) (entries : List Entry) (text : List ℕ) → IsPrefix seen more
     → IsStep who seen earlier s entries text → IsStep who more earlier s entries text
 step_later who seen more earlier (step.Open session version) entries text later is = is
@@ -101,7 +124,7 @@ step_later who seen more earlier (step.Head session) entries text later is = is
 step_later who seen more earlier (step.Undo session) entries text later is = is
 step_later who seen more earlier (step.Close session) entries text later is = is
 step_later who seen more earlier (step.Change session base edits listed) entries text later is = change_later who seen more earlier session base edits listed entries text later is
-step_later who seen more earlier (step.Report number asked) entries text later is = at_later seen more earlier number _ _ later is
+step_later who seen more earlier (step.Report subject asked) entries text later is = report_later who seen more earlier subject asked entries text later is
 
 named_later : (who : ℕ) (seen more : List PlainVersion) (earlier : List Entry) (meant : Result Step Fault) (entries : List Entry) (text : List ℕ) → IsPrefix seen more
     → IsNamed who seen earlier meant entries text → IsNamed who more earlier meant entries text

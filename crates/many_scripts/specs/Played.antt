@@ -2,14 +2,15 @@
 --
 -- A script belongs to a client, by its number, which `who` is in its entries. `seen` are the versions that the client has
 -- seen, and `earlier` the entries of the lines that came before.
-use Rattle.std.specs.Prelude.{◌≡◌, ◌<◌, ◌⊎◌, ℕ, Bool, false, List, [], ◌∷◌, ◌++◌, All, Option, Some, None, IfSome, slice_get, codes, Result, Ok, Err}
+use Rattle.std.specs.Prelude.{◌≡◌, ◌<◌, ◌⊎◌, ℕ, Bool, false, List, [], ◌∷◌, ◌++◌, All, Option, Some, None, IfSome, slice_get, Result, Ok, Err}
 use Rattle.stage_graph.specs.declared.edit.Edit.{Edit}
 use Rattle.version_store.specs.Plain.{PlainVersion}
-use Rattle.report_text.specs.Texts.{line_end}
 use Rattle.recording.specs.StepOf.{step_of}
 use Rattle.recording.specs.declared.fault.Fault.{Fault}
 use Rattle.recording.specs.declared.fault.Fault.TheVariants.{TooLong}
 use Rattle.recording.specs.declared.step.Asked.{Asked}
+use Rattle.recording.specs.declared.step.Subject.{Subject}
+use Rattle.recording.specs.declared.step.Subject.TheVariants as subject
 use Rattle.recording.specs.declared.step.Step.{Step}
 use Rattle.recording.specs.declared.step.Step.TheVariants as step
 use Rattle.script_lines.specs.Lines.{ScriptLine, kept, too_long}
@@ -21,7 +22,7 @@ use Rattle.session_core.specs.declared.event.Event.TheVariants.{Open, Head, Comm
 use Rattle.session_core.specs.declared.event.Reply.{Reply}
 use Rattle.session_core.specs.declared.event.Reply.TheVariants.{At, Refused}
 use Rattle.session_core.specs.declared.refusal.Refusal.{Refusal}
-use Rattle.serve_script.specs.Answers.{fault_line, report_asked}
+use Rattle.serve_script.specs.Answers.{against_in, fault_line, no_version_line, report_asked}
 use Rattle.serve_script.specs.Replies.{reply_line}
 use Rattle.desk.specs.Clients.{named}
 
@@ -38,10 +39,6 @@ abbrev pub AtVersion : List PlainVersion → List Entry → ℕ → (PlainVersio
 AtVersion seen earlier number Found Missing =
     ((version : PlainVersion) × (slice_get seen number ≡ Some version) × Found version)
     ⊎ (IsUnheardOf earlier number × Missing)
-
--- there is no version of the number
-abbrev pub no_version_line : List ℕ
-no_version_line = codes "refused 52 NoVersion" ++ line_end
 
 -- ---- what a line comes to: its entries, and what is printed
 
@@ -92,12 +89,35 @@ IsChange who seen earlier session (Some base) edits listed entries text =
     (λ version. IsCommit who session base edits listed version entries text)
     (IsPrinted no_version_line entries text)
 
--- the report of the version that the client has seen
-abbrev pub IsReport : List PlainVersion → List Entry → ℕ → Asked → List Entry → List ℕ → Type 0
-IsReport seen earlier number asked entries text =
+-- the report of a version, against the one of this number if there is a number
+abbrev pub IsReportAgainst : List PlainVersion → List Entry → PlainVersion → Asked → Option ℕ → List Entry → List ℕ → Type 0
+IsReportAgainst seen earlier version asked None entries text = IsPrinted (report_asked version None asked) entries text
+IsReportAgainst seen earlier version asked (Some number) entries text =
     AtVersion seen earlier number
-    (λ version. IsPrinted (report_asked version asked) entries text)
+    (λ against. IsPrinted (report_asked version (Some against) asked) entries text)
     (IsPrinted no_version_line entries text)
+
+abbrev pub IsReportOf : List PlainVersion → List Entry → PlainVersion → Asked → List Entry → List ℕ → Type 0
+IsReportOf seen earlier version asked entries text = IsReportAgainst seen earlier version asked (against_in asked) entries text
+
+-- the head was answered, and the report is of that version
+pub record IsHeadReport (who : ℕ) (seen : List PlainVersion) (earlier : List Entry) (session : ℕ) (asked : Asked) (entries : List Entry) (text : List ℕ) : Type 0 where
+  pub head : ℕ
+  pub version : PlainVersion
+  pub found : slice_get seen head ≡ Some version
+  pub later : List Entry
+  pub report : IsReportOf seen (earlier ++ entry who (Head session) (At head) ∷ []) version asked later text
+  pub entry : entries ≡ entry who (Head session) (At head) ∷ later
+
+-- the report of the version of a number, or of the one at which a session stands
+abbrev pub IsReport : ℕ → List PlainVersion → List Entry → Subject → Asked → List Entry → List ℕ → Type 0
+IsReport who seen earlier (subject.Version number) asked entries text =
+    AtVersion seen earlier number
+    (λ version. IsReportOf seen earlier version asked entries text)
+    (IsPrinted no_version_line entries text)
+IsReport who seen earlier (subject.Head session) asked entries text =
+    IsHeadRefused who session false entries text
+    ⊎ IsHeadReport who seen earlier session asked entries text
 
 abbrev pub IsStep : ℕ → List PlainVersion → List Entry → Step → List Entry → List ℕ → Type 0
 IsStep who seen earlier (step.Open session version) entries text = IsBooked who None (Open session version) false entries text
@@ -105,7 +125,7 @@ IsStep who seen earlier (step.Head session) entries text = IsBooked who None (He
 IsStep who seen earlier (step.Undo session) entries text = IsBooked who None (Undo session) false entries text
 IsStep who seen earlier (step.Close session) entries text = IsBooked who None (Close session) false entries text
 IsStep who seen earlier (step.Change session base edits listed) entries text = IsChange who seen earlier session base edits listed entries text
-IsStep who seen earlier (step.Report number asked) entries text = IsReport seen earlier number asked entries text
+IsStep who seen earlier (step.Report subject asked) entries text = IsReport who seen earlier subject asked entries text
 
 -- the step that a line names is done; a fault in it is printed
 abbrev pub IsNamed : ℕ → List PlainVersion → List Entry → Result Step Fault → List Entry → List ℕ → Type 0

@@ -2,17 +2,19 @@
 ghost use Rattle.std.specs.Prelude.{◌≡◌, ◌+◌, ◌-◌, ◌^◌, ◌<◌, false, None, Some, OnOk, option_copied};
 ghost use Rattle.std.specs.Io.KnownBytes.{Appends};
 ghost use Rattle.script_lines.specs.Faults.{failed_writes};
+ghost use Rattle.recording.specs.declared.step.Subject.TheVariants.{Version as Numbered, Head as Stand};
+ghost use Rattle.serve_script.specs.Answers.{no_version_line};
 ghost use Rattle.serve_script.specs.Replies.{reply_line};
-ghost use Rattle.many_scripts.specs.Played.{IsBooked, IsChange, IsCommit, IsReport, IsStep, no_version_line};
+ghost use Rattle.many_scripts.specs.Played.{IsBooked, IsChange, IsCommit, IsReport, IsReportAgainst, IsReportOf, IsStep};
 ghost use Rattle.many_scripts.specs.Playing.{Answers, HasHeard, IsAskedAlone};
 
 use crate::access::Access;
 use crate::events::{book, commit};
 use desk::{Client, Known, Naming, ReadFault};
 use level_pool::Runner;
-use recording::{Asked, Step};
+use recording::{Asked, Step, Subject};
 use script_lines::AnswerFault;
-use serve_script::{push_reply, write_asked, write_text};
+use serve_script::{against_in, push_reply, write_asked, write_text};
 use session_core::{Event, Reply, TableFault};
 use share_tree::Held;
 use stage_graph::{Edits, InShared};
@@ -158,9 +160,66 @@ fn answer_change<N: Naming, K: StateRepresentation, H: Wait + Drop, W: Runner, S
     }
 }
 
-/// Writes the report of the version of a number, or that there is no such version.
-fn answer_report<N: Naming, K: StateRepresentation, S: Sink>(
-    alloc: Global,
+/// No version to compare with this one.
+fn no_other<K: StateRepresentation>(_version: &Version<K>) -> Option<&Version<K>>
+    ensures { result ≡ None }
+{
+    None
+}
+
+/// Writes the report of a version, which compares it with no other, or with the version of a number.
+fn answer_of<N: Naming, K: StateRepresentation, H: Wait + Drop, W: Runner, S: Sink>(
+    access: &Access<'_, N, K, H, W>,
+    client: &mut Client<N, K>,
+    version: &Version<K>,
+    asked: &Asked,
+    sink: &mut S,
+) -> Result<(), AnswerFault>
+    requires heard { HasHeard client.old }
+    requires room { S.failures sink.old < 2 ^ 64 - 1 }
+    ensures ok { OnOk result (Answers (λ seen earlier. IsReportOf seen earlier version.now asked.now) client.old client.new (S.held sink.old) (S.held sink.new)) }
+    ensures failures { S.failures sink.new ≡ S.failures sink.old + failed_writes result }
+{
+    match against_in(asked) {
+        None => {
+            let against = no_other(version);
+            write_asked(access.alloc, version, against, asked, access.runner, sink)
+        }
+        Some(number) => answer_against(access, client, version, number, asked, sink),
+    }
+}
+
+/// Writes the report of a version that compares it with the version of a number, or that there is no such version.
+fn answer_against<N: Naming, K: StateRepresentation, H: Wait + Drop, W: Runner, S: Sink>(
+    access: &Access<'_, N, K, H, W>,
+    client: &mut Client<N, K>,
+    version: &Version<K>,
+    number: u32,
+    asked: &Asked,
+    sink: &mut S,
+) -> Result<(), AnswerFault>
+    requires heard { HasHeard client.old }
+    requires room { S.failures sink.old < 2 ^ 64 - 1 }
+    ensures ok { OnOk result (Answers (λ seen earlier. IsReportAgainst seen earlier version.now asked.now (Some number)) client.old client.new (S.held sink.old) (S.held sink.new)) }
+    ensures failures { S.failures sink.new ≡ S.failures sink.old + failed_writes result }
+{
+    match client.version(number) {
+        Ok(against) => write_asked(
+            access.alloc,
+            version,
+            Some(&*against),
+            asked,
+            access.runner,
+            sink,
+        ),
+        Err(ReadFault::NoVersion) => write_no_version(sink),
+        Err(ReadFault::Memory) => Err(AnswerFault::Memory),
+    }
+}
+
+/// Writes a report of the version of a number, or that there is no such version.
+fn answer_version<N: Naming, K: StateRepresentation, H: Wait + Drop, W: Runner, S: Sink>(
+    access: &Access<'_, N, K, H, W>,
     client: &mut Client<N, K>,
     number: u32,
     asked: &Asked,
@@ -168,13 +227,56 @@ fn answer_report<N: Naming, K: StateRepresentation, S: Sink>(
 ) -> Result<(), AnswerFault>
     requires heard { HasHeard client.old }
     requires room { S.failures sink.old < 2 ^ 64 - 1 }
-    ensures ok { OnOk result (Answers (λ seen earlier. IsReport seen earlier number asked.now) client.old client.new (S.held sink.old) (S.held sink.new)) }
+    ensures ok { OnOk result (Answers (λ seen earlier. IsReport client.old.number seen earlier (Numbered number) asked.now) client.old client.new (S.held sink.old) (S.held sink.new)) }
     ensures failures { S.failures sink.new ≡ S.failures sink.old + failed_writes result }
 {
     match client.version(number) {
-        Ok(version) => write_asked(alloc, &version, asked, sink),
+        Ok(version) => answer_of(access, client, &version, asked, sink),
         Err(ReadFault::NoVersion) => write_no_version(sink),
         Err(ReadFault::Memory) => Err(AnswerFault::Memory),
+    }
+}
+
+/// Asks at which version a session stands, and writes a report of it, or the refusal.
+fn answer_stand<N: Naming, K: StateRepresentation, H: Wait + Drop, W: Runner, S: Sink>(
+    access: &Access<'_, N, K, H, W>,
+    client: &mut Client<N, K>,
+    session: u32,
+    asked: &Asked,
+    sink: &mut S,
+) -> Result<(), AnswerFault>
+    requires heard { HasHeard client.old }
+    requires room { S.failures sink.old < 2 ^ 64 - 1 }
+    ensures ok { OnOk result (Answers (λ seen earlier. IsReport client.old.number seen earlier (Stand session) asked.now) client.old client.new (S.held sink.old) (S.held sink.new)) }
+    ensures failures { S.failures sink.new ≡ S.failures sink.old + failed_writes result }
+{
+    match access.desk.snapshot(access.rt, client, session) {
+        Ok(version) => answer_of(access, client, &version, asked, sink),
+        Err(TableFault::Refused(refusal)) => {
+            let event = Event::Head { session };
+            let reply = Reply::Refused(refusal);
+            write_reply::<InShared, S>(access.alloc, None, &event, false, reply, sink)
+        }
+        Err(TableFault::Memory) => Err(AnswerFault::Memory),
+    }
+}
+
+/// Writes a report of a version, or of the version at which a session stands.
+fn answer_report<N: Naming, K: StateRepresentation, H: Wait + Drop, W: Runner, S: Sink>(
+    access: &Access<'_, N, K, H, W>,
+    client: &mut Client<N, K>,
+    subject: Subject,
+    asked: &Asked,
+    sink: &mut S,
+) -> Result<(), AnswerFault>
+    requires heard { HasHeard client.old }
+    requires room { S.failures sink.old < 2 ^ 64 - 1 }
+    ensures ok { OnOk result (Answers (λ seen earlier. IsReport client.old.number seen earlier subject asked.now) client.old client.new (S.held sink.old) (S.held sink.new)) }
+    ensures failures { S.failures sink.new ≡ S.failures sink.old + failed_writes result }
+{
+    match subject {
+        Subject::Version(number) => answer_version(access, client, number, asked, sink),
+        Subject::Head(session) => answer_stand(access, client, session, asked, sink),
     }
 }
 
@@ -203,8 +305,6 @@ pub(crate) fn answer_step<N: Naming, K: StateRepresentation, H: Wait + Drop, W: 
             edits,
             listed,
         } => answer_change(access, client, session, base, edits, listed, sink),
-        Step::Report { version, asked } => {
-            answer_report(access.alloc, client, version, &asked, sink)
-        }
+        Step::Report { subject, asked } => answer_report(access, client, subject, &asked, sink),
     }
 }

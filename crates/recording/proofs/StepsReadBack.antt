@@ -11,17 +11,19 @@ use Rattle.recording.proofs.ReadBack.{each_is_read_back}
 use Rattle.recording.proofs.StagesReadBack.{look, found, or_later-none, required_back, optional_back, absent_back, pin_result_back, pin_moment_back, ends_back, names_back, stage_back}
 use Rattle.recording.specs.Forms.{count32_in}
 use Rattle.recording.specs.Members.{required}
-use Rattle.recording.specs.StepOf.{edit_of, edits_of, with_list_size, step_name_in, session_member, base_member, listed_edit, edit_name_in, step_with, step_in, version_member}
+use Rattle.recording.specs.StepOf.{edit_of, edits_of, with_list_size, step_name_in, session_member, base_member, listed_edit, edit_name_in, step_with, step_in}
 use Rattle.recording.specs.WrittenStages.{object_of, items_of, count, stage_rows}
-use Rattle.recording.specs.WrittenSteps.{edit_rows, written_edit, step_rows, written_step, IsEdit, EachStepIsReadBack}
+use Rattle.recording.specs.WrittenSteps.{edit_rows, written_edit, step_rows, written_step, IsAsked, IsEdit, IsSubject, EachStepIsReadBack}
 use Rattle.recording.specs.declared.edits.EditName.{EditName}
 use Rattle.recording.specs.declared.edits.EditName.TheVariants as name
 use Rattle.recording.specs.declared.member.Member.TheVariants as member
 use Rattle.recording.specs.declared.stage.FormNumber.TheVariants.{Two}
 use Rattle.recording.specs.declared.step.Asked.{Asked}
-use Rattle.recording.specs.declared.step.Asked.TheVariants.{All as AllStages, One, Blame, Path, Changes, Drift, Times}
+use Rattle.recording.specs.declared.step.Asked.TheVariants.{All as AllStages, One, Blame, Path, Sweep, Changes, Drift, Times}
 use Rattle.recording.specs.declared.step.StepName.TheVariants as step_name
 use Rattle.recording.specs.declared.step.Step.TheVariants.{Open, Head, Undo, Close, Change, Report}
+use Rattle.recording.specs.declared.step.Subject.{Subject}
+use Rattle.recording.specs.declared.step.Subject.TheVariants as subject
 
 -- ---- edits
 
@@ -111,18 +113,35 @@ change_rows_kept session base edit text no_session no_base =
 session_back : (rows : List (List ℕ × Option Data)) (session : ℕ) → session < 2 ^ 32 → look (codes "session") rows ≡ Some (count session) → session_member (object_of rows) ≡ Ok session
 session_back rows session h is = required_back member.Session count32_in rows (count session) session is (count32_back session h)
 
-version_back : (rows : List (List ℕ × Option Data)) (version : ℕ) → version < 2 ^ 32 → look (codes "version") rows ≡ Some (count version) → version_member (object_of rows) ≡ Ok version
-version_back rows version h is = required_back member.Version count32_in rows (count version) version is (count32_back version h)
-
-report_back : (version : ℕ) (asked : Asked) → version < 2 ^ 32 → step_in (written_step (Report version asked)) ≡ Ok (Report version asked)
+version_report_back : (version : ℕ) (asked : Asked) → version < 2 ^ 32 → IsAsked asked → step_in (written_step (Report (subject.Version version) asked)) ≡ Ok (Report (subject.Version version) asked)
 unfolding step_with
-report_back version AllStages h = simp (found, count32_back version h) refl
-report_back version (One stage) h = simp (found, count32_back version h) refl
-report_back version (Blame stage) h = simp (found, count32_back version h) refl
-report_back version (Path stage) h = simp (found, count32_back version h) refl
-report_back version Changes h = simp (found, count32_back version h) refl
-report_back version Drift h = simp (found, count32_back version h) refl
-report_back version Times h = simp (found, count32_back version h) refl
+version_report_back version AllStages h is = simp (found, count32_back version h) refl
+version_report_back version (One stage) h is = simp (found, count32_back version h) refl
+version_report_back version (Blame stage) h is = simp (found, count32_back version h) refl
+version_report_back version (Path stage) h is = simp (found, count32_back version h) refl
+version_report_back version (Sweep stage) h is = simp (found, count32_back version h) refl
+version_report_back version (Changes None) h is = simp (found, count32_back version h) refl
+version_report_back version (Changes (Some n)) h is = simp (found, count32_back version h, count32_back n is) refl
+version_report_back version (Drift None) h is = simp (found, count32_back version h) refl
+version_report_back version (Drift (Some n)) h is = simp (found, count32_back version h, count32_back n is) refl
+version_report_back version Times h is = simp (found, count32_back version h) refl
+
+session_report_back : (session : ℕ) (asked : Asked) → session < 2 ^ 32 → IsAsked asked → step_in (written_step (Report (subject.Head session) asked)) ≡ Ok (Report (subject.Head session) asked)
+unfolding step_with
+session_report_back session AllStages h is = simp (found, count32_back session h) refl
+session_report_back session (One stage) h is = simp (found, count32_back session h) refl
+session_report_back session (Blame stage) h is = simp (found, count32_back session h) refl
+session_report_back session (Path stage) h is = simp (found, count32_back session h) refl
+session_report_back session (Sweep stage) h is = simp (found, count32_back session h) refl
+session_report_back session (Changes None) h is = simp (found, count32_back session h) refl
+session_report_back session (Changes (Some n)) h is = simp (found, count32_back session h, count32_back n is) refl
+session_report_back session (Drift None) h is = simp (found, count32_back session h) refl
+session_report_back session (Drift (Some n)) h is = simp (found, count32_back session h, count32_back n is) refl
+session_report_back session Times h is = simp (found, count32_back session h) refl
+
+report_back : (subject : Subject) (asked : Asked) → IsSubject subject → IsAsked asked → step_in (written_step (Report subject asked)) ≡ Ok (Report subject asked)
+report_back (subject.Version version) asked h is = version_report_back version asked h is
+report_back (subject.Head session) asked h is = session_report_back session asked h is
 
 pub step_back : EachStepIsReadBack
 unfolding step_with
@@ -142,4 +161,4 @@ step_back (Change session base (edit ∷ []) false) h =
     rw (change_do session base edit, session_back rows session h.0 refl, is_base, edit_back edit (object_of rows) (All-head IsEdit edit [] h.3) (change_rows_kept session base edit)) refl
 step_back (Change session base [] false) h = absurd (omega (arith, h.2))
 step_back (Change session base (edit ∷ other ∷ edits) false) h = absurd (omega (arith, h.2))
-step_back (Report version asked) h = report_back version asked h
+step_back (Report subject asked) h = report_back subject asked h.0 h.1

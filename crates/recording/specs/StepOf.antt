@@ -15,6 +15,7 @@ use Rattle.recording.specs.RecordingOf.{json_or_fault}
 use Rattle.recording.specs.StageOf.{spec_of}
 use Rattle.recording.specs.declared.fault.Fault.{Fault}
 use Rattle.recording.specs.declared.fault.Fault.TheVariants.{Shape, ListSize}
+use Rattle.recording.specs.declared.member.Member.{Member}
 use Rattle.recording.specs.declared.member.Member.TheVariants as member
 use Rattle.recording.specs.declared.stage.FormNumber.{FormNumber}
 use Rattle.recording.specs.declared.stage.FormNumber.TheVariants.{One, Two}
@@ -26,6 +27,8 @@ use Rattle.recording.specs.declared.step.ReportName.{ReportName}
 use Rattle.recording.specs.declared.step.ReportName.TheVariants as report
 use Rattle.recording.specs.declared.step.Asked.{Asked}
 use Rattle.recording.specs.declared.step.Asked.TheVariants as asked
+use Rattle.recording.specs.declared.step.Subject.{Subject}
+use Rattle.recording.specs.declared.step.Subject.TheVariants as subject
 use Rattle.recording.specs.declared.step.Step.{Step}
 use Rattle.recording.specs.declared.step.Step.TheVariants as step
 
@@ -122,25 +125,39 @@ session_member d = required member.Session count32_in d
 abbrev pub version_member : Data → Result ℕ Fault
 version_member d = required member.Version count32_in d
 
+abbrev pub optional_count32 : Member → Data → Result (Option ℕ) Fault
+optional_count32 m d = optional m None (λ count. option_map Some (count32_in count)) d
+
 abbrev pub base_member : Data → Result (Option ℕ) Fault
-base_member d = optional member.Base None (λ base. option_map Some (count32_in base)) d
+base_member d = optional_count32 member.Base d
+
+abbrev pub against_member : Data → Result (Option ℕ) Fault
+against_member d = optional_count32 member.Against d
+
+-- the version at which a session stands, where a session is named; a version beside it is a fault
+abbrev pub subject_in : Data → Result Subject Fault
+subject_in d =
+    if is_some (member_of member.Session d) then
+    (if is_some (member_of member.Version d) then Err (Shape member.Session) else then_on (session_member d) (λ session. Ok (subject.Head session)))
+    else then_on (version_member d) (λ version. Ok (subject.Version version))
 
 abbrev pub report_names : List (List ℕ × ReportName)
 report_names =
     (codes "all", report.All) ∷ (codes "one", report.One) ∷ (codes "blame", report.Blame) ∷ (codes "path", report.Path)
-    ∷ (codes "changes", report.Changes) ∷ (codes "drift", report.Drift) ∷ (codes "times", report.Times) ∷ []
+    ∷ (codes "sweep", report.Sweep) ∷ (codes "changes", report.Changes) ∷ (codes "drift", report.Drift) ∷ (codes "times", report.Times) ∷ []
 
 abbrev pub report_name_in : Data → Option ReportName
 report_name_in d = option_and_then (beside report_names) (as_str d)
 
--- `stage` is read for the three reports of one stage
+-- `stage` is read for the four reports of one stage, `against` for the two that compare
 abbrev pub asked_of : ReportName → Data → Result Asked Fault
 asked_of report.One d = then_on (stage_member d) (λ stage. Ok (asked.One stage))
 asked_of report.Blame d = then_on (stage_member d) (λ stage. Ok (asked.Blame stage))
 asked_of report.Path d = then_on (stage_member d) (λ stage. Ok (asked.Path stage))
+asked_of report.Sweep d = then_on (stage_member d) (λ stage. Ok (asked.Sweep stage))
 asked_of report.All d = Ok asked.All
-asked_of report.Changes d = Ok asked.Changes
-asked_of report.Drift d = Ok asked.Drift
+asked_of report.Changes d = then_on (against_member d) (λ against. Ok (asked.Changes against))
+asked_of report.Drift d = then_on (against_member d) (λ against. Ok (asked.Drift against))
 asked_of report.Times d = Ok asked.Times
 
 unfoldable pub step_with : StepName → Data → Result Step Fault
@@ -157,8 +174,8 @@ step_with Edits d =
     then_on (session_member d) (λ session. then_on (base_member d) (λ base. then_on (edits_member d) (λ edits.
     Ok (step.Change session base edits true))))
 step_with Report d =
-    then_on (version_member d) (λ version. then_on (required member.What report_name_in d) (λ name. then_on (asked_of name d) (λ asked.
-    Ok (step.Report version asked))))
+    then_on (subject_in d) (λ subject. then_on (required member.What report_name_in d) (λ name. then_on (asked_of name d) (λ asked.
+    Ok (step.Report subject asked))))
 
 abbrev pub step_in : Data → Result Step Fault
 step_in (object ms) = then_on (required member.Do step_name_in (object ms)) (λ name. step_with name (object ms))

@@ -8,7 +8,9 @@ use Rattle.recording.specs.Written.{written, IsWellFormed}
 use Rattle.recording.specs.WrittenStages.{object_of, row, array_of, count, null_or, written_outcome, written_end, written_stage, IsOutcome, AreEnds, IsStage}
 use Rattle.recording.specs.declared.stage.FormNumber.TheVariants.{Two}
 use Rattle.recording.specs.declared.step.Asked.{Asked}
-use Rattle.recording.specs.declared.step.Asked.TheVariants.{All as AllStages, One, Blame, Path, Changes, Drift, Times}
+use Rattle.recording.specs.declared.step.Asked.TheVariants.{All as AllStages, One, Blame, Path, Sweep, Changes, Drift, Times}
+use Rattle.recording.specs.declared.step.Subject.{Subject}
+use Rattle.recording.specs.declared.step.Subject.TheVariants as subject
 use Rattle.recording.specs.declared.step.Step.{Step}
 use Rattle.recording.specs.declared.step.Step.TheVariants.{Open, Head, Undo, Close, Change, Report}
 
@@ -46,9 +48,14 @@ asked_rows AllStages = row (codes "what") (string (codes "all")) ∷ []
 asked_rows (One stage) = row (codes "what") (string (codes "one")) ∷ row (codes "stage") (string stage) ∷ []
 asked_rows (Blame stage) = row (codes "what") (string (codes "blame")) ∷ row (codes "stage") (string stage) ∷ []
 asked_rows (Path stage) = row (codes "what") (string (codes "path")) ∷ row (codes "stage") (string stage) ∷ []
-asked_rows Changes = row (codes "what") (string (codes "changes")) ∷ []
-asked_rows Drift = row (codes "what") (string (codes "drift")) ∷ []
+asked_rows (Sweep stage) = row (codes "what") (string (codes "sweep")) ∷ row (codes "stage") (string stage) ∷ []
+asked_rows (Changes against) = row (codes "what") (string (codes "changes")) ∷ (codes "against", option_map count against) ∷ []
+asked_rows (Drift against) = row (codes "what") (string (codes "drift")) ∷ (codes "against", option_map count against) ∷ []
 asked_rows Times = row (codes "what") (string (codes "times")) ∷ []
+
+abbrev pub subject_row : Subject → List ℕ × Option Data
+subject_row (subject.Version version) = row (codes "version") (count version)
+subject_row (subject.Head session) = row (codes "session") (count session)
 
 abbrev pub step_rows : Step → List (List ℕ × Option Data)
 step_rows (Open session version) =
@@ -58,8 +65,8 @@ step_rows (Undo session) = row (codes "do") (string (codes "undo")) ∷ row (cod
 step_rows (Close session) = row (codes "do") (string (codes "close")) ∷ row (codes "session") (count session) ∷ []
 step_rows (Change session base edits listed) =
     row (codes "session") (count session) ∷ (codes "base", option_map count base) ∷ change_rows edits listed
-step_rows (Report version asked) =
-    row (codes "do") (string (codes "report")) ∷ row (codes "version") (count version) ∷ asked_rows asked
+step_rows (Report subject asked) =
+    row (codes "do") (string (codes "report")) ∷ subject_row subject ∷ asked_rows asked
 
 abbrev pub written_step : Step → Data
 written_step step = object_of (step_rows step)
@@ -78,13 +85,22 @@ abbrev pub IsListed : List Edit → Bool → Type 0
 IsListed edits true = (1 ≤ length edits) × (length edits ≤ 64)
 IsListed edits false = length edits ≡ 1
 
+abbrev pub IsSubject : Subject → Type 0
+IsSubject (subject.Version version) = version < 2 ^ 32
+IsSubject (subject.Head session) = session < 2 ^ 32
+
+abbrev pub IsAsked : Asked → Type 0
+IsAsked (Changes against) = IfSome against (λ n. n < 2 ^ 32)
+IsAsked (Drift against) = IfSome against (λ n. n < 2 ^ 32)
+IsAsked others = Unit {0}
+
 abbrev pub IsStep : Step → Type 0
 IsStep (Open session version) = (session < 2 ^ 32) × (version < 2 ^ 32)
 IsStep (Head session) = session < 2 ^ 32
 IsStep (Undo session) = session < 2 ^ 32
 IsStep (Close session) = session < 2 ^ 32
 IsStep (Change session base edits listed) = (session < 2 ^ 32) × IfSome base (λ n. n < 2 ^ 32) × IsListed edits listed × All IsEdit edits
-IsStep (Report version asked) = version < 2 ^ 32
+IsStep (Report subject asked) = IsSubject subject × IsAsked asked
 
 -- each step is what is read from its JSON value
 abbrev pub EachStepIsReadBack : Type 0

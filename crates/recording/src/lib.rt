@@ -21,4 +21,4 @@ pub use fault::Fault;
 pub use law::{each_expression_is_read_back, each_recording_is_read_back, each_step_is_read_back};
 pub use member::Member;
 pub use recording::read_recording;
-pub use step::{Asked, Step, read_step};
+pub use step::{Asked, Step, Subject, read_step};

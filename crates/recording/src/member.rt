@@ -36,6 +36,7 @@ pub enum Member {
     New,
     Edits,
     What,
+    Against,
 }
 
 impl Member {
@@ -73,6 +74,7 @@ impl Member {
             Member::New => "new",
             Member::Edits => "edits",
             Member::What => "what",
+            Member::Against => "against",
         }
     }
 }

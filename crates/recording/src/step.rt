@@ -5,7 +5,7 @@ ghost use Rattle.recording.specs.Tables.{beside};
 ghost use Rattle.recording.specs.Members.{required};
 ghost use Rattle.recording.specs.Reads.{IsRead};
 ghost use Rattle.recording.specs.declared.member.Member.TheVariants as member;
-ghost use Rattle.recording.specs.StepOf.{step_name_of, step_name_in, report_names, report_name_in, base_member, asked_of, step_with, step_in, step_of};
+ghost use Rattle.recording.specs.StepOf.{step_name_of, step_name_in, report_names, report_name_in, optional_count32, subject_in, asked_of, step_with, step_in, step_of};
 
 use crate::edits::{EditName, read_edit, read_edits, read_stage_name};
 use crate::forms::count32_in;
@@ -27,12 +27,23 @@ pub enum Asked {
     Blame(Name),
     /// Why the stage of this name completed when it did, or why it is pending.
     Path(Name),
-    /// The stages that the version touched.
-    Changes,
-    /// The stages that the version moved in time.
-    Drift,
+    /// The stages whose action, if it took no time, would make the stage of this name complete sooner.
+    Sweep(Name),
+    /// The stages that the version touched, or that are not as in the version of this number.
+    Changes(Option<u32>),
+    /// The stages that the version moved in time, against its parent or the version of this number.
+    Drift(Option<u32>),
     /// When each stage started, and how long it was queued and ran.
     Times,
+}
+
+/// What a report is of.
+#[derive(Clone, Copy, PartialEq, Eq, Debug)]
+pub enum Subject {
+    /// The version of this number.
+    Version(u32),
+    /// The version at which the session of this number stands.
+    Head(u32),
 }
 
 /// A step of a script.
@@ -66,7 +77,7 @@ pub enum Step {
     },
     /// Asks for a report of a version.
     Report {
-        version: u32,
+        subject: Subject,
         asked: Asked,
     },
 }
@@ -107,6 +118,7 @@ pub(crate) enum ReportName {
     One,
     Blame,
     Path,
+    Sweep,
     Changes,
     Drift,
     Times,
@@ -122,6 +134,7 @@ impl ReportName {
             "one" => Some(ReportName::One),
             "blame" => Some(ReportName::Blame),
             "path" => Some(ReportName::Path),
+            "sweep" => Some(ReportName::Sweep),
             "changes" => Some(ReportName::Changes),
             "drift" => Some(ReportName::Drift),
             "times" => Some(ReportName::Times),
@@ -156,20 +169,35 @@ fn read_report_name(object: &Value) -> Result<ReportName, Fault>
     ReportName::new(text).ok_or(Fault::Shape(Member::What))
 }
 
-/// The version that is edited, if the step names one.
-fn read_base(object: &Value) -> Result<Option<u32>, Fault>
-    ensures { IsRead result (base_member (view object.now)) }
+/// A count below 2^32, if the object has the member.
+fn read_optional_count32(object: &Value, member: Member) -> Result<Option<u32>, Fault>
+    ensures { IsRead result (optional_count32 member (view object.now)) }
 {
-    let Some(value) = object.get(Member::Base.text()) else {
+    let Some(value) = object.get(member.text()) else {
         return Ok(None);
     };
     match count32_in(value) {
-        Some(base) => Ok(Some(base)),
-        None => Err(Fault::Shape(Member::Base)),
+        Some(count) => Ok(Some(count)),
+        None => Err(Fault::Shape(member)),
     }
 }
 
-/// What the report is to tell, with the stage that three reports are of.
+/// What the report is of: the version at which a session stands where a session is named, and a version is not named beside it.
+fn read_subject(object: &Value) -> Result<Subject, Fault>
+    ensures { IsRead result (subject_in (view object.now)) }
+{
+    if object.get(Member::Session.text()).is_none() {
+        let version = required_count32(object, Member::Version)?;
+        return Ok(Subject::Version(version));
+    }
+    if object.get(Member::Version.text()).is_some() {
+        return Err(Fault::Shape(Member::Session));
+    }
+    let session = required_count32(object, Member::Session)?;
+    Ok(Subject::Head(session))
+}
+
+/// What the report is to tell, with the stage that four reports are of and the version against which two may be.
 fn read_asked(alloc: Global, name: ReportName, object: &Value) -> Result<Asked, Fault>
     ensures { IsRead result (asked_of name (view object.now)) }
 {
@@ -178,8 +206,15 @@ fn read_asked(alloc: Global, name: ReportName, object: &Value) -> Result<Asked, 
         ReportName::One => Ok(Asked::One(read_stage_name(alloc, object)?)),
         ReportName::Blame => Ok(Asked::Blame(read_stage_name(alloc, object)?)),
         ReportName::Path => Ok(Asked::Path(read_stage_name(alloc, object)?)),
-        ReportName::Changes => Ok(Asked::Changes),
-        ReportName::Drift => Ok(Asked::Drift),
+        ReportName::Sweep => Ok(Asked::Sweep(read_stage_name(alloc, object)?)),
+        ReportName::Changes => {
+            let against = read_optional_count32(object, Member::Against)?;
+            Ok(Asked::Changes(against))
+        }
+        ReportName::Drift => {
+            let against = read_optional_count32(object, Member::Against)?;
+            Ok(Asked::Drift(against))
+        }
         ReportName::Times => Ok(Asked::Times),
     }
 }
@@ -209,7 +244,7 @@ fn read_members(alloc: Global, name: StepName, object: &Value) -> Result<Step, F
         }
         StepName::Change(name) => {
             let session = required_count32(object, Member::Session)?;
-            let base = read_base(object)?;
+            let base = read_optional_count32(object, Member::Base)?;
             let edit = read_edit(alloc, name, object)?;
             Ok(Step::Change {
                 session,
@@ -220,7 +255,7 @@ fn read_members(alloc: Global, name: StepName, object: &Value) -> Result<Step, F
         }
         StepName::Edits => {
             let session = required_count32(object, Member::Session)?;
-            let base = read_base(object)?;
+            let base = read_optional_count32(object, Member::Base)?;
             let edits = read_edits(alloc, object)?;
             Ok(Step::Change {
                 session,
@@ -230,10 +265,10 @@ fn read_members(alloc: Global, name: StepName, object: &Value) -> Result<Step, F
             })
         }
         StepName::Report => {
-            let version = required_count32(object, Member::Version)?;
+            let subject = read_subject(object)?;
             let name = read_report_name(object)?;
             let asked = read_asked(alloc, name, object)?;
-            Ok(Step::Report { version, asked })
+            Ok(Step::Report { subject, asked })
         }
     }
 }

@@ -148,6 +148,65 @@ fn add_after_pin(rt: HostRuntime) -> Result<(), Fail> {
     )
 }
 
+/// Reports of the version at which a session stands, and of versions against each other.
+#[test]
+fn sessions_and_comparisons(rt: HostRuntime) -> Result<(), Fail> {
+    gives(
+        &rt,
+        rt.alloc(),
+        FIRST_RUN,
+        r#"{"do":"open","session":1,"version":0}
+{"do":"setTakes","session":1,"stage":"a","takes":20}
+{"do":"report","session":1,"what":"path","stage":"b"}
+{"do":"report","session":1,"what":"sweep","stage":"b"}
+{"do":"report","session":1,"what":"changes","against":0}
+{"do":"report","version":0,"what":"drift","against":1}
+{"do":"report","session":1,"what":"drift"}
+"#,
+        "opened 1 at 0\n\
+        committed 1\n\
+        path of b at 25 stages 2\n\
+        b at 25 queued 0 ran 5 after a\n\
+        a at 20 queued 0 ran 20 created 0\n\
+        sweep of b at 25 stages 2\n\
+        a sooner 20 -> value:5 at 5\n\
+        b sooner 5 -> value:5 at 20\n\
+        changes of version 1 against 0 changed 2\n\
+        a value:4 at 10 -> value:4 at 20\n\
+        b value:5 at 15 -> value:5 at 25\n\
+        drift of version 0 against 1 moved 2\n\
+        a earlier 10\n\
+        b earlier 10\n\
+        drift of version 1 from 0 moved 2\n\
+        a later 10\n\
+        b later 10\n",
+    )
+}
+
+#[test]
+fn report_refusals(rt: HostRuntime) -> Result<(), Fail> {
+    gives(
+        &rt,
+        rt.alloc(),
+        FIRST_RUN,
+        r#"{"do":"report","session":1,"what":"all"}
+{"do":"report","session":1,"version":0,"what":"all"}
+{"do":"report","version":0,"what":"changes","against":null}
+{"do":"report","version":7,"what":"changes","against":0}
+{"do":"report","version":0,"what":"drift","against":9}
+{"do":"report","version":0,"what":"sweep","stage":"zz"}
+{"do":"report","version":0,"what":"sweep"}
+"#,
+        "refused 51 NoSession\n\
+        refused 71 Shape session\n\
+        refused 71 Shape against\n\
+        refused 52 NoVersion\n\
+        refused 52 NoVersion\n\
+        refused 10 NoStage\n\
+        refused 71 Shape stage\n",
+    )
+}
+
 #[test]
 fn session_refusals(rt: HostRuntime) -> Result<(), Fail> {
     gives(

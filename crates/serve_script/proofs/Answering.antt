@@ -1,5 +1,5 @@
 -- What was written in answer.
-use Rattle.std.proofs.Common.{◌≡◌, ◌∙◌, ℕ, ◌<◌, min, length, take, length-take, arith, Bool, List, [], ◌∷◌, ◌++◌, Option, Some, None, unwrap_or, Result, Ok, Err, OnOk, OnErr, ap, sym, subst, refl}
+use Rattle.std.proofs.Common.{◌≡◌, ◌⊎◌, inl, inr, ◌∙◌, ℕ, ◌<◌, min, length, take, length-take, arith, Bool, false, List, [], ◌∷◌, ◌++◌, Option, Some, None, unwrap_or, Result, Ok, Err, OnOk, OnErr, ap, sym, subst, refl}
 use Rattle.std.specs.Io.KnownBytes.{Appends}
 use Rattle.text_io.specs.Sink.{AppendsPrefix, Advances, StopsShort}
 use Rattle.text_io.proofs.Written.{AppendsPrefix-after, AppendsPrefix-longer}
@@ -12,11 +12,13 @@ use Rattle.session_core.specs.declared.event.Event.{Event}
 use Rattle.session_core.specs.declared.event.Event.TheVariants.{Head, Commit}
 use Rattle.session_core.specs.declared.event.Reply.{Reply}
 use Rattle.session_core.specs.declared.event.Reply.TheVariants.{Opened, At, Committed, Undone, Closed, Refused}
-use Rattle.serve_script.specs.Answers.{IsAnswered, Answered, answered, answer_event, answer_head, answer_line, answers_from, or_no_stage, told, on_head, after_head}
+use Rattle.serve_script.specs.Answers.{IsAnswered, Answered, answered, answer_event, answer_head, answer_line, answer_stand, answers_from, or_no_stage, report_among, report_asked, told, told_asked, on_head, on_stand, after_head, after_stand}
 use Rattle.recording.specs.Reads.{IsRead}
 use Rattle.recording.specs.declared.fault.Fault.{Fault}
 use Rattle.recording.specs.declared.fault.Fault.TheVariants.{Memory}
 use Rattle.recording.specs.declared.fault.Fault.TheVariants as fault
+use Rattle.recording.specs.declared.step.Asked.{Asked}
+use Rattle.recording.specs.declared.step.Asked.TheVariants as asked
 use Rattle.recording.specs.declared.step.Step.{Step}
 use Rattle.serve_script.specs.Replies.{base_in, reply_line}
 
@@ -85,6 +87,25 @@ pub head_refused : (s t : State) (session : ℕ) (edits : List Edit) (listed : B
     → answer_head s session edits listed ≡ answered (reply_line None (Head session) listed reply) t
 head_refused s t session edits listed reply is none = ap (after_head session edits listed s) is ∙ other_reply session edits listed t reply none
 
+-- ---- a report of the version at which a session stands
+
+pub stand_told : (s t : State) (session version : ℕ) (asked : Asked) (reply : Reply) → step s (Head session) ≡ Some (reply, t) → reply ≡ At version
+    → answer_stand s session asked ≡ answered (report_among t.versions version asked) t
+stand_told s t session version asked reply is at = ap (after_stand session asked s) is ∙ ap (on_stand session asked t) at
+
+not_standing : (session : ℕ) (asked : Asked) (t : State) (reply : Reply) → ((version : ℕ) → reply ≡ At version → ⊥)
+    → on_stand session asked t reply ≡ answered (reply_line None (Head session) false reply) t
+not_standing session asked t (At version) none = absurd (none version refl)
+not_standing session asked t (Opened version) none = refl
+not_standing session asked t (Committed version) none = refl
+not_standing session asked t (Undone version) none = refl
+not_standing session asked t Closed none = refl
+not_standing session asked t (Refused refusal) none = refl
+
+pub stand_refused : (s t : State) (session : ℕ) (asked : Asked) (reply : Reply) → step s (Head session) ≡ Some (reply, t) → ((version : ℕ) → reply ≡ At version → ⊥)
+    → answer_stand s session asked ≡ answered (reply_line None (Head session) false reply) t
+stand_refused s t session asked reply is none = ap (after_stand session asked s) is ∙ not_standing session asked t reply none
+
 -- ---- parts of answers
 
 pub all_of : {T E : Type 0} (r : Result T E) (x y : Answered) (t : State) (a b : Option (List ℕ)) → y ≡ x → OnOk r (IsAnswered x t a b) → OnOk r (IsAnswered y t a b)
@@ -92,6 +113,17 @@ all_of r x y t a b same all = subst (λ z. OnOk r (IsAnswered z t a b)) (sym sam
 
 pub part_of : {T E : Type 0} (r : Result T E) (a b : Option (List ℕ)) (text more : List ℕ) → more ≡ text → OnErr r (AppendsPrefix a b text) → OnErr r (AppendsPrefix a b more)
 part_of r a b text more same part = subst (λ l. OnErr r (AppendsPrefix a b l)) (sym same) part
+
+-- ---- a report of one version
+
+pub is_told : (version : PlainVersion) (against : Option PlainVersion) (a : Asked)
+    → (a ≡ asked.All) ⊎ ((name : List ℕ) × (a ≡ asked.One name)) ⊎ ((name : List ℕ) × (a ≡ asked.Blame name)) ⊎ ((name : List ℕ) × (a ≡ asked.Path name)) ⊎ (a ≡ asked.Times)
+    → report_asked version against a ≡ told_asked version a
+is_told version against a (inl is) = subst (λ x. report_asked version against x ≡ told_asked version x) (sym is) refl
+is_told version against a (inr (inl (name, is))) = subst (λ x. report_asked version against x ≡ told_asked version x) (sym is) refl
+is_told version against a (inr (inr (inl (name, is)))) = subst (λ x. report_asked version against x ≡ told_asked version x) (sym is) refl
+is_told version against a (inr (inr (inr (inl (name, is))))) = subst (λ x. report_asked version against x ≡ told_asked version x) (sym is) refl
+is_told version against a (inr (inr (inr (inr is)))) = subst (λ x. report_asked version against x ≡ told_asked version x) (sym is) refl
 
 -- ---- a report of no stage
 

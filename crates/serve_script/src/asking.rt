@@ -1,14 +1,18 @@
 //! Which report a step asks for, and how it is written.
-ghost use Rattle.std.specs.Prelude.{◌≡◌, ◌+◌, ◌-◌, ◌^◌, ◌<◌, slice_get, OnOk, OnErr};
+ghost use Rattle.std.specs.Prelude.{◌≡◌, ◌+◌, ◌-◌, ◌^◌, ◌<◌, None, option_copied, slice_get, OnOk, OnErr};
+ghost use Rattle.std.specs.Option.{option_and_then};
 ghost use Rattle.std.specs.Io.KnownBytes.{Appends};
 ghost use Rattle.text_io.specs.Sink.{AppendsPrefix};
 ghost use Rattle.stage_graph.specs.Plain.{place_named};
 ghost use Rattle.report_text.specs.Reports.{text};
 ghost use Rattle.script_lines.specs.Faults.{failed_writes};
-ghost use Rattle.serve_script.specs.Answers.{or_no_stage, report_asked, report_of, what_asked};
+ghost use Rattle.report_text.specs.AgainstTexts.{comparison_text};
+ghost use Rattle.report_text.specs.SweepTexts.{sweep_report};
+ghost use Rattle.serve_script.specs.Answers.{against_in, compared_asked, or_no_stage, report_among, report_asked, swept_asked, told_asked, what_asked};
 
+use level_pool::Runner;
 use recording::Asked;
-use report_text::{ReportFault, What, report};
+use report_text::{Comparison, ReportFault, What, compare, report, report_sweep};
 use script_lines::AnswerFault;
 use session_core::Table;
 use stage_graph::Name;
@@ -18,40 +22,175 @@ use version_store::{StateRepresentation, Version};
 
 const NO_STAGE: &[u8] = b"refused 10 NoStage\n";
 
+const NO_VERSION: &[u8] = b"refused 52 NoVersion\n";
+
+/// The number of the version that a report compares with.
+pub fn against_in(asked: &Asked) -> Option<u32>
+    ensures { result ≡ against_in asked.now }
+{
+    match asked {
+        Asked::Changes(against) | Asked::Drift(against) => *against,
+        Asked::All | Asked::One(_) | Asked::Blame(_) => None,
+        Asked::Path(_) | Asked::Sweep(_) | Asked::Times => None,
+    }
+}
+
+/// The version that a report compares with, if there is one of its number.
+fn against_of<'a, R: StateRepresentation>(
+    table: &'a Table<R>,
+    asked: &Asked,
+) -> Option<&'a Version<R>>
+    ensures { option_copied result ≡ option_and_then (slice_get table.now.state.versions) (against_in asked.now) }
+{
+    match against_in(asked) {
+        Some(number) => table.version(number).ok(),
+        None => None,
+    }
+}
+
 /// Writes the report that is asked for, or that there is no such version or stage.
-pub(crate) fn answer_report<R: StateRepresentation, S: Sink>(
+pub(crate) fn answer_report<R: StateRepresentation, W: Runner, S: Sink>(
     alloc: Global,
     table: &Table<R>,
     version: u32,
     asked: &Asked,
+    runner: &W,
     sink: &mut S,
 ) -> Result<(), AnswerFault>
     requires { S.failures sink.old < 2 ^ 64 - 1 }
-    ensures ok { OnOk result (Appends (S.held sink.old) (S.held sink.new) (report_of (slice_get table.now.state.versions version) asked.now)) }
-    ensures err { OnErr result (AppendsPrefix (S.held sink.old) (S.held sink.new) (report_of (slice_get table.now.state.versions version) asked.now)) }
+    ensures ok { OnOk result (Appends (S.held sink.old) (S.held sink.new) (report_among table.now.state.versions version asked.now)) }
+    ensures err { OnErr result (AppendsPrefix (S.held sink.old) (S.held sink.new) (report_among table.now.state.versions version asked.now)) }
     ensures failures { S.failures sink.new ≡ S.failures sink.old + failed_writes result }
 {
+    let against = against_of(table, asked);
     match table.version(version) {
-        Ok(version) => write_asked(alloc, version, asked, sink),
-        Err(_) => write_text(b"refused 52 NoVersion\n", sink),
+        Ok(version) => write_asked(alloc, version, against, asked, runner, sink),
+        Err(_) => write_text(NO_VERSION, sink),
     }
 }
 
-/// Writes the report of a version that is asked for.
-pub fn write_asked<R: StateRepresentation, S: Sink>(
+/// Writes the report of a version that is asked for; `against` is the version of the number that it compares with.
+pub fn write_asked<R: StateRepresentation, W: Runner, S: Sink>(
+    alloc: Global,
+    version: &Version<R>,
+    against: Option<&Version<R>>,
+    asked: &Asked,
+    runner: &W,
+    sink: &mut S,
+) -> Result<(), AnswerFault>
+    requires { S.failures sink.old < 2 ^ 64 - 1 }
+    ensures ok { OnOk result (Appends (S.held sink.old) (S.held sink.new) (report_asked version.now (option_copied against.entry) asked.now)) }
+    ensures err { OnErr result (AppendsPrefix (S.held sink.old) (S.held sink.new) (report_asked version.now (option_copied against.entry) asked.now)) }
+    ensures failures { S.failures sink.new ≡ S.failures sink.old + failed_writes result }
+{
+    match asked {
+        Asked::All | Asked::One(_) | Asked::Blame(_) | Asked::Path(_) | Asked::Times => {
+            write_told(alloc, version, asked, sink)
+        }
+        Asked::Changes(None) => write_told(alloc, version, asked, sink),
+        Asked::Drift(None) => write_told(alloc, version, asked, sink),
+        Asked::Sweep(name) => write_sweep(alloc, version, name, runner, sink),
+        Asked::Changes(Some(_)) => {
+            write_comparison(alloc, version, against, Comparison::Changes, sink)
+        }
+        Asked::Drift(Some(_)) => write_comparison(alloc, version, against, Comparison::Drift, sink),
+    }
+}
+
+/// Writes a report of one version, or that it is of no stage.
+fn write_told<R: StateRepresentation, S: Sink>(
     alloc: Global,
     version: &Version<R>,
     asked: &Asked,
     sink: &mut S,
 ) -> Result<(), AnswerFault>
     requires { S.failures sink.old < 2 ^ 64 - 1 }
-    ensures ok { OnOk result (Appends (S.held sink.old) (S.held sink.new) (report_asked version.now asked.now)) }
-    ensures err { OnErr result (AppendsPrefix (S.held sink.old) (S.held sink.new) (report_asked version.now asked.now)) }
+    ensures ok { OnOk result (Appends (S.held sink.old) (S.held sink.new) (told_asked version.now asked.now)) }
+    ensures err { OnErr result (AppendsPrefix (S.held sink.old) (S.held sink.new) (told_asked version.now asked.now)) }
     ensures failures { S.failures sink.new ≡ S.failures sink.old + failed_writes result }
 {
     match what_asked(version, asked) {
         Some(what) => write_report(alloc, version, what, sink),
         None => write_text(NO_STAGE, sink),
+    }
+}
+
+/// Writes the sweep of the stage of a name, or that there is no such stage.
+fn write_sweep<R: StateRepresentation, W: Runner, S: Sink>(
+    alloc: Global,
+    version: &Version<R>,
+    name: &Name,
+    runner: &W,
+    sink: &mut S,
+) -> Result<(), AnswerFault>
+    requires { S.failures sink.old < 2 ^ 64 - 1 }
+    ensures ok { OnOk result (Appends (S.held sink.old) (S.held sink.new) (swept_asked version.now name.now)) }
+    ensures err { OnErr result (AppendsPrefix (S.held sink.old) (S.held sink.new) (swept_asked version.now name.now)) }
+    ensures failures { S.failures sink.new ≡ S.failures sink.old + failed_writes result }
+{
+    match place_named(version, name) {
+        Some(place) => write_sweep_at(alloc, version, place, runner, sink),
+        None => write_text(NO_STAGE, sink),
+    }
+}
+
+/// Writes the sweep of the stage at a place, or that there is no such stage.
+fn write_sweep_at<R: StateRepresentation, W: Runner, S: Sink>(
+    alloc: Global,
+    version: &Version<R>,
+    place: u32,
+    runner: &W,
+    sink: &mut S,
+) -> Result<(), AnswerFault>
+    requires { S.failures sink.old < 2 ^ 64 - 1 }
+    ensures ok { OnOk result (Appends (S.held sink.old) (S.held sink.new) (or_no_stage (sweep_report version.now place None))) }
+    ensures err { OnErr result (AppendsPrefix (S.held sink.old) (S.held sink.new) (or_no_stage (sweep_report version.now place None))) }
+    ensures failures { S.failures sink.new ≡ S.failures sink.old + failed_writes result }
+{
+    match report_sweep(alloc, version, place, None, runner, sink) {
+        Ok(()) => Ok(()),
+        Err(ReportFault::NoStage) => write_text(NO_STAGE, sink),
+        Err(ReportFault::Write) => Err(AnswerFault::Write),
+        Err(ReportFault::Memory) => Err(AnswerFault::Memory),
+    }
+}
+
+/// Writes how a version stands against another one, or that there is no such other.
+fn write_comparison<R: StateRepresentation, S: Sink>(
+    alloc: Global,
+    version: &Version<R>,
+    against: Option<&Version<R>>,
+    comparison: Comparison,
+    sink: &mut S,
+) -> Result<(), AnswerFault>
+    requires { S.failures sink.old < 2 ^ 64 - 1 }
+    ensures ok { OnOk result (Appends (S.held sink.old) (S.held sink.new) (compared_asked comparison version.now (option_copied against.entry))) }
+    ensures err { OnErr result (AppendsPrefix (S.held sink.old) (S.held sink.new) (compared_asked comparison version.now (option_copied against.entry))) }
+    ensures failures { S.failures sink.new ≡ S.failures sink.old + failed_writes result }
+{
+    match against {
+        Some(against) => write_against(alloc, version, against, comparison, sink),
+        None => write_text(NO_VERSION, sink),
+    }
+}
+
+fn write_against<R: StateRepresentation, S: Sink>(
+    alloc: Global,
+    version: &Version<R>,
+    against: &Version<R>,
+    comparison: Comparison,
+    sink: &mut S,
+) -> Result<(), AnswerFault>
+    requires { S.failures sink.old < 2 ^ 64 - 1 }
+    ensures ok { OnOk result (Appends (S.held sink.old) (S.held sink.new) (comparison_text comparison version.now against.now)) }
+    ensures err { OnErr result (AppendsPrefix (S.held sink.old) (S.held sink.new) (comparison_text comparison version.now against.now)) }
+    ensures failures { S.failures sink.new ≡ S.failures sink.old + failed_writes result }
+{
+    match compare(alloc, version, against, comparison, sink) {
+        Ok(()) => Ok(()),
+        Err(ReportFault::NoStage) => unreachable!(),
+        Err(ReportFault::Write) => Err(AnswerFault::Write),
+        Err(ReportFault::Memory) => Err(AnswerFault::Memory),
     }
 }
 
@@ -86,7 +225,8 @@ pub fn write_text<S: Sink>(text: &[u8], sink: &mut S) -> Result<(), AnswerFault>
     Ok(())
 }
 
-/// The report of a version that is asked for; none where it is of a stage that is not there.
+/// The report of one version that is asked for; none where it is of a stage that is not there, and where it is a sweep or
+/// a comparison.
 fn what_asked<R: StateRepresentation>(version: &Version<R>, asked: &Asked) -> Option<What>
     ensures { result ≡ what_asked version.now.graph.places asked.now }
 {
@@ -95,9 +235,10 @@ fn what_asked<R: StateRepresentation>(version: &Version<R>, asked: &Asked) -> Op
         Asked::One(name) => Some(What::One(place_named(version, name)?)),
         Asked::Blame(name) => Some(What::Blame(place_named(version, name)?)),
         Asked::Path(name) => Some(What::Path(place_named(version, name)?)),
-        Asked::Changes => Some(What::Changes),
-        Asked::Drift => Some(What::Drift),
+        Asked::Changes(None) => Some(What::Changes),
+        Asked::Drift(None) => Some(What::Drift),
         Asked::Times => Some(What::Times),
+        Asked::Sweep(_) | Asked::Changes(Some(_)) | Asked::Drift(Some(_)) => None,
     }
 }
 

@@ -8,7 +8,7 @@ mod reply;
 mod server;
 mod serving;
 
-pub use asking::{write_asked, write_text};
+pub use asking::{against_in, write_asked, write_text};
 pub use reply::push_reply;
 pub use script_lines::ServeFault;
 pub use serving::serve;

@@ -9,13 +9,13 @@ ghost use Rattle.recording.specs.StepOf.{step_of};
 ghost use Rattle.recording.specs.declared.fault.Fault.{Fault};
 ghost use Rattle.recording.specs.declared.step.Step.{Step};
 ghost use Rattle.session_core.specs.Machine.{step};
-ghost use Rattle.serve_script.specs.Answers.{IsAnswered, answer_change, answer_event, answer_head, answer_named, answer_step, answered, answers_from, fault_line, opening_state};
+ghost use Rattle.serve_script.specs.Answers.{IsAnswered, answer_change, answer_event, answer_head, answer_named, answer_report, answer_stand, answer_step, answered, answers_from, fault_line, opening_state};
 ghost use Rattle.serve_script.specs.Replies.{base_in, reply_line};
 
 use crate::asking::answer_report;
 use crate::reply::{base_of, push_reply};
 use level_pool::Runner;
-use recording::{Fault, Step, read_step};
+use recording::{Asked, Fault, Step, Subject, read_step};
 use script_lines::{AnswerFault, Line};
 use session_core::{Event, Reply, Table, run};
 use share_tree::Held;
@@ -198,6 +198,57 @@ impl<'a, R: StateRepresentation, W: Runner> Server<'a, R, W> {
         }
     }
 
+    /// Asks at which version a session stands, and writes a report of it, or the refusal.
+    fn answer_stand<S: Sink>(
+        &mut self,
+        session: u32,
+        asked: &Asked,
+        sink: &mut S,
+    ) -> Result<(), AnswerFault>
+        requires { S.failures sink.old < 2 ^ 64 - 1 }
+        ensures ok { OnOk result (IsAnswered (answer_stand self.old session asked.now) self.new (S.held sink.old) (S.held sink.new)) }
+        ensures err { OnErr result (AppendsPrefix (S.held sink.old) (S.held sink.new) (answer_stand self.old session asked.now).0) }
+        ensures failures { S.failures sink.new ≡ S.failures sink.old + failed_writes result }
+    {
+        let event = Event::Head { session };
+        match self.take(&event)? {
+            Reply::At(version) => answer_report(
+                self.alloc,
+                &self.table,
+                version,
+                asked,
+                self.runner,
+                sink,
+            ),
+            reply => self.write_reply(&event, false, reply, sink),
+        }
+    }
+
+    /// Writes a report of a version, or of the version at which a session stands.
+    fn answer_subject<S: Sink>(
+        &mut self,
+        subject: Subject,
+        asked: &Asked,
+        sink: &mut S,
+    ) -> Result<(), AnswerFault>
+        requires { S.failures sink.old < 2 ^ 64 - 1 }
+        ensures ok { OnOk result (IsAnswered (answer_report self.old subject asked.now) self.new (S.held sink.old) (S.held sink.new)) }
+        ensures err { OnErr result (AppendsPrefix (S.held sink.old) (S.held sink.new) (answer_report self.old subject asked.now).0) }
+        ensures failures { S.failures sink.new ≡ S.failures sink.old + failed_writes result }
+    {
+        match subject {
+            Subject::Version(version) => answer_report(
+                self.alloc,
+                &self.table,
+                version,
+                asked,
+                self.runner,
+                sink,
+            ),
+            Subject::Head(session) => self.answer_stand(session, asked, sink),
+        }
+    }
+
     /// Does a step, and writes the reply or the report.
     fn answer_step<S: Sink>(&mut self, asked: Step, sink: &mut S) -> Result<(), AnswerFault>
         requires { S.failures sink.old < 2 ^ 64 - 1 }
@@ -218,9 +269,7 @@ impl<'a, R: StateRepresentation, W: Runner> Server<'a, R, W> {
                 edits,
                 listed,
             } => self.answer_change(session, base, edits, listed, sink),
-            Step::Report { version, asked } => {
-                answer_report(self.alloc, &self.table, version, &asked, sink)
-            }
+            Step::Report { subject, asked } => self.answer_subject(subject, &asked, sink),
         }
     }
 

@@ -1,10 +1,7 @@
-use Rattle.std.proofs.Common.{ap, sym, ◌∙◌}
-use Rattle.std.specs.Option.{option_and_then}
-use Rattle.report_text.specs.Reports.{text}
-use Rattle.serve_script.specs.Answers.{or_no_stage}
-use Rattle.serve_script.proofs.Answering.{part_of}
+use Rattle.std.proofs.Common.{option_copied}
+use Rattle.serve_script.proofs.Answering.{is_told, part_of}
 use Rattle.serve_script.proofs.asking.write_asked.Goals as goal
 
-pub returns-in-None-clause-err : goal.returns-in-None-clause-err
-returns-in-None-clause-err g c =
-    part_of _ _ _ _ _ (ap (λ what. or_no_stage (option_and_then (text c.args.version.now) what)) (sym c.what_asked.ensures ∙ c.in-None.is)) c.write_text.ensures.err
+pub returns-in-All-clause-err : goal.returns-in-All-clause-err
+returns-in-All-clause-err g c =
+    part_of _ _ _ _ _ (is_told c.args.version.now (option_copied c.args.against) c.args.asked.now c.in-All.is) c.write_told-in-All.ensures.err
