@@ -5,20 +5,14 @@ ghost use Rattle.text_io.specs.Counted.{read_failures};
 use crate::fault::Fault;
 use crate::input;
 use clap::ArgMatches;
+use command_line::{MOST_SCRIPTS, MOST_WORKERS};
 use many_scripts::many;
-use recording::read_recording;
-use stage_graph::{Graph, InShared};
+use stage_graph::InShared;
 use std::fs::File;
 use std::io::{self, BufWriter};
 use std::sync::Wait;
 use std::thread::Threads;
 use text_io::{CountedReader, CountedWriter};
-
-/// The most scripts that are answered at once.
-pub(crate) const MOST_SCRIPTS: usize = 64;
-
-/// The most workers that compute for one script.
-pub(crate) const MOST_WORKERS: usize = 16;
 
 /// The scripts' files in their order, each opened.
 fn opened(rt: &HostRuntime, paths: &[&str]) -> Result<Vec<CountedReader<File>>, Fault>
@@ -47,11 +41,7 @@ pub(crate) fn run_many<H: Threads + Wait + Copy + Drop + Send + Sync>(
     if paths.is_empty() || paths.len() > MOST_SCRIPTS || workers == 0 || workers > MOST_WORKERS {
         return Err(Fault::CommandLine);
     }
-    let recording = input::recording(rt, matches.get_str("FILE"))?;
-    let graph: Graph<InShared> = match read_recording(rt.alloc(), &recording) {
-        Ok(graph) => graph,
-        Err(fault) => return Err(Fault::Refused(fault)),
-    };
+    let graph = input::graph::<InShared>(rt, matches.get_str("FILE"))?;
     let scripts = opened(rt, paths)?;
     let Ok(writer) = BufWriter::new(rt.alloc(), io::writer(rt)) else {
         return Err(Fault::Memory);

@@ -1,7 +1,8 @@
 //! What ends the program early.
-use crate::report_all::ReportAllFault;
+use command_line::ToldFault;
 use many_scripts::ManyFault;
 use recording::Fault as ReadingFault;
+use recording_reports::RecordingFault;
 use serve_script::ServeFault;
 use std::alloc::AllocError;
 use std::fmt;
@@ -11,6 +12,8 @@ use std::fmt;
 pub(crate) enum Fault {
     /// The recording is refused.
     Refused(ReadingFault),
+    /// The recording has no stage of the name.
+    NoStage,
     /// A file or standard input can't be opened or read.
     Read,
     /// Standard output or standard error can't be written.
@@ -31,7 +34,7 @@ impl Fault {
     pub(crate) fn status(&self) -> u8 {
         match self {
             Fault::Refused(ReadingFault::Memory) => 4,
-            Fault::Refused(_) => 1,
+            Fault::Refused(_) | Fault::NoStage => 1,
             Fault::CommandLine => 2,
             Fault::Read | Fault::Write | Fault::Missing | Fault::Torn => 3,
             Fault::NoThread | Fault::Memory => 4,
@@ -43,6 +46,7 @@ impl fmt::Display for Fault {
     fn fmt<W: fmt::Write>(&self, f: &mut fmt::Formatter<W>) -> fmt::Result {
         match self {
             Fault::Refused(fault) => write!(f, "{fault}"),
+            Fault::NoStage => f.write_str("refused 10 NoStage"),
             Fault::Read => f.write_str("refused 41 ReadFault"),
             Fault::Write => f.write_str("refused 40 WriteFault"),
             Fault::CommandLine => f.write_str("error: the command line is not UTF-8 text"),
@@ -60,12 +64,22 @@ impl From<AllocError> for Fault {
     }
 }
 
-impl From<ReportAllFault> for Fault {
-    fn from(fault: ReportAllFault) -> Fault {
+impl From<ToldFault> for Fault {
+    fn from(fault: ToldFault) -> Fault {
         match fault {
-            ReportAllFault::Refused(fault) => Fault::Refused(fault),
-            ReportAllFault::Write => Fault::Write,
-            ReportAllFault::Memory => Fault::Memory,
+            ToldFault::Memory => Fault::Memory,
+            ToldFault::Write => Fault::Write,
+        }
+    }
+}
+
+impl From<RecordingFault> for Fault {
+    fn from(fault: RecordingFault) -> Fault {
+        match fault {
+            RecordingFault::Refused(fault) => Fault::Refused(fault),
+            RecordingFault::NoStage => Fault::NoStage,
+            RecordingFault::Write => Fault::Write,
+            RecordingFault::Memory => Fault::Memory,
         }
     }
 }

@@ -1,26 +1,20 @@
 //! `whatif`: a what-if debugger for recorded runs of asynchronous Java services.
 #![tactic(auto)]
 
-ghost use Rattle.std.specs.Prelude.{◌≡◌, ◌-◌, ◌^◌, ◌<◌, Err};
-ghost use Rattle.clap.specs.Values.{kind_of};
-ghost use Rattle.clap.specs.declared.error.kind.ErrorKind.TheVariants.{OutOfMemory};
-ghost use Rattle.whatif.specs.declared.fault.Fault.TheVariants.{Memory};
+ghost use Rattle.std.specs.Prelude.{◌-◌, ◌^◌, ◌<◌};
 
 mod at_once;
 mod fault;
 mod input;
-mod options;
-mod report_all;
 
 use at_once::run_many;
 use clap::ArgMatches;
-use clap::error::ErrorKind as ClapErrorKind;
+use command_line::{command, told};
 use fault::Fault;
 use level_pool::{OneThread, Runner};
-use recording::read_recording;
-use report_all::report_all;
+use recording_reports::{StageReport, report_all, report_stage};
 use serve_script::serve;
-use stage_graph::{Graph, InShared};
+use stage_graph::InShared;
 use std::io::{self, BufWriter, ErrorKind};
 use std::process::ExitCode;
 use std::sync::Wait;
@@ -54,13 +48,20 @@ fn run<H: Threads + Wait + Copy + Drop + Send + Sync, W: Runner>(
 ) -> Result<ExitCode, Fault> {
     let alloc = rt.alloc();
     let words = words(rt)?;
-    let command = options::command(alloc)?;
+    let command = command(alloc)?;
     let matches = match command.try_get_matches_from(words.as_slice()) {
         Ok(matches) => matches,
-        Err(error) => return told(rt, &error),
+        Err(error) => return Ok(told(rt, &error)?),
     };
     match matches.subcommand() {
         Some(("report", matches)) => run_report(rt, matches)?,
+        Some(("explain", matches)) => {
+            run_report_stage(rt, runner, matches, StageReport::Explanation)?
+        }
+        Some(("sweep", matches)) => {
+            let most = matches.get_one::<usize>("top");
+            run_report_stage(rt, runner, matches, StageReport::Sweep { most })?
+        }
         Some(("serve", matches)) => run_serve(rt, runner, matches)?,
         Some(("many", matches)) => run_many(rt, threads, matches)?,
         _ => return Err(Fault::CommandLine),
@@ -77,20 +78,6 @@ fn words(rt: &HostRuntime) -> Result<Vec<String>, Fault> {
     }
 }
 
-/// Prints what `clap` says in place of an answer: help that was asked for, or what is wrong with the command line.
-fn told(rt: &HostRuntime, error: &clap::Error) -> Result<ExitCode, Fault>
-    ensures memory { kind_of error.now ≡ OutOfMemory → result ≡ Err Memory }
-{
-    if error.kind() == ClapErrorKind::OutOfMemory {
-        return Err(Fault::Memory);
-    }
-    match error.print(rt) {
-        Ok(()) if error.use_stderr() => Ok(ExitCode::from(2)),
-        Ok(()) => Ok(ExitCode::SUCCESS),
-        Err(_) => Err(Fault::Write),
-    }
-}
-
 /// Prints the report of all stages of a recording.
 fn run_report(rt: &HostRuntime, matches: &ArgMatches<'_>) -> Result<(), Fault> {
     let recording = input::recording(rt, matches.get_str("FILE"))?;
@@ -98,7 +85,34 @@ fn run_report(rt: &HostRuntime, matches: &ArgMatches<'_>) -> Result<(), Fault> {
         return Err(Fault::Memory);
     };
     let mut sink = CountedWriter::new(writer);
-    let end = report_all(rt.alloc(), &recording, &mut sink);
+    let end = report_all::<InShared, _>(rt.alloc(), &recording, &mut sink);
+    flush(&mut sink)?;
+    Ok(end?)
+}
+
+/// Prints what is asked of one stage of a recording.
+fn run_report_stage<W: Runner>(
+    rt: &HostRuntime,
+    runner: &W,
+    matches: &ArgMatches<'_>,
+    asked: StageReport,
+) -> Result<(), Fault> {
+    let Some(name) = matches.get_str("STAGE") else {
+        return Err(Fault::CommandLine);
+    };
+    let recording = input::recording(rt, matches.get_str("FILE"))?;
+    let Ok(writer) = BufWriter::new(rt.alloc(), io::writer(rt)) else {
+        return Err(Fault::Memory);
+    };
+    let mut sink = CountedWriter::new(writer);
+    let end = report_stage::<InShared, _, _>(
+        rt.alloc(),
+        &recording,
+        name,
+        asked,
+        runner,
+        &mut sink,
+    );
     flush(&mut sink)?;
     Ok(end?)
 }
@@ -109,11 +123,7 @@ fn run_serve<W: Runner>(
     runner: &W,
     matches: &ArgMatches<'_>,
 ) -> Result<(), Fault> {
-    let recording = input::recording(rt, matches.get_str("FILE"))?;
-    let graph: Graph<InShared> = match read_recording(rt.alloc(), &recording) {
-        Ok(graph) => graph,
-        Err(fault) => return Err(Fault::Refused(fault)),
-    };
+    let graph = input::graph::<InShared>(rt, matches.get_str("FILE"))?;
     let Ok(writer) = BufWriter::new(rt.alloc(), io::writer(rt)) else {
         return Err(Fault::Memory);
     };

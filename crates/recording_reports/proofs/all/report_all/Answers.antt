@@ -5,7 +5,7 @@ use Rattle.version_store.specs.Plain.{PlainVersion, opening_version}
 use Rattle.report_text.specs.Reports.{text}
 use Rattle.report_text.specs.Texts.{all_text}
 use Rattle.report_text.specs.declared.what.What.TheVariants.{All}
-use Rattle.whatif.proofs.report_all.report_all.Goals as goal
+use Rattle.recording_reports.proofs.all.report_all.Goals as goal
 
 pub returns-in-Ok-report-clause-written : goal.returns-in-Ok-report-clause-written
 returns-in-Ok-report-clause-written g c = (

@@ -1,0 +1,8 @@
+//! The words of the command line, and what is said of those that are none.
+#![tactic(auto)]
+
+mod telling;
+mod words;
+
+pub use telling::{ToldFault, told};
+pub use words::{MOST_SCRIPTS, MOST_WORKERS, command};

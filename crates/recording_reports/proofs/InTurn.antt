@@ -1,0 +1,32 @@
+-- What is written one after the other.
+use Rattle.std.proofs.Common.{◌≡◌, ℕ, true, List, ◌++◌, Option, Some, None, Result, Ok, Err, OnErr, sym}
+use Rattle.std.specs.Io.KnownBytes.{Appends}
+use Rattle.text_io.specs.Sink.{AppendsPrefix}
+use Rattle.std.proofs.KnownBytes.{Appends-trans}
+use Rattle.text_io.proofs.Written.{AppendsPrefix-after, AppendsPrefix-longer}
+use Rattle.stage_graph.specs.declared.stage.Stage.{Stage}
+use Rattle.stage_graph.specs.Plain.{IsLive, place_named, stage_at}
+use Rattle.stage_graph.proofs.Placing.{live_from_name, named_at}
+use Rattle.version_store.specs.Queries.{found}
+
+-- a part of the first of three texts
+pub in_first : (a b : Option (List ℕ)) (one two three : List ℕ) → AppendsPrefix a b one → AppendsPrefix a b (one ++ two ++ three)
+in_first a b one two three first = AppendsPrefix-longer a b (one ++ two) three (AppendsPrefix-longer a b one two first)
+
+-- a part of the second
+pub in_second : (a b c : Option (List ℕ)) (one two three : List ℕ) → Appends a b one → AppendsPrefix b c two → AppendsPrefix a c (one ++ two ++ three)
+in_second a b c one two three first second = AppendsPrefix-longer a c (one ++ two) three (AppendsPrefix-after a b c one two first second)
+
+-- a part of the third
+pub in_third : {T E : Type 0} (r : Result T E) (a b c d : Option (List ℕ)) (one two three : List ℕ) → Appends a b one → Appends b c two
+    → OnErr r (AppendsPrefix c d three) → OnErr r (AppendsPrefix a d (one ++ two ++ three))
+in_third (Ok x) a b c d one two three first second third = tt
+in_third (Err e) a b c d one two three first second third = AppendsPrefix-after a c d (one ++ two) three (Appends-trans a b c one two first second) third
+
+placed : (place : Option ℕ) (at : ℕ) → Ok at ≡ found place → place ≡ Some at
+placed None at is = cc
+placed (Some other) at is = cc
+
+-- the stage of a name stands where it is found
+pub live_where_found : (places : List (Option Stage)) (name : List ℕ) (place : ℕ) → Ok place ≡ found (place_named places name) → IsLive places place
+live_where_found places name place is = live_from_name name (stage_at places place) (named_at places name place (placed (place_named places name) place is)).1

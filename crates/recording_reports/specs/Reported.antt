@@ -1,0 +1,64 @@
+-- What the reports of a recording write: of version 0 of the graph that it names.
+use Rattle.std.specs.Prelude.{ℕ, ◌≡◌, List, [], ◌++◌, Option, None, Some, Result, Ok, Err, unwrap_or}
+use Rattle.std.specs.Option.{option_map}
+use Rattle.std.specs.Io.KnownBytes.{Appends, Keeps}
+use Rattle.text_io.specs.Sink.{AppendsPrefix}
+use Rattle.stage_graph.specs.Plain.{PlainGraph, place_named}
+use Rattle.recording.specs.Reads.{IsNamed}
+use Rattle.recording.specs.RecordingOf.{named}
+use Rattle.recording.specs.FaultTexts.{fault_number}
+use Rattle.version_store.specs.Plain.{PlainVersion, opening_version}
+use Rattle.report_text.specs.Reports.{text}
+use Rattle.report_text.specs.SweepTexts.{sweep_report}
+use Rattle.report_text.specs.Texts.{all_text}
+use Rattle.report_text.specs.declared.what.What.{What}
+use Rattle.report_text.specs.declared.what.What.TheVariants.{One, Blame, Path}
+use Rattle.recording_reports.specs.declared.fault.RecordingFault.{RecordingFault}
+use Rattle.recording_reports.specs.declared.fault.RecordingFault.TheVariants.{Refused, NoStage, Write, Memory}
+use Rattle.recording_reports.specs.declared.stage.StageReport.{StageReport}
+use Rattle.recording_reports.specs.declared.stage.StageReport.TheVariants.{Explanation, Sweep}
+
+-- the report of all stages of a graph
+abbrev pub all_of : PlainGraph → Option (List ℕ)
+all_of graph = Some (all_text (opening_version graph))
+
+abbrev pub told : PlainVersion → What → List ℕ
+told version what = unwrap_or (text version what) []
+
+-- the reports `one`, `blame` and `path` of the stage at a place, one after the other; or its sweep
+abbrev pub stage_text : StageReport → PlainVersion → ℕ → List ℕ
+stage_text Explanation version place = told version (One place) ++ told version (Blame place) ++ told version (Path place)
+stage_text (Sweep most) version place = unwrap_or (sweep_report version place most) []
+
+-- the same of the stage of a name; none where the graph has no such stage
+abbrev pub stage_of : StageReport → List ℕ → PlainGraph → Option (List ℕ)
+stage_of report name graph = option_map (stage_text report (opening_version graph)) (place_named graph.places name)
+
+-- these bytes are a recording, and this is what is reported of its graph
+abbrev pub IsTextOf : List ℕ → (PlainGraph → Option (List ℕ)) → Option (List ℕ) → Type 0
+IsTextOf recording of text = (graph : PlainGraph) × IsNamed (Ok graph) (named recording) × (text ≡ of graph)
+
+-- what was written, from what the sink held and holds, by how the call ended
+abbrev pub IsReported : List ℕ → (PlainGraph → Option (List ℕ)) → Option (List ℕ) → Option (List ℕ) → Result (Unit {0}) RecordingFault → Type 0
+-- the whole report
+IsReported recording of old new (Ok done) = (text : List ℕ) × IsTextOf recording of (Some text) × Appends old new text
+-- nothing, as the recording is refused, or memory was wanting before the report began
+IsReported recording of old new (Err (Refused fault)) = IsNamed (Err fault) (named recording) × Keeps old new
+-- nothing, as there is nothing to report
+IsReported recording of old new (Err NoStage) = IsTextOf recording of None × Keeps old new
+-- a part of the report, as a write failed
+IsReported recording of old new (Err Write) = (text : List ℕ) × IsTextOf recording of (Some text) × AppendsPrefix old new text
+-- a part of the report, as memory was wanting while it was written
+IsReported recording of old new (Err Memory) = (text : List ℕ) × IsTextOf recording of (Some text) × AppendsPrefix old new text
+
+-- the number by which a fault is printed
+abbrev pub recording_number : RecordingFault → ℕ
+recording_number (Refused fault) = fault_number fault
+recording_number NoStage = 10
+recording_number Write = 40
+recording_number Memory = 90
+
+-- one where a write failed
+abbrev pub failed_writes : Result (Unit {0}) RecordingFault → ℕ
+failed_writes (Err Write) = 1
+failed_writes others = 0
