@@ -7,6 +7,7 @@ import sys
 from .cases import FIRST_RUN, R, SCRIPTS, lines
 from .limits import chain_of, chain_report
 from .run import LANES, Case, refusals, run, shown
+from .why import EXPLAINED_B, SWEPT, chain_explained
 
 WANTING = b"refused 90 Memory\n"
 NO_THREAD = b"refused 35 NoThread\n"
@@ -23,6 +24,9 @@ COMMANDS = [
     Case("report", ["report", "r.json"], FIRST_RUN, files={"r.json": R}),
     Case("report of standard input", ["report"], FIRST_RUN, stdin=R),
     Case("report of 4,096 stages", ["report", "large"], chain_report(STAGES), files={"large": chain_of(STAGES)}),
+    Case("explain", ["explain", "r.json", "b"], EXPLAINED_B, files={"r.json": R}),
+    Case("explain of 4,096 stages", ["explain", "large", f"s{STAGES - 1}"], chain_explained(STAGES), files={"large": chain_of(STAGES)}),
+    Case("sweep", ["sweep", "r.json", "b"], SWEPT, files={"r.json": R}),
     Case("serve", ["serve", "r.json"], ANSWERS, files={"r.json": R}, stdin=lines(*STEPS)),
     Case("help", ["--help"], None),
     Case("an unknown word", ["nonsense"], "", 2),

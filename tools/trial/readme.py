@@ -5,7 +5,7 @@ import re
 
 from .run import Case
 
-COMMAND = re.compile(r"\./whatif (report|serve|many)((?: [\w./-]+)+)(?: < (examples/[\w.-]+))?")
+COMMAND = re.compile(r"\./whatif (report|explain|sweep|serve|many)((?: [\w./-]+)+)(?: < (examples/[\w.-]+))?")
 BLOCK = re.compile(r"^```(\w*)\n(.*?)^```$", re.M | re.S)
 
 
@@ -28,7 +28,7 @@ def shown_runs(page):
 
 
 def shown_case(top, command, blocks):
-    """A report as it is; or steps and their answers in turn; or answers alone, which are somewhere in those to the whole script.
+    """What is printed of a file as it is; or steps and their answers in turn; or answers alone, which are somewhere in those to the whole script.
 
     The numbers in the answers to several scripts at once depend on who comes first, and are not compared."""
     subcommand, words, script = command
@@ -55,9 +55,9 @@ def readme_cases(top):
         name = os.path.basename(path)
         files = {name: read(top, path)}
         cases.append(Case(f"examples/{name} is taken", ["report", name], re.compile(rb"version 0 parent - (.*\n)*"), files=files))
-        script = path.removesuffix("json") + "script"
-        if os.path.exists(script):
-            cases.append(Case(f"the script of examples/{name} is answered", ["serve", name], re.compile(rb"opened (.*\n)*"), files=files, stdin=read(top, script)))
+        for script in sorted(glob.glob(path.removesuffix(".json") + "*.script")):
+            told = f"examples/{os.path.basename(script)} is answered"
+            cases.append(Case(told, ["serve", name], re.compile(rb"opened (.*\n)*"), files=files, stdin=read(top, script)))
     return cases
 
 
