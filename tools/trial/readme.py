@@ -27,7 +27,7 @@ def shown_runs(page):
     return [it for it in runs if it[1]]
 
 
-def shown_case(top, command, blocks):
+def shown_case(top, page, command, blocks):
     """What is printed of a file as it is; or steps and their answers in turn; or answers alone, which are somewhere in those to the whole script.
 
     The numbers in the answers to several scripts at once depend on who comes first, and are not compared."""
@@ -45,12 +45,12 @@ def shown_case(top, command, blocks):
         out = re.compile(b"(?s).*" + b".*".join(re.escape(it.encode()) for it in blocks) + b".*")
     elif len(paths) > 2:
         out = re.compile(re.sub(rb"\d+", rb"\\d+", re.escape("".join(blocks).encode())))
-    return Case(f"README: {subcommand} {' '.join(words)}", [subcommand, *map(os.path.basename, words)], out, **how)
+    return Case(f"{page}: {subcommand} {' '.join(words)}", [subcommand, *map(os.path.basename, words)], out, **how)
 
 
 def readme_cases(top):
     """What the page shows, and each example taken by the program."""
-    cases = [shown_case(top, command, blocks) for command, blocks in shown_runs(read(top, "README.md"))]
+    cases = [shown_case(top, "README", command, blocks) for command, blocks in shown_runs(read(top, "README.md"))]
     for path in sorted(glob.glob(os.path.join(top, "examples", "*.json"))):
         name = os.path.basename(path)
         files = {name: read(top, path)}
@@ -62,10 +62,12 @@ def readme_cases(top):
 
 
 def told_apart(top):
-    """Where the page and the examples differ: the name of each check, its complaint or nothing, and no refusal."""
+    """Where the page and the examples differ: the name of each check, its complaint or nothing, and no refusal.
+
+    Those of docs/MODELLING.md are its own."""
     page = read(top, "README.md")
     examples = [f"examples/{os.path.basename(it)}" for it in sorted(glob.glob(os.path.join(top, "examples", "*")))]
-    unnamed = [it for it in examples if it not in page]
+    unnamed = [it for it in examples if it not in page and not it.startswith("examples/modelling-")]
     yield "README names each example", f"it doesn't name {', '.join(unnamed)}" if unnamed else "", set()
     for (_, _, script), blocks in shown_runs(page):
         if script:
