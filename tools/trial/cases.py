@@ -373,10 +373,13 @@ SCRIPTS = [
             step("add", session=1, base=0, new=stage("copy", "c", sources=["c"])),
             on_a("setTakes", takes=MOST_TICKS + 1),
             on_a("setTakes", takes=MOST_TICKS),
+            step("add", session=1, new=stage("manual", "m")),
+            step("setTakes", session=1, stage="m", takes=0),
+            step("setAction", session=1, stage="m", action=0),
         ],
         lines("opened 1 at 0", "refused 13 Arity", "refused 13 Arity", "refused 14 NoSource", "refused 19 Cycle", "refused 10 NoStage", "refused 18 InUse b")
         + lines("refused 11 NameTaken", "refused 12 BadName", "refused 20 Expr", "refused 16 EndBeforeCreated", "refused 17 NoAction", "refused 14 NoSource")
-        + lines("refused 15 Limit", "committed 1"),
+        + lines("refused 15 Limit", "committed 1", "committed 2", "refused 17 NoAction", "refused 17 NoAction"),
     ),
     (
         "refusals of edits in a list tell the edit's index",

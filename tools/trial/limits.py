@@ -180,6 +180,8 @@ def versions_answers():
 SCRIPTS = [
     ("a line of 65,536 bytes", filled("{}", MOST_LINE) + "\n{}\n", NO_DO * 2),
     ("a line of 65,537 bytes", filled("{}", MOST_LINE + 1) + "\n{}\n", TOO_LONG + NO_DO),
+    ("a step of 65,536 bytes", filled(OPEN, MOST_LINE), "opened 1 at 0\n"),
+    ("a step of 65,537 bytes", filled(OPEN, MOST_LINE + 1), TOO_LONG),
     ("a last line of 65,536 bytes", filled("{}", MOST_LINE), NO_DO),
     ("a last line of 65,537 bytes", filled("{}", MOST_LINE + 1), TOO_LONG),
     ("a line of 65,536 bytes with a byte 13", filled("{}", MOST_LINE - 1) + "\r\n", NO_DO),
