@@ -1,0 +1,62 @@
+# Completion of whatif for bash: source this file, or put it under the name `whatif` among the completions of bash-completion.
+
+# The stages of the recording in a file, as `report` names them.
+_whatif_stages() {
+  [ -f "$2" ] && WHATIF_NO_BUILD=1 "$1" report "$2" 2>/dev/null | sed -n '2,$ s/ .*//p'
+}
+
+# What can stand at the cursor: words, nothing for the name of a file, or - for nothing that is known.
+_whatif_words() {
+  local typed=$2 command='' file='' option='' closed='' places=0 at
+  for ((at = 1; at < COMP_CWORD; at++)); do
+    case $closed${COMP_WORDS[at]} in
+      --) closed=after- ;;
+      --top | --workers)
+        option=${COMP_WORDS[at]}
+        if [ "${COMP_WORDS[at + 1]}" = = ]; then at=$((at + 1)); fi
+        at=$((at + 1))
+        ;;
+      -?*) ;;
+      *)
+        if [ -z "$command" ]; then
+          command=${COMP_WORDS[at]}
+        else
+          places=$((places + 1))
+          if [ "$places" -eq 1 ]; then file=${COMP_WORDS[at]}; fi
+        fi
+        ;;
+    esac
+  done
+  if [ "$at" -gt "$COMP_CWORD" ]; then
+    if [ "$option" = --workers ]; then echo {1..16}; else echo -; fi
+  elif [[ -z $closed && $typed == -?* || -z $closed && $typed == - ]]; then
+    case $command in
+      sweep) echo --top -h --help ;;
+      many) echo --workers -h --help ;;
+      help) echo - ;;
+      *) echo -h --help ;;
+    esac
+  elif [ -z "$command" ]; then
+    echo report explain sweep serve many help
+  else
+    case $command:$places in
+      help:0) echo report explain sweep serve many help ;;
+      explain:1 | sweep:1) _whatif_stages "$1" "$file" ;;
+      report:0 | explain:0 | sweep:0 | serve:0 | many:*) ;;
+      *) echo - ;;
+    esac
+  fi
+}
+
+_whatif() {
+  local found word
+  COMPREPLY=()
+  found=$(_whatif_words "$1" "$2")
+  if [ "$found" = - ]; then
+    compopt +o default 2>/dev/null
+  elif [ -n "$found" ]; then
+    while IFS= read -r word; do COMPREPLY+=("$word"); done < <(compgen -W "$found" -- "$2")
+  fi
+}
+
+complete -o default -F _whatif whatif

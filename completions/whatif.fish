@@ -1,0 +1,48 @@
+# Completion of whatif for fish: put this file into ~/.config/fish/completions.
+
+set -l commands report explain sweep serve many help
+
+# The words after the command that are no options and no option's value.
+function __whatif_places
+    set -l words (commandline -opc)
+    set -l found
+    set -l at 2
+    while test $at -le (count $words)
+        switch $words[$at]
+            case --top --workers
+                set at (math $at + 1)
+            case '-?*'
+            case '*'
+                set -a found $words[$at]
+        end
+        set at (math $at + 1)
+    end
+    string join \n -- $found[2..-1]
+end
+
+function __whatif_has_places
+    test (count (__whatif_places)) -eq $argv[1]
+end
+
+# The stages of the recording in a file, as `report` names them.
+function __whatif_stages
+    set -l whatif (commandline -opc)[1]
+    set -l file (__whatif_places)[1]
+    test -f "$file"; and env WHATIF_NO_BUILD=1 $whatif report $file 2>/dev/null | string replace -r ' .*' '' | tail -n +2
+end
+
+complete -c whatif -f
+complete -c whatif -n "not __fish_seen_subcommand_from $commands" -a report -d 'Print each stage of a recording'
+complete -c whatif -n "not __fish_seen_subcommand_from $commands" -a explain -d 'Print how a stage ended, and why it is late or pending'
+complete -c whatif -n "not __fish_seen_subcommand_from $commands" -a sweep -d 'Print which stages would make a stage complete sooner'
+complete -c whatif -n "not __fish_seen_subcommand_from $commands" -a serve -d 'Answer the steps that come on standard input'
+complete -c whatif -n "not __fish_seen_subcommand_from $commands" -a many -d 'Answer several scripts at once'
+complete -c whatif -n "not __fish_seen_subcommand_from $commands" -a help -d 'Print help'
+complete -c whatif -n "not __fish_seen_subcommand_from help" -s h -l help -d 'Print help'
+
+complete -c whatif -n "__fish_seen_subcommand_from report explain sweep serve; and __whatif_has_places 0" -F
+complete -c whatif -n "__fish_seen_subcommand_from explain sweep; and __whatif_has_places 1" -a '(__whatif_stages)'
+complete -c whatif -n "__fish_seen_subcommand_from sweep" -l top -x -d 'Print the first N stages alone'
+complete -c whatif -n "__fish_seen_subcommand_from many" -F
+complete -c whatif -n "__fish_seen_subcommand_from many" -l workers -x -a '(seq 16)' -d 'How many threads compute for each script'
+complete -c whatif -n "__fish_seen_subcommand_from help; and __whatif_has_places 0" -a "$commands"
