@@ -97,15 +97,15 @@ def cycle_of(stages):
 
 
 def longest(stages):
-    """A chain in which each action is queued and runs as long as it may."""
-    root = stage("async", "s0", queued=MOST_TICKS, runs=MOST_TICKS, action=0)
+    """A chain in which each action is queued and runs as long as it may, from the latest creation on."""
+    root = stage("async", "s0", created=MOST_TICKS, queued=MOST_TICKS, runs=MOST_TICKS, action=0)
     rest = [stage("thenRun", f"s{it}", sources=[f"s{it - 1}"], queued=MOST_TICKS, runs=MOST_TICKS, action=0) for it in range(1, stages)]
     return recording(root, *rest, form=2)
 
 
 def longest_report(stages):
-    rest = [f"s{it} thenRun rank {it} value:null at {(it + 1) * 2 * MOST_TICKS}" for it in range(1, stages)]
-    return lines(head(stages), f"s0 async rank 0 value:0 at {2 * MOST_TICKS}", *rest)
+    rest = [f"s{it} thenRun rank {it} value:null at {(3 + 2 * it) * MOST_TICKS}" for it in range(1, stages)]
+    return lines(head(stages), f"s0 async rank 0 value:0 at {3 * MOST_TICKS}", *rest)
 
 
 def each_touched():
