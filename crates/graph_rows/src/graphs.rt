@@ -225,6 +225,36 @@ fn edit_list_refusals(rt: HostRuntime) -> Result<(), Fail> {
     in_each(&rt, rt.alloc(), FIRST_RUN, &rows)
 }
 
+/// Names of which all bits but a few of the first byte are the same, and names that come back.
+#[test]
+fn names_that_come_and_go(rt: HostRuntime) -> Result<(), Fail> {
+    let rows = [
+        (
+            r#"{"do":"edits","session":1,"edits":[{"do":"add","new":{"name":"ab","op":"manual"}},
+                {"do":"add","new":{"name":"qb","op":"manual"}},{"do":"add","new":{"name":"1b","op":"manual"}},
+                {"do":"remove","stage":"ab"},{"do":"add","new":{"name":"x","op":"thenApply","sources":["qb"],"action":0}},
+                {"do":"add","new":{"name":"ab","op":"thenApply","sources":["1b"],"action":0}}]}"#,
+            "a;b 0;-;qb;1b;x 3;ab 4;",
+        ),
+        (
+            r#"{"do":"edits","session":1,"edits":[{"do":"add","new":{"name":"ab","op":"manual"}},
+                {"do":"add","new":{"name":"qb","op":"manual"}},{"do":"add","new":{"name":"qb","op":"manual"}}]}"#,
+            "11 NameTaken in 2",
+        ),
+        (
+            r#"{"do":"edits","session":1,"edits":[{"do":"add","new":{"name":"ab","op":"manual"}},
+                {"do":"remove","stage":"ab"},{"do":"remove","stage":"ab"}]}"#,
+            "10 NoStage in 2",
+        ),
+        (
+            r#"{"do":"edits","session":1,"edits":[{"do":"remove","stage":"b"},{"do":"add","new":{"name":"ab","op":"manual"}},
+                {"do":"rewire","stage":"a","sources":["b"],"inner":[]}]}"#,
+            "13 Arity in 2",
+        ),
+    ];
+    in_each(&rt, rt.alloc(), FIRST_RUN, &rows)
+}
+
 #[test]
 fn session_refusals(rt: HostRuntime) -> Result<(), Fail> {
     let rows = [(

@@ -12,3 +12,4 @@ pub mod Reading
 pub mod Outcomes
 pub mod Turns
 pub mod Naming
+pub mod FirstDependents

@@ -1,8 +1,8 @@
 -- A whole propagation: how it begins, and what it ends with.
 use Rattle.std.proofs.Common.{◌≡◌, ℕ, ◌<◌, Bool, true, false, cond, List, [], Option, Some, None, length, refl, ap, sym, ◌∙◌, arith, ⊎_elim}
-use Rattle.std.specs.Prelude.{not, ◌&&◌, suc, is_some, if◌then◌else◌}
+use Rattle.std.specs.Prelude.{not, ◌&&◌, ◌||◌, suc, is_some, if◌then◌else◌}
 use Rattle.std.specs.List.{list_any}
-use Rattle.std.proofs.lemmas.Bool.{or_cases, or_left, and_parts, true≢false, false≢true, cases_Bool, cond-true, cond-false}
+use Rattle.std.proofs.lemmas.Bool.{or_cases, or_left, and_from, and_parts, true≢false, false≢true, cases_Bool, cond-true, cond-false}
 use Rattle.stage_graph.specs.declared.stage.Stage.{Stage}
 use Rattle.stage_graph.specs.Plain.{stage_at}
 use Rattle.stage_graph.specs.Walk.{rank}
@@ -11,11 +11,11 @@ use Rattle.stage_ops.specs.States.{pending, seen_at}
 use Rattle.stage_ops.specs.Evaluation.{at, ReadsDecide}
 use Rattle.rank_order.specs.Lists.{is_among}
 use Rattle.stage_graph.specs.Plain.{all_places}
-use Rattle.propagate.specs.Reach.{Stages, Step, come_to, reads_at, is_reached, is_touched, touched}
-use Rattle.propagate.proofs.Members.{same_tests, some_passes}
+use Rattle.propagate.specs.Reach.{Stages, StaysUntouched, Step, come_to, reads_at, is_reached, is_touched, touched}
+use Rattle.propagate.proofs.Members.{same_tests, some_passes, false_unless}
 use Rattle.propagate.proofs.Scratch.{scratch_meets}
 use Rattle.propagate.proofs.Ranks.{rank_below, live_within}
-use Rattle.propagate.proofs.Steps.{IsRankedChange, IsProgress, is_computed_change, is_reached_so_far, touched_below, holds_below}
+use Rattle.propagate.proofs.Steps.{IsRankedChange, IsProgress, is_computed_change, is_reached_so_far, touched_below, holds_below, untouched_same}
 use Rattle.propagate.proofs.Ascending.{IsBefore, ascends_from_pairs, same_ascending, among_levels, levels_among, levels_ascend, range_among, before_strict}
 
 pub empty_none : (stage : Option Stage) → is_some stage ≡ false → stage ≡ None
@@ -87,3 +87,19 @@ module _ {step : Step} (law : ReadsDecide step) {old new : Stages} {edited : ℕ
       (λ s. same_tests (is_among s computed) (is_among s (touched step old new edited))
       (λ c. touched_listed step edit s (progress.each_touched s c))
       (λ c. let (low, within, t) = among_levels new (is_touched step old new edited) (all_places new) 0 (length new) s c in all_computed s t))
+
+-- what is not among the touched places stays what it was
+pub stays_untouched : {step : Step} → ReadsDecide step → {old new : Stages} {edited : ℕ → Bool} → IsRankedChange old new edited → (found : List ℕ) → found ≡ touched step old new edited
+    → StaysUntouched (at step) (at step) old new found
+stays_untouched {step} law {old} {new} {edited} edit found is s live elsewhere =
+    let none : is_reached step old edited (seen_at (at step new)) s ≡ false =
+    false_unless (is_reached step old edited (seen_at (at step new)) s)
+    (λ reached. false_is_true (sym elsewhere ∙ ap (is_among s) is
+    ∙ touched_listed step edit s (and_from (is_some (stage_at new s)) (is_reached step old edited (seen_at (at step new)) s) live reached))) in
+    (edit.change.elsewhere s (no_edit (edited s) _ none), sym (untouched_same law edit s none)) where
+      false_is_true : false ≡ true → ⊥
+      false_is_true e = cc
+
+      no_edit : (e other : Bool) → (e || other) ≡ false → e ≡ false
+      no_edit false other none = refl
+      no_edit true other none = cc

@@ -1,3 +1,4 @@
 pub mod Completions
 pub mod Reach
 pub mod Patched
+pub mod KeptStates

@@ -1,5 +1,5 @@
 -- What a change of a graph touches.
-use Rattle.std.specs.Prelude.{◌≡◌, ℕ, ◌<◌, ◌≤◌, Bool, false, not, List, [], ◌++◌, length, Option, Some, None, ◌==◌, ◌&&◌, ◌||◌, filter, is_some, slice_get, slice_index_or}
+use Rattle.std.specs.Prelude.{◌≡◌, ℕ, ◌<◌, ◌≤◌, Bool, true, false, not, List, [], ◌++◌, length, Option, Some, None, ◌==◌, ◌&&◌, ◌||◌, filter, is_some, slice_get, slice_index_or}
 use Rattle.std.specs.List.{list_any, flat_map}
 use Rattle.std.specs.Option.{option_to_list}
 use Rattle.stage_graph.specs.declared.stage.Stage.{Stage}
@@ -85,3 +85,8 @@ is_told stages before after place feed =
 pub record AreStates (step : Step) (stages : Stages) (states : List State) : Type 0 where
   pub count : length states ≡ length stages
   pub each : (place : ℕ) → state_at states place ≡ at step stages place
+
+-- a stage that is not among the touched ones stays what it was, and comes to what it came to
+abbrev pub StaysUntouched : (Stages → ℕ → State) → (Stages → ℕ → State) → Stages → Stages → List ℕ → Type 0
+StaysUntouched came comes old new touched = (place : ℕ) → is_some (stage_at new place) ≡ true → is_among place touched ≡ false
+    → (stage_at new place ≡ stage_at old place) × (comes new place ≡ came old place)

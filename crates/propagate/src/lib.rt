@@ -2,6 +2,7 @@
 #![tactic(auto)]
 
 mod completions;
+mod kept;
 mod levels;
 mod patched;
 mod readers;
@@ -10,6 +11,7 @@ mod representation;
 mod spread;
 mod states;
 
+pub use kept::KeptState;
 pub use patched::{Old, Patched, propagate};
 pub use representation::StateRepresentation;
 pub use states::States;

@@ -1,12 +1,14 @@
 //! Edits of a graph with its order and its states.
 ghost use Rattle.std.specs.Prelude.{◌≡◌, ◌≤◌, ◌+◌, ◌^◌, IfOk, IfErr, OnOk, OnErr, Ok, Err, vec_len};
 ghost use Rattle.stage_graph.specs.Changes.{changed, IsNewCycle, IsSettled};
-ghost use Rattle.stage_graph.specs.Kept.{IsChangeBy};
+ghost use Rattle.stage_graph.specs.Kept.{AreFirstDependents, IsChangeBy};
 ghost use Rattle.stage_graph.specs.Walk.{IsRanked};
 ghost use Rattle.rank_order.specs.Orders.{order_of};
-ghost use Rattle.propagate.specs.Reach.{AreStates};
+ghost use Rattle.stage_ops.specs.Evaluation.{at};
+ghost use Rattle.propagate.specs.Reach.{AreStates, StaysUntouched};
 ghost use Rattle.propagate.specs.Patched.{touched_by, IsCountOf};
 
+use crate::readers::users_of;
 use crate::representation::StateRepresentation;
 use crate::spread::propagate_change;
 use crate::states::States;
@@ -35,6 +37,22 @@ pub struct Patched<R: StateRepresentation> {
     pub states: States<R>,
     /// The stages that were computed, by rank and then by place.
     pub touched: Vec<u32>,
+}
+
+/// The dependents of the stage that the first edit speaks of.
+fn first_dependents<'a, R: StateRepresentation>(
+    graph: &Graph<R>,
+    order: &'a Order<R>,
+    edits: &Edits,
+) -> &'a [u32]
+    requires { order.now.graph ≡ graph.now }
+    ensures { AreFirstDependents graph.now.places edits.now result.now }
+{
+    let edits = edits.as_slice();
+    match graph.id_of(edits[0].name().as_str()) {
+        Some(place) => users_of(order, place),
+        None => &[],
+    }
 }
 
 /// The order of the changed graph, or the refusal of edits that close a cycle.
@@ -81,6 +99,9 @@ pub fn propagate<R: StateRepresentation, N: Sync, O: StageOps<N> + Sync, W: Runn
     ensures states { IfOk result (λ patched. AreStates (O.step ops.now patched.graph.mode) patched.graph.places patched.states) }
     ensures touched { IfOk result (λ patched. patched.touched.items
         ≡ touched_by (O.step ops.now patched.graph.mode) edits.now old.entry.graph.now.places patched.graph.places) }
+    // A stage that is not touched stays what it was, and comes to what it came to.
+    ensures untouched { IfOk result (λ patched. StaysUntouched (at (O.step ops.now old.entry.graph.now.mode)) (at (O.step ops.now patched.graph.mode))
+        old.entry.graph.now.places patched.graph.places patched.touched.items) }
     // One pass was taken for each touched stage.
     ensures counted { IfOk result (λ patched. meter.new ≡ meter.old + vec_len patched.touched) }
     ensures fault { IfErr result (λ fault. IsSettled (IsNewCycle edits.now) (Err fault) (changed edits.now old.entry.graph.now)) }
@@ -88,7 +109,11 @@ pub fn propagate<R: StateRepresentation, N: Sync, O: StageOps<N> + Sync, W: Runn
         (changed edits.now old.entry.graph.now) meter.old meter.new) }
 {
     let before = old.graph.deref();
-    let changed = match before.change(alloc, edits) {
+    let changed = match before.change_among(
+        alloc,
+        Some(first_dependents(before, old.order, edits)),
+        edits,
+    ) {
         Ok(changed) => changed,
         Err(fault) => return Err(fault),
     };

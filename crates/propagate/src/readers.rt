@@ -20,7 +20,7 @@ use stage_ops::{Look, State};
 use std::alloc::{AllocError, Global};
 
 /// The places whose stages have the stage at a place as a feed.
-fn users_of<R: OrderRepresentation>(order: &Order<R>, place: u32) -> &[u32]
+pub(crate) fn users_of<R: OrderRepresentation>(order: &Order<R>, place: u32) -> &[u32]
     requires { IsLive order.now.graph.places place }
     ensures { result.now ≡ dependents order.now.graph.places place }
 {

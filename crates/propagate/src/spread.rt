@@ -3,10 +3,10 @@ ghost use Rattle.std.specs.Prelude.{◌≡◌, ◌<◌, ◌≤◌, ◌+◌, ◌^
 ghost use Rattle.act_expr.specs.declared.outcome.Mode.{Mode};
 ghost use Rattle.stage_graph.specs.Sound.{IsSound};
 ghost use Rattle.stage_graph.specs.Walk.{IsRanked};
-ghost use Rattle.stage_ops.specs.Evaluation.{ReadsDecide, IsSoon};
+ghost use Rattle.stage_ops.specs.Evaluation.{ReadsDecide, IsSoon, at};
 ghost use Rattle.level_pool.specs.declared.fault.PoolFault.TheVariants.{Memory};
 ghost use Rattle.rank_order.specs.Lists.{is_among};
-ghost use Rattle.propagate.specs.Reach.{IsChange, AreStates, touched};
+ghost use Rattle.propagate.specs.Reach.{IsChange, AreStates, StaysUntouched, touched};
 
 use crate::levels::compute_level;
 use crate::readers::{first_marks, mark_level};
@@ -60,6 +60,9 @@ pub(crate) fn propagate_change<R: StateRepresentation, N: Sync, O: StageOps<N> +
     // The computed stages are the touched ones, in their order, and each was computed once.
     ensures touched { IfOk result (λ reached. reached.touched.items
         ≡ touched (O.step ops.now graph.now.mode) old.now.places graph.now.places (λ place. is_among place edited.now)) }
+    // All others stay what they were.
+    ensures untouched { IfOk result (λ reached. StaysUntouched (at (O.step ops.now graph.now.mode)) (at (O.step ops.now graph.now.mode))
+        old.now.places graph.now.places reached.touched.items) }
     ensures counted { IfOk result (λ reached. meter.new ≡ meter.old + vec_len reached.touched) }
     ensures refused { OnErr result ((meter.old ≤ meter.new) × (meter.new
         ≤ meter.old + length (touched (O.step ops.now graph.now.mode) old.now.places graph.now.places (λ place. is_among place edited.now)))) }

@@ -7,6 +7,7 @@ ghost use Rattle.stage_ops.specs.States.{pending, state_at};
 ghost use Rattle.scratch_eval.specs.Answers.{answer_at, state_of, AreAnswers};
 ghost use Rattle.propagate.specs.Reach.{is_emptied, Step, AreStates};
 
+use crate::kept::KeptState;
 use crate::representation::StateRepresentation;
 use scratch_eval::Answers;
 use share_tree::{Again, Held, KeepFault, Keeps};
@@ -14,7 +15,6 @@ use stage_graph::Graph;
 use stage_ops::{Look, State};
 use std::alloc::{AllocError, Global};
 use std::marker::Model;
-use std::ops::Deref;
 
 /// The state of each place. Contracts see the list.
 #[derive(Drop)]
@@ -37,7 +37,7 @@ impl<R: StateRepresentation> Look for States<R> {
     /// Takes no memory.
     fn state(&self, place: u32) -> State {
         match self.list.get(place as usize) {
-            Some(held) => *held.deref(),
+            Some(kept) => kept.state(),
             None => unreachable!(),
         }
     }
@@ -92,7 +92,7 @@ impl<R: StateRepresentation> States<R> {
         ensures { result ≡ slice_get self.now place }
     {
         match self.list.get(place as usize) {
-            Some(held) => Some(*held.deref()),
+            Some(kept) => Some(kept.state()),
             None => None,
         }
     }
@@ -102,8 +102,8 @@ impl<R: StateRepresentation> States<R> {
         requires { place < length self.old }
         ensures { OnOk result (self.new ≡ slice_set self.old place state) }
     {
-        let held = Held::new(alloc, state)?;
-        self.list.write(place as usize, held)
+        let kept = Held::new(alloc, KeptState::new(alloc, state)?)?;
+        self.list.write(place as usize, kept)
     }
 
     /// Adds the state of one place more.
@@ -111,8 +111,8 @@ impl<R: StateRepresentation> States<R> {
         requires { length self.old < 65536 }
         ensures { OnOk result (self.new ≡ self.old ++ state ∷ []) }
     {
-        let held = Held::new(alloc, state)?;
-        match self.list.add(held) {
+        let kept = Held::new(alloc, KeptState::new(alloc, state)?)?;
+        match self.list.add(kept) {
             Ok(()) => Ok(()),
             Err(KeepFault::Memory) => Err(AllocError),
             Err(KeepFault::Full) => unreachable!(),

@@ -1,2 +1,3 @@
 pub mod LinesOfOne
 pub mod LinesOfPlaces
+pub mod Untouched

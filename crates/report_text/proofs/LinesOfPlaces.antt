@@ -1,7 +1,8 @@
 -- The lines of the places that are left.
-use Rattle.std.proofs.Common.{◌≡◌, ℕ, ◌+◌, ◌-◌, ◌<◌, suc, zero, Bool, true, false, cond, List, [], ◌∷◌, ◌++◌, arith, sym, ap, ◌∙◌, subst, append_assoc, length, drop, get_or, drop-cons, add-one, Option, Result, Ok, Err, OnErr}
+use Rattle.std.proofs.Common.{◌≡◌, ℕ, ◌+◌, ◌-◌, ◌<◌, suc, zero, Bool, true, false, cond, List, [], ◌∷◌, ◌++◌, arith, sym, ap, ◌∙◌, subst, append_assoc, length, drop, take, get_or, drop-cons, add-one, Option, Result, Ok, Err, OnErr}
 use Rattle.std.proofs.KnownBytes.{Appends-trans}
 use Rattle.std.specs.List.{count_by, flat_map, range_with_len, sum_by}
+use Rattle.std.proofs.lemmas.List.{take_more}
 use Rattle.std.proofs.lemmas.List.Sums.{sum_by-append}
 use Rattle.std.specs.Io.KnownBytes.{Appends}
 use Rattle.text_io.specs.Sink.{AppendsBut, AppendsPrefix}
@@ -86,3 +87,21 @@ pub counts_no_line : (p : ℕ → Bool) (n count next : ℕ) (has : Bool) → co
 counts_no_line p n count next has so_far is has_none same =
     let none : count_by p (range_with_len 0 n) ≡ count_by p (range_with_len 0 n) + 0 = omega arith in
     same ∙ so_far ∙ none ∙ ap (λ (b : Bool). count_by p (range_with_len 0 n) + cond b 1 0) (sym has_none ∙ is) ∙ sym (count_more p n)
+
+-- the same of listed places
+taken_more : (p : ℕ → Bool) (places : List ℕ) (i : ℕ) → i < length places → count_by p (take (i + 1) places) ≡ count_by p (take i places) + cond (p (get_or places i 0)) 1 0
+taken_more p places i within =
+    let place = get_or places i 0 in
+    let of_one : sum_by (λ x. cond (p x) 1 0) (place ∷ []) ≡ cond (p place) 1 0 = omega arith in
+    ap (count_by p) (take_more places i 0 within) ∙ sum_by-append (λ x. cond (p x) 1 0) (take i places) (place ∷ []) ∙ ap (λ m. count_by p (take i places) + m) of_one
+
+pub counts_listed : (p : ℕ → Bool) (places : List ℕ) (i count next : ℕ) (has : Bool) → i < length places → count ≡ count_by p (take i places) → has ≡ p (get_or places i 0) → has ≡ true → next ≡ count + 1
+    → next ≡ count_by p (take (i + 1) places)
+counts_listed p places i count next has within so_far is has_line more =
+    more ∙ ap (λ m. m + 1) so_far ∙ ap (λ (b : Bool). count_by p (take i places) + cond b 1 0) (sym has_line ∙ is) ∙ sym (taken_more p places i within)
+
+pub counts_no_listed : (p : ℕ → Bool) (places : List ℕ) (i count next : ℕ) (has : Bool) → i < length places → count ≡ count_by p (take i places) → has ≡ p (get_or places i 0) → has ≡ false → next ≡ count
+    → next ≡ count_by p (take (i + 1) places)
+counts_no_listed p places i count next has within so_far is has_none same =
+    let none : count_by p (take i places) ≡ count_by p (take i places) + 0 = omega arith in
+    same ∙ so_far ∙ none ∙ ap (λ (b : Bool). count_by p (take i places) + cond b 1 0) (sym has_none ∙ is) ∙ sym (taken_more p places i within)

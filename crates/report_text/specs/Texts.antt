@@ -128,6 +128,9 @@ shift_line stage (Some shift) = stage.name ++ codes " " ++ shift_text shift ++ l
 abbrev pub drift_line : PlainVersion → ℕ → Stage → List ℕ
 drift_line version place stage = shift_line stage (shift_at version place)
 
+abbrev pub drift_at : PlainVersion → ℕ → List ℕ
+drift_at version place = line_of (drift_line version) place (stage_at version.graph.places place)
+
 -- how many stages have such a line
 abbrev pub shifted_count : PlainVersion → ℕ
 shifted_count version = count_by (λ place. is_some (shift_at version place)) (all_places version.graph.places)

@@ -25,7 +25,6 @@ pub(crate) fn push_header<R: StateRepresentation>(
     match lines {
         Lines::States => push_all_header(line, version, count),
         Lines::Times => push_times_header(line, version, count),
-        Lines::Shifts => push_drift_header(line, version, count),
         Lines::ChangesAgainst => push_changes_against_header(line, version, against, count),
         Lines::ShiftsAgainst => push_drift_against_header(line, version, against, count),
     }
@@ -82,7 +81,8 @@ fn push_comparison<R: StateRepresentation>(
     push_parent(line, version)
 }
 
-fn push_drift_header<R: StateRepresentation>(
+/// Puts the first line of the report of moved stages at the end of a text.
+pub(crate) fn push_drift_header<R: StateRepresentation>(
     line: &mut String,
     version: &Version<R>,
     count: usize,

@@ -3,7 +3,6 @@
 
 mod against;
 mod blame;
-mod changes;
 mod comparison;
 mod fault;
 mod headers;
@@ -14,6 +13,7 @@ mod queries;
 mod reporting;
 mod shift;
 mod sweep;
+mod touched;
 mod what;
 mod words;
 mod writing;

@@ -2,11 +2,10 @@
 ghost use Rattle.std.specs.Prelude.{◌≡◌, ◌++◌, Some, OnOk, string_bytes};
 ghost use Rattle.stage_graph.specs.Plain.{stage_at};
 ghost use Rattle.report_text.specs.Lines.{has_line, line_count, place_line};
-ghost use Rattle.report_text.specs.Texts.{drift_line, stage_line, times_line};
+ghost use Rattle.report_text.specs.Texts.{stage_line, times_line};
 
 use crate::against::{is_changed, push_change_against, push_drift_against, shift_against};
 use crate::queries::{rank_of, start_of, state_of};
-use crate::shift::Shift;
 use crate::words::push_number_or_dash;
 use propagate::StateRepresentation;
 use stage_graph::Stage;
@@ -21,8 +20,6 @@ pub(crate) enum Lines {
     States,
     /// When its action started, and how long it was queued and ran.
     Times,
-    /// How much later or earlier than in the parent it completes, if it does.
-    Shifts,
     /// What it is in another version and here, if that is not the same.
     ChangesAgainst,
     /// How much later or earlier than in another version it completes, if it does.
@@ -57,7 +54,6 @@ fn has_line<R: StateRepresentation>(
 {
     match lines {
         Lines::States | Lines::Times => version.graph().stage(place).is_some(),
-        Lines::Shifts => Shift::at(version, place).is_some(),
         Lines::ChangesAgainst => match version.graph().stage(place) {
             Some(stage) => is_changed(version, against, place, stage),
             None => false,
@@ -85,7 +81,6 @@ pub(crate) fn push_line<R: StateRepresentation>(
     match lines {
         Lines::States => push_stage(line, version, place, stage),
         Lines::Times => push_times(line, version, place, stage),
-        Lines::Shifts => push_drift(line, version, place, stage),
         Lines::ChangesAgainst => push_change_against(line, version, against, place, stage),
         Lines::ShiftsAgainst => push_drift_against(line, version, against, place, stage),
     }
@@ -122,19 +117,4 @@ fn push_times<R: StateRepresentation>(
     write!(line, "{name} start ")?;
     push_number_or_dash(line, start_of(version, place))?;
     writeln!(line, " queued {queued} runs {runs}")
-}
-
-fn push_drift<R: StateRepresentation>(
-    line: &mut String,
-    version: &Version<R>,
-    place: u32,
-    stage: &Stage,
-) -> Result<(), AllocError>
-    ensures { OnOk result (string_bytes line.new ≡ string_bytes line.old ++ drift_line version.now place stage.now) }
-{
-    let name = stage.name.as_str();
-    match Shift::at(version, place) {
-        Some(shift) => writeln!(line, "{name} {shift}"),
-        None => Ok(()),
-    }
 }

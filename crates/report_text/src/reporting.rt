@@ -6,12 +6,12 @@ ghost use Rattle.report_text.specs.AgainstTexts.{comparison_text};
 ghost use Rattle.report_text.specs.Reports.{failed_writes, text};
 
 use crate::blame::write_blame;
-use crate::changes::write_changes;
 use crate::comparison::Comparison;
 use crate::fault::ReportFault;
 use crate::lines::Lines;
 use crate::one::write_one;
 use crate::path::write_path;
+use crate::touched::{write_changes, write_drift};
 use crate::what::What;
 use crate::writing::write_lines;
 use propagate::StateRepresentation;
@@ -42,7 +42,7 @@ pub fn report<R: StateRepresentation, S: Sink>(
         What::Blame(place) => write_blame(alloc, &mut line, version, place, sink),
         What::Path(place) => write_path(alloc, &mut line, version, place, sink),
         What::Changes => write_changes(&mut line, version, sink),
-        What::Drift => write_lines(&mut line, Lines::Shifts, version, version, sink),
+        What::Drift => write_drift(alloc, &mut line, version, sink),
         What::Times => write_lines(&mut line, Lines::Times, version, version, sink),
     }
 }

@@ -12,3 +12,5 @@ pub mod Ranked
 pub mod Searching
 pub mod Turning
 pub mod Kept
+pub mod Telling
+pub mod FirstUser

@@ -15,8 +15,8 @@ use Rattle.stage_graph.specs.Plain.{stage_at, has_name, place_named, feeds_of, I
 use Rattle.stage_graph.specs.Edits.{first_user}
 use Rattle.stage_graph.specs.Sound.{IsSound, IsSoundStage, IsLawful}
 use Rattle.stage_graph.proofs.Lists.{set_cases}
-use Rattle.stage_graph.proofs.Positions.{position_push, none_before}
-use Rattle.stage_graph.proofs.Placing.{place_from_live, place_named-set}
+use Rattle.stage_graph.proofs.Positions.{position_push, position_none, none_before}
+use Rattle.stage_graph.proofs.Placing.{place_from_live, live_from_name, named_at, place_named-set}
 
 module _ (mode : Mode) (places : List (Option Stage)) (stage : Stage) where
   long : length (places ++ Some stage ∷ []) ≡ length places + 1
@@ -28,6 +28,18 @@ module _ (mode : Mode) (places : List (Option Stage)) (stage : Stage) where
   pub names_after_append : (name : List ℕ) → place_named (places ++ Some stage ∷ []) name
       ≡ cond (is_some (place_named places name)) (place_named places name) (cond (bytes_eq stage.name name) (Some (length places)) None)
   names_after_append name = position_push (has_name name) places (Some stage)
+
+  -- the place of the new stage's name, and those of the others
+  pub found_after_append : place_named places stage.name ≡ None → (name : List ℕ)
+      → cond (bytes_eq stage.name name) (Some (length places)) (place_named places name) ≡ place_named (places ++ Some stage ∷ []) name
+  found_after_append free name = by_name (place_named places name) (bytes_eq stage.name name) (λ same.
+      ap (place_named places) (sym ((bytes_eq-Decides stage.name name).0 same)) ∙ free) ∙ sym (names_after_append name) where
+        by_name : (old : Option ℕ) (same : Bool) → (same ≡ true → old ≡ None)
+            → cond same (Some (length places)) old ≡ cond (is_some old) old (cond same (Some (length places)) None)
+        by_name None true absent = refl
+        by_name None false absent = refl
+        by_name (Some first) false absent = refl
+        by_name (Some first) true absent = let clash : Some first ≡ None = absent refl in cc
 
   pub sound_after_append : length places < 65536 → place_named places stage.name ≡ None → stage.place ≡ length places → IsLawful stage → All (IsLive places) (feeds_of stage)
       → IsSound (record { mode = mode; places = places }) → IsSound (record { mode = mode; places = places ++ Some stage ∷ [] })
@@ -76,6 +88,43 @@ module _ (mode : Mode) (places : List (Option Stage)) (kept : IsSound (record { 
       let same : stage.name ≡ found.name = (bytes_eq-Decides stage.name found.name).0 at in
       let one : Some place ≡ Some other = sym (kept.stages place stage is).by_name ∙ ap (place_named places) same ∙ (kept.stages other found there).by_name in
       absurd (differ (sym (same_Some place other one)))
+
+  -- no other place has the name
+  not_elsewhere : (name : List ℕ) (place other : ℕ) → place_named places name ≡ Some place → other ≢ place → (here : Option Stage) → stage_at places other ≡ here
+      → (named : Bool) → has_name name here ≡ named → named ≡ false
+  not_elsewhere name place other at differ None is named here = sym here
+  not_elsewhere name place other at differ (Some stage) is false here = refl
+  not_elsewhere name place other at differ (Some stage) is true here =
+      let same : stage.name ≡ name = (bytes_eq-Decides stage.name name).0 here in
+      let one : Some place ≡ Some other = sym at ∙ ap (place_named places) (sym same) ∙ (kept.stages other stage is).by_name in
+      absurd (differ (sym (same_Some place other one)))
+
+  module _ (name : List ℕ) (place : ℕ) (at : place_named places name ≡ Some place) where
+    abbrev vacant : List (Option Stage)
+    vacant = set places place None
+
+    pub live_named : IsLive places place
+    live_named = live_from_name name (stage_at places place) (named_at places name place at).1
+
+    nobody : (other : ℕ) → has_name name (stage_at vacant other) ≡ false
+    nobody other = elim (set_cases places place other None None (named_at places name place at).0) [
+      | inl (same, now) ↦ ap (has_name name) now
+      | inr (differ, now) ↦ ap (has_name name) now ∙ not_elsewhere name place other at differ (stage_at places other) refl (has_name name (stage_at places other)) refl
+    ]
+
+    others : (other : List ℕ) → bytes_eq name other ≡ false → place_named vacant other ≡ place_named places other
+    others other differ = place_named-set places place None other (sym (not_named (stage_at places place) (named_at places name place at).1)) where
+      not_named : (here : Option Stage) → has_name name here ≡ true → has_name other here ≡ false
+      not_named None named = refl
+      not_named (Some stage) named = ap (λ own. bytes_eq own other) ((bytes_eq-Decides stage.name name).0 named) ∙ differ
+
+    -- the name has no place, and the others have theirs
+    pub found_after_vacate : (other : List ℕ) → cond (bytes_eq name other) None (place_named places other) ≡ place_named vacant other
+    found_after_vacate other = by_name (bytes_eq name other) refl where
+      by_name : (same : Bool) → bytes_eq name other ≡ same → cond same None (place_named places other) ≡ place_named vacant other
+      by_name true is = sym (position_none (has_name other) vacant None (λ k within.
+          ap (λ own. has_name own (stage_at vacant k)) (sym ((bytes_eq-Decides name other).0 is)) ∙ nobody k))
+      by_name false is = sym (others other is)
 
   module _ (place : ℕ) (live : IsLive places place) (unused : first_user places place ≡ None) where
     within : place < length places

@@ -5,7 +5,7 @@ use Rattle.std.specs.Str.{bytes_eq}
 use Rattle.stage_graph.specs.declared.stage.Stage.{Stage}
 use Rattle.stage_graph.specs.declared.edit.Edit.{Edit}
 use Rattle.stage_graph.specs.declared.edit.Edit.TheVariants.{Remove}
-use Rattle.stage_graph.specs.Plain.{PlainGraph, stage_at, place_named, feeds_of}
+use Rattle.stage_graph.specs.Plain.{PlainGraph, stage_at, place_named, feeds_of, dependents}
 use Rattle.stage_graph.specs.Changes.{edited_name, is_edited, is_moved}
 
 -- the edit removes a stage of the name
@@ -37,6 +37,15 @@ pub record IsChangeBy (edits : List Edit) (old new : PlainGraph) : Type 0 where
   pub longer : length old.places ≤ length new.places
   pub stays_empty : (place : ℕ) → place < length old.places → stage_at old.places place ≡ None → stage_at new.places place ≡ None
   pub each : (place : ℕ) → Becomes edits (stage_at old.places place) (stage_at new.places place)
+
+-- these are the dependents of the stage of the name, if there is one
+abbrev pub AreDependentsOf : List (Option Stage) → List ℕ → List ℕ → Type 0
+AreDependentsOf places name those = (place : ℕ) → place_named places name ≡ Some place → those ≡ dependents places place
+
+-- these are the dependents of the stage that the list's first edit speaks of
+abbrev pub AreFirstDependents : List (Option Stage) → List Edit → List ℕ → Type 0
+AreFirstDependents places [] those = Unit {0}
+AreFirstDependents places (edit ∷ edits) those = AreDependentsOf places (edited_name edit) those
 
 abbrev pub listed : Option ℕ → List ℕ
 listed None = []

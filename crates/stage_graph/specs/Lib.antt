@@ -4,6 +4,7 @@ pub mod Checks
 pub mod EditLists
 pub mod Numbers
 pub mod Texts
+pub mod NameTrees
 pub mod Names
 pub mod Sound
 pub mod Edits

@@ -4,7 +4,9 @@ use Rattle.std.specs.Str.{bytes_eq}
 use Rattle.indexmap.specs.IndexMap.{get_by_text}
 use Rattle.stage_graph.specs.declared.stage.Stage.{Stage}
 use Rattle.stage_graph.specs.declared.stage.Spec.{Spec}
+use Rattle.stage_graph.specs.declared.names.FirstPlaces.{FirstPlaces}
 use Rattle.stage_graph.specs.declared.names.NameTable.{NameTable}
+use Rattle.stage_graph.specs.NameTrees.{told}
 use Rattle.stage_graph.specs.Plain.{place_named}
 
 -- the first place of a name in a list of stages with names
@@ -32,9 +34,13 @@ stage_of find place spec = record {
   ends = spec.ends;
 }
 
--- what the table has for a name
+-- the first place of a name of a list
+abbrev pub first_place : FirstPlaces → List ℕ → Option ℕ
+first_place names name = get_by_text names.places name
+
+-- what the table has for a name: what was last said of it, or else what was loaded
 abbrev pub found : NameTable → List ℕ → Option ℕ
-found table name = get_by_text table.places name
+found table name = unwrap_or (told table.since name) (first_place table.loaded name)
 
 -- the table has the place of each name
 abbrev pub IsTableOf : List (Option Stage) → NameTable → Type 0

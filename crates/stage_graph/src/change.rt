@@ -1,8 +1,8 @@
 //! What a list of edits makes of a graph, before the check for cycles.
-ghost use Rattle.std.specs.Prelude.{◌≡◌, Ok, [], ◌∷◌, IfOk};
+ghost use Rattle.std.specs.Prelude.{◌≡◌, Ok, [], ◌∷◌, IfOk, IfSome};
 ghost use Rattle.stage_graph.specs.Edits.{edited};
-ghost use Rattle.stage_graph.specs.Changes.{then_on, changed, IsChanged};
-ghost use Rattle.stage_graph.specs.Kept.{IsChangeBy};
+ghost use Rattle.stage_graph.specs.Changes.{edited_name, then_on, changed, IsChanged};
+ghost use Rattle.stage_graph.specs.Kept.{AreDependentsOf, AreFirstDependents, IsChangeBy};
 
 use crate::edit::{Edit, Edits};
 use crate::fault::{EditFault, Fault, Refused};
@@ -12,12 +12,19 @@ use std::alloc::Global;
 
 impl<R: Representation> Graph<R> {
     /// The graph that the edit of an index makes.
-    fn edit_at(&self, alloc: Global, at: usize, edit: &Edit) -> Result<Graph<R>, Fault>
+    fn edit_at(
+        &self,
+        alloc: Global,
+        at: usize,
+        edit: &Edit,
+        known: Option<&[u32]>,
+    ) -> Result<Graph<R>, Fault>
+        requires { IfSome known (λ known. AreDependentsOf self.now.places (edited_name edit.now) known.now) }
         ensures changed { IsChanged result (then_on at (edited edit.now self.now) Ok) }
         ensures kept { IfOk result (IsChangeBy (edit.now ∷ []) self.now) }
     {
         let _ = self.len();
-        match self.edit(alloc, edit) {
+        match self.edit(alloc, edit, known) {
             Ok(graph) => Ok(graph),
             Err(EditFault::Refused(refusal)) => Err(Fault::Refused(Refused { at, refusal })),
             Err(EditFault::Memory) => Err(Fault::Memory),
@@ -29,18 +36,33 @@ impl<R: Representation> Graph<R> {
     /// Each edit is checked on the graph that the earlier ones leave. The first refused edit refuses the
     /// list, and is told by its index. `Cycle` never comes. What the list speaks of by name is all that
     /// changes.
-    #[tactic(auto, unfolding(crate::specs::Changes::changed))]
     pub fn change(&self, alloc: Global, edits: &Edits) -> Result<Graph<R>, Fault>
         ensures changed { IsChanged result (changed edits.now self.now) }
         ensures kept { IfOk result (IsChangeBy edits.now self.now) }
     {
+        self.change_among(alloc, None, edits)
+    }
+
+    /// The same, where the dependents of the stage that the first edit speaks of may be known. Where they
+    /// aren't, an edit that removes a stage looks at all stages for one.
+    #[tactic(auto, unfolding(crate::specs::Changes::changed))]
+    pub fn change_among(
+        &self,
+        alloc: Global,
+        known: Option<&[u32]>,
+        edits: &Edits,
+    ) -> Result<Graph<R>, Fault>
+        requires { IfSome known (λ known. AreFirstDependents self.now.places edits.now known.now) }
+        ensures changed { IsChanged result (changed edits.now self.now) }
+        ensures kept { IfOk result (IsChangeBy edits.now self.now) }
+    {
         let edits = edits.as_slice();
-        let mut graph = match self.edit_at(alloc, 0, &edits[0]) {
+        let mut graph = match self.edit_at(alloc, 0, &edits[0], known) {
             Ok(graph) => graph,
             Err(fault) => return Err(fault),
         };
         for at in 1..edits.len() {
-            graph = match graph.edit_at(alloc, at, &edits[at]) {
+            graph = match graph.edit_at(alloc, at, &edits[at], None) {
                 Ok(graph) => graph,
                 Err(fault) => return Err(fault),
             };

@@ -106,13 +106,14 @@ impl Model for Edits {
 }
 
 impl Edits {
-    /// The list of these edits, of which there are to be 1 to 64.
-    pub fn new(items: Vec<Edit>) -> Result<Edits, ListSize>
+    /// The list of these edits, of which there are to be 1 to 64. It keeps no room for more.
+    pub fn new(mut items: Vec<Edit>) -> Result<Edits, ListSize>
         ensures { result ≡ edit_list items.items }
     {
         if items.is_empty() || items.len() > 64 {
             return Err(ListSize);
         }
+        items.shrink_to_fit();
         Ok(Edits { items })
     }
 
@@ -120,7 +121,7 @@ impl Edits {
     pub fn one(alloc: Global, edit: Edit) -> Result<Edits, AllocError>
         ensures { IfOk result (λ edits. edits ≡ edit ∷ []) }
     {
-        let mut items = Vec::new(alloc);
+        let mut items = Vec::with_capacity(alloc, 1)?;
         items.push(edit)?;
         Ok(Edits { items })
     }

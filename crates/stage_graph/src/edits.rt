@@ -1,18 +1,18 @@
 //! What one edit makes of a graph.
-ghost use Rattle.std.specs.Prelude.{◌≡◌, ◌<◌, ◌++◌, ◌∷◌, [], true, Some, None, length, slice_set, IfOk, IfErr, OnOk, is_some, if◌then◌else◌, List, ℕ};
-ghost use Rattle.stage_graph.specs.Plain.{IsLive, place_named, stage_at, has_name, stage_named, uses};
+ghost use Rattle.std.specs.Prelude.{◌≡◌, ◌<◌, ◌++◌, ◌∷◌, [], true, Some, None, length, slice_set, IfOk, IfErr, OnOk, IfSome, is_some, if◌then◌else◌, List, ℕ};
+ghost use Rattle.stage_graph.specs.Plain.{IsLive, dependents, place_named, stage_at, has_name, stage_named, uses};
 ghost use Rattle.stage_graph.specs.Sound.{IsSoundStage};
 ghost use Rattle.stage_graph.specs.Names.{IsTableOf, found};
+ghost use Rattle.stage_graph.specs.Changes.{edited_name};
+ghost use Rattle.stage_graph.specs.Kept.{AreDependentsOf};
 ghost use Rattle.stage_graph.specs.Edits.{IsAnswer, edited, changed_stage, added, appended, removed_at, first_user};
 
 use crate::edit::Edit;
 use crate::fault::{EditFault, Refusal};
 use crate::graph::Graph;
 use crate::name::Name;
-use crate::names::NameTable;
 use crate::representation::Representation;
 use crate::stage::{Spec, Stage};
-use share_tree::{Held, Keeps};
 use std::alloc::{AllocError, Global};
 
 impl Stage {
@@ -22,41 +22,6 @@ impl Stage {
     {
         self.sources.as_slice().contains(&place) || self.inner.as_slice().contains(&place)
     }
-}
-
-impl NameTable {
-    /// Sets the place of a stage's name, where there is a stage and its name has no place.
-    fn add_stage(
-        &mut self,
-        alloc: Global,
-        stage: &Option<Held<Stage>>,
-        place: usize,
-    ) -> Result<(), AllocError>
-        ensures { OnOk result ((name : List ℕ) → found self.new name
-            ≡ (if is_some (found self.old name) then found self.old name else (if has_name name stage.now then Some place else None))) }
-    {
-        match stage {
-            Some(stage) => self.add(alloc, stage.name.as_str(), place),
-            None => Ok(()),
-        }
-    }
-}
-
-/// The table of the names of stages.
-pub(crate) fn names_of<R: Representation>(
-    alloc: Global,
-    stages: &R::Stages,
-) -> Result<NameTable, AllocError>
-    ensures { IfOk result (IsTableOf (R.Stages.items stages.now)) }
-{
-    let mut names = NameTable::new(alloc);
-    for place in 0..stages.len() {
-        let Some(stage) = stages.get(place) else {
-            unreachable!()
-        };
-        names.add_stage(alloc, stage, place)?;
-    }
-    Ok(names)
 }
 
 impl<R: Representation> Graph<R> {
@@ -99,17 +64,34 @@ impl<R: Representation> Graph<R> {
         Ok(self.append(alloc, stage)?)
     }
 
+    /// The first place whose stage uses a place: the first of its dependents where they are known.
+    fn dependent_among(&self, known: Option<&[u32]>, place: u32) -> Option<u32>
+        requires { IfSome known (λ known. known.now ≡ dependents self.now.places place) }
+        ensures { result ≡ first_user self.now.places place }
+    {
+        match known {
+            Some(dependents) => dependents.first().copied(),
+            None => self.first_user(place),
+        }
+    }
+
     /// The graph without the stage of a name.
-    fn remove(&self, alloc: Global, name: &Name) -> Result<Graph<R>, EditFault>
+    fn remove(
+        &self,
+        alloc: Global,
+        name: &Name,
+        known: Option<&[u32]>,
+    ) -> Result<Graph<R>, EditFault>
+        requires { IfSome known (λ known. AreDependentsOf self.now.places name.now known.now) }
         ensures { IsAnswer result (removed_at self.now (place_named self.now.places name.now)) }
     {
         let Some(place) = self.place_of(name) else {
             return Err(EditFault::Refused(Refusal::NoStage));
         };
-        if let Some(user) = self.first_user(place) {
+        if let Some(user) = self.dependent_among(known, place) {
             return Err(EditFault::Refused(Refusal::InUse(user)));
         }
-        Ok(self.vacate(alloc, place)?)
+        Ok(self.vacate(alloc, name, place)?)
     }
 }
 
@@ -129,12 +111,18 @@ impl<R: Representation> Graph<R> {
     }
 
     /// The graph that an edit makes.
-    pub(crate) fn edit(&self, alloc: Global, edit: &Edit) -> Result<Graph<R>, EditFault>
+    pub(crate) fn edit(
+        &self,
+        alloc: Global,
+        edit: &Edit,
+        known: Option<&[u32]>,
+    ) -> Result<Graph<R>, EditFault>
+        requires { IfSome known (λ known. AreDependentsOf self.now.places (edited_name edit.now) known.now) }
         ensures { IsAnswer result (edited edit.now self.now) }
     {
         match edit {
             Edit::Add(spec) => self.add(alloc, spec),
-            Edit::Remove(name) => self.remove(alloc, name),
+            Edit::Remove(name) => self.remove(alloc, name, known),
             Edit::PinResult { name, .. } => self.change_stage(alloc, name, edit),
             Edit::PinMoment { name, .. } => self.change_stage(alloc, name, edit),
             Edit::SetTimes { name, .. } => self.change_stage(alloc, name, edit),

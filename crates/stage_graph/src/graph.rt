@@ -7,7 +7,6 @@ ghost use Rattle.stage_graph.specs.Names.{IsTableOf, found};
 ghost use Rattle.stage_graph.specs.Changes.{IsChanged};
 ghost use Rattle.stage_graph.specs.Loading.{loaded};
 
-use crate::edits::names_of;
 use crate::fault::Fault;
 use crate::load::parts_of;
 use crate::name::Name;
@@ -134,13 +133,14 @@ impl<R: Representation> Graph<R> {
         requires feeds { All (IsLive self.now.places) (feeds_of stage) }
         ensures { IfOk result (λ graph. graph ≡ appended self.now stage) }
     {
+        let place = stage.place as usize;
+        let names = self.names.with(alloc, stage.name.as_str(), Some(place))?;
         let held = Held::new(alloc, stage)?;
         let stages = match self.stages.push(Some(held)) {
             Ok(stages) => stages,
             Err(KeepFault::Memory) => return Err(AllocError),
             Err(KeepFault::Full) => unreachable!(),
         };
-        let names = names_of::<R>(alloc, &stages)?;
         Ok(Graph {
             mode: self.mode,
             stages,
@@ -148,18 +148,23 @@ impl<R: Representation> Graph<R> {
         })
     }
 
-    /// The graph with nothing at a place that no stage uses.
-    pub(crate) fn vacate(&self, alloc: Global, place: u32) -> Result<Graph<R>, AllocError>
-        requires live { IsLive self.now.places place }
+    /// The graph with nothing at the place of a name, which no stage uses.
+    pub(crate) fn vacate(
+        &self,
+        alloc: Global,
+        name: &Name,
+        place: u32,
+    ) -> Result<Graph<R>, AllocError>
+        requires named { place_named self.now.places name.now ≡ Some place }
         requires unused { first_user self.now.places place ≡ None }
         ensures { IfOk result (λ graph. graph ≡ record self.now { places = slice_set self.now.places place None }) }
     {
+        let names = self.names.with(alloc, name.as_str(), None)?;
         let stages = self.stages.set(place as usize, None)?;
-        let left = names_of::<R>(alloc, &stages)?;
         Ok(Graph {
             mode: self.mode,
             stages,
-            names: Held::new(alloc, left)?,
+            names: Held::new(alloc, names)?,
         })
     }
 

@@ -17,6 +17,7 @@ mod fault;
 mod graph;
 mod load;
 mod name;
+mod name_tree;
 mod names;
 mod op;
 mod order;

@@ -2,45 +2,93 @@
 ghost use Rattle.std.specs.Prelude.{◌≡◌, ℕ, ◌<◌, ◌^◌, List, Some, None, if◌then◌else◌, IfOk, OnOk, is_some, unwrap_or};
 ghost use Rattle.std.specs.Str.{bytes_eq};
 ghost use Rattle.stage_graph.specs.Checks.{are_known};
-ghost use Rattle.stage_graph.specs.Names.{found, places_of, stage_of};
+ghost use Rattle.stage_graph.specs.Names.{first_place, found, places_of, stage_of};
 
 use crate::checks::{Checks, checks_of};
 use crate::name::{Name, NameList, Places};
+use crate::name_tree::NameTree;
 use crate::stage::{Spec, Stage, action_again};
 use indexmap::IndexMap;
+use share_tree::{Again, Held};
 use std::alloc::{AllocError, Global};
 
-/// The first place of each name.
+/// The first place of each name of a list.
 #[derive(Drop)]
-pub(crate) struct NameTable {
+pub(crate) struct FirstPlaces {
     places: IndexMap<String, usize>,
 }
 
-impl NameTable {
-    pub(crate) fn new(alloc: Global) -> NameTable
-        ensures { (name : List ℕ) → found result name ≡ None }
+impl FirstPlaces {
+    pub(crate) fn new(alloc: Global) -> FirstPlaces
+        ensures { (name : List ℕ) → first_place result name ≡ None }
     {
-        NameTable {
+        FirstPlaces {
             places: IndexMap::new(alloc),
         }
     }
 
-    /// The place of a name.
-    pub(crate) fn get(&self, name: &str) -> Option<usize>
-        ensures { result ≡ found self.now name.now }
+    /// The first place of a name.
+    fn get(&self, name: &str) -> Option<usize>
+        ensures { result ≡ first_place self.now name.now }
     {
         self.places.get(name).copied()
     }
 
     /// Sets the place of a name that has none.
     pub(crate) fn add(&mut self, alloc: Global, name: &str, place: usize) -> Result<(), AllocError>
-        ensures { OnOk result ((other : List ℕ) → found self.new other
-            ≡ (if is_some (found self.old other) then found self.old other else (if bytes_eq name.now other then Some place else None))) }
+        ensures { OnOk result ((other : List ℕ) → first_place self.new other
+            ≡ (if is_some (first_place self.old other) then first_place self.old other else (if bytes_eq name.now other then Some place else None))) }
     {
         if let None = self.get(name) {
             self.places.insert(String::from_str(alloc, name)?, place)?;
         }
         Ok(())
+    }
+}
+
+/// Where the stage of each name stands. A new table shares with the one that it is made of what was
+/// loaded, and of what was said since all but one path.
+#[derive(Drop)]
+pub(crate) struct NameTable {
+    loaded: Held<FirstPlaces>,
+    /// The names that came or went since.
+    since: NameTree,
+}
+
+impl NameTable {
+    /// The table of a list.
+    pub(crate) fn of(alloc: Global, loaded: FirstPlaces) -> Result<NameTable, AllocError>
+        ensures { IfOk result (λ table. (name : List ℕ) → found table name ≡ first_place loaded name) }
+    {
+        Ok(NameTable {
+            loaded: Held::new(alloc, loaded)?,
+            since: NameTree::new(),
+        })
+    }
+
+    /// The place of a name.
+    pub(crate) fn get(&self, name: &str) -> Option<usize>
+        ensures { result ≡ found self.now name.now }
+    {
+        match self.since.get(name) {
+            Some(place) => place,
+            None => self.loaded.get(name),
+        }
+    }
+
+    /// The table in which one name has this place, or none, and the others have theirs.
+    pub(crate) fn with(
+        &self,
+        alloc: Global,
+        name: &str,
+        place: Option<usize>,
+    ) -> Result<NameTable, AllocError>
+        ensures { IfOk result (λ table. (other : List ℕ) → found table other ≡ (if bytes_eq name.now other then place else found self.now other)) }
+    {
+        Ok(NameTable {
+            loaded: self.loaded.again()?,
+            since: self.since.with(alloc, name, place)?,
+        })
     }
 
     /// Whether each of the names has a place.

@@ -430,10 +430,10 @@ each_accounts mode stage inputs =
 
 module _ (mode : Mode) (stage : Stage) (inputs : ℕ → Option Completion) (P : Cause → Type 0)
     (by_trigger : P (trigger_cause stage inputs)) (taken : (place : ℕ) → P (Inner place)) (pinned : P Pinned) (ended : (index : ℕ) → P (Ended index))
-    (waiting : (place : ℕ) → P (Waiting place)) (of_open : P Open) where
-  of_pending : (found : Option ℕ) → P (pending_on found)
-  of_pending None = of_open
-  of_pending (Some place) = waiting place
+    (waiting : (place : ℕ) → P (Waiting place)) (of_open : progress_of stage.op mode stage inputs ≡ Waits → first_pending inputs stage.sources ≡ None → P Open) where
+  of_pending : progress_of stage.op mode stage inputs ≡ Waits → (found : Option ℕ) → first_pending inputs stage.sources ≡ found → P (pending_on found)
+  of_pending waits None none = of_open waits none
+  of_pending waits (Some place) some = waiting place
 
   of_start : (start : Option ℕ) → P (since_trigger stage (trigger_cause stage inputs) start).cause
   of_start None = by_trigger
@@ -447,10 +447,10 @@ module _ (mode : Mode) (stage : Stage) (inputs : ℕ → Option Completion) (P :
   of_pick pick None = waiting pick.place
   of_pick pick (Some inner) = of_either (nat_lt pick.end inner.moment) pick.place
 
-  of_progress : (progress : Progress) → P (reason_on stage inputs progress).cause
-  of_progress Waits = of_pending (first_pending inputs stage.sources)
-  of_progress (Completes done) = of_start done.start
-  of_progress (Awaits pick) = of_pick pick (source_at inputs pick.place)
+  of_progress : (progress : Progress) → progress_of stage.op mode stage inputs ≡ progress → P (reason_on stage inputs progress).cause
+  of_progress Waits is = of_pending is (first_pending inputs stage.sources) refl
+  of_progress (Completes done) is = of_start done.start
+  of_progress (Awaits pick) is = of_pick pick (source_at inputs pick.place)
 
   of_pins : (result : Option Outcome) (pin : Option ℕ) (natural : Option Done) (reason : Reason) → P reason.cause → P (with_pins_reason result pin natural reason).cause
   of_pins None None natural reason own = own
@@ -479,10 +479,10 @@ module _ (mode : Mode) (stage : Stage) (inputs : ℕ → Option Completion) (P :
       of_found (candidates completion reason stage.ends) (earliest explained_moment (candidates completion reason stage.ends)) reason
       (earliest_in explained_moment (candidates completion reason stage.ends)) (of_candidate completion reason stage.ends own) own
 
-  each_cause : P (reason mode stage inputs).cause
+  pub each_cause : P (reason mode stage inputs).cause
   each_cause =
       of_ends (with_pins stage.pin_result stage.pin_moment (natural mode stage inputs)) (with_pins_reason stage.pin_result stage.pin_moment (natural mode stage inputs) (natural_reason mode stage inputs))
-      (of_pins stage.pin_result stage.pin_moment (natural mode stage inputs) (natural_reason mode stage inputs) (of_progress (progress_of stage.op mode stage inputs)))
+      (of_pins stage.pin_result stage.pin_moment (natural mode stage inputs) (natural_reason mode stage inputs) (of_progress (progress_of stage.op mode stage inputs) refl))
 
 -- ---- nothing that a stage waited for came later than its trigger
 
@@ -504,4 +504,4 @@ pub each_is_latest : EachIsLatest
 each_is_latest mode stage inputs =
     each_cause mode stage inputs (IsLatest stage inputs)
     (latest_by_found stage inputs (first_at (trigger stage inputs) (waited stage inputs)) refl (first_at_is (trigger stage inputs) (waited stage inputs)))
-    (λ place. tt) tt (λ index. tt) (λ place. tt) tt
+    (λ place. tt) tt (λ index. tt) (λ place. tt) (λ waits none. tt)

@@ -5,4 +5,5 @@ pub mod InnerLemmas
 pub mod AmongLemmas
 pub mod OneDurationLemmas
 pub mod Accounting
+pub mod OpenLemmas
 pub mod ReasonsLemmas

@@ -1,8 +1,9 @@
 -- What a stage's reason accounts for.
-use Rattle.std.specs.Prelude.{ℕ, ◌≡◌, ◌≤◌, All, Option, IfSome, is_some}
+use Rattle.std.specs.Prelude.{ℕ, ◌≡◌, ◌≤◌, All, [], length, IsTrue, Option, None, IfSome, is_some}
 use Rattle.std.specs.Option.{option_map}
 use Rattle.act_expr.specs.declared.outcome.Mode.{Mode}
 use Rattle.stage_graph.specs.declared.stage.Stage.{Stage}
+use Rattle.stage_graph.specs.Checks.{has_arity}
 use Rattle.stage_ops.specs.declared.reason.Cause.{Cause}
 use Rattle.stage_ops.specs.declared.reason.Cause.TheVariants.{Created, After, Inner, Pinned, Ended, Waiting, Open}
 use Rattle.stage_ops.specs.declared.reason.Reason.{Reason}
@@ -41,3 +42,10 @@ IsLatest stage inputs Open = Unit {0}
 
 abbrev pub EachIsLatest : Type 0
 EachIsLatest = (mode : Mode) (stage : Stage) (inputs : ℕ → Option Completion) → IsLatest stage inputs (reason mode stage inputs).cause
+
+-- the cause is open just for a pending stage that names no source: a stage whose cause is open names none, and one that names none and is pending has that cause
+abbrev pub EachIsOpen : Type 0
+EachIsOpen =
+    (mode : Mode) (stage : Stage) (inputs : ℕ → Option Completion) → IsTrue (has_arity stage.op (length stage.sources) (length stage.inner))
+    → ((reason mode stage inputs).cause ≡ Open → ((java_step mode stage inputs).done ≡ None) × (stage.sources ≡ []))
+    × ((java_step mode stage inputs).done ≡ None → stage.sources ≡ [] → (reason mode stage inputs).cause ≡ Open)

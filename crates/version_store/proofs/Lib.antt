@@ -2,4 +2,6 @@ pub mod Crossing
 pub mod Blaming
 pub mod Telling
 pub mod Moments
+pub mod ByPlace
+pub mod Keeping
 pub mod Reasoning

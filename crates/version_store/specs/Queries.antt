@@ -1,15 +1,17 @@
 -- What a version answers about a stage: by its graph alone, evaluated from scratch.
-use Rattle.std.specs.Prelude.{ℕ, List, [], Option, Some, None, Result, Ok, Err}
+use Rattle.std.specs.Prelude.{ℕ, List, [], Option, Some, None, Result, Ok, Err, filter}
 use Rattle.std.specs.Option.{option_map, option_and_then}
 use Rattle.act_expr.specs.declared.outcome.Outcome.{Outcome}
 use Rattle.stage_graph.specs.declared.stage.Stage.{Stage}
-use Rattle.stage_graph.specs.Plain.{PlainGraph, stage_at}
+use Rattle.stage_graph.specs.Plain.{PlainGraph, all_places, stage_at}
 use Rattle.stage_ops.specs.declared.state.State.{State}
 use Rattle.stage_ops.specs.declared.state.Done.{Done}
 use Rattle.stage_ops.specs.Evaluation.{at}
 use Rattle.stage_ops.specs.Java.{java_step}
 use Rattle.scratch_eval.specs.declared.fault.NoStage.{NoStage}
+use Rattle.rank_order.specs.Lists.{is_among}
 use Rattle.propagate.specs.Patched.{touched_by}
+use Rattle.propagate.specs.Reach.{StaysUntouched}
 use Rattle.version_store.specs.Plain.{Origin, PlainVersion}
 use Rattle.version_store.specs.declared.before.Before.{Before}
 use Rattle.version_store.specs.declared.before.Before.TheVariants as stood
@@ -63,6 +65,15 @@ abbrev pub touched_in : Option Origin → PlainGraph → List ℕ
 touched_in None graph = []
 touched_in (Some origin) graph = touched_by (java_step graph.mode) origin.edits origin.graph.places graph.places
 
+-- a stage that the edits of the origin do not touch is what it was there, and comes to what it came to
+abbrev pub KeepsOthers : Origin → PlainGraph → Type 0
+KeepsOthers origin graph =
+    StaysUntouched (at (java_step origin.graph.mode)) (at (java_step graph.mode)) origin.graph.places graph.places (touched_in (Some origin) graph)
+
 -- the stages that the version's edits touch, by rank and then by place; none of version 0
 abbrev pub touched_of : PlainVersion → List ℕ
 touched_of version = touched_in version.origin version.graph
+
+-- the same by place alone
+abbrev pub touched_by_place : PlainVersion → List ℕ
+touched_by_place version = filter (λ place. is_among place (touched_of version)) (all_places version.graph.places)

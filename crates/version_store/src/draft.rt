@@ -2,7 +2,7 @@
 ghost use Rattle.std.specs.Prelude.{◌≡◌, Some, IfOk};
 ghost use Rattle.version_store.specs.Plain.{numbered};
 ghost use Rattle.version_store.specs.Drafts.{IsMadeBy};
-ghost use Rattle.version_store.specs.Queries.{touched_in};
+ghost use Rattle.version_store.specs.Queries.{KeepsOthers, touched_in};
 
 use crate::evaluated::Evaluated;
 use crate::origin::Origin;
@@ -33,11 +33,11 @@ impl<R: StateRepresentation> Model for Draft<R> {
 
     ghost use Rattle.std.specs.Prelude.{◌≡◌, Some};
     ghost use Rattle.version_store.specs.Drafts.{IsMadeBy};
-    ghost use Rattle.version_store.specs.Queries.{touched_in};
+    ghost use Rattle.version_store.specs.Queries.{KeepsOthers, touched_in};
 
     ghost view = { λ draft. record { origin = draft.origin; graph = draft.graph } };
 
-    ghost invariant = { λ draft. IsMadeBy draft.origin draft.graph × (draft.touched ≡ touched_in (Some draft.origin) draft.graph) };
+    ghost invariant = { λ draft. IsMadeBy draft.origin draft.graph × (KeepsOthers draft.origin draft.graph × (draft.touched ≡ touched_in (Some draft.origin) draft.graph)) };
 }
 
 impl<R: StateRepresentation> Draft<R> {
@@ -47,6 +47,7 @@ impl<R: StateRepresentation> Draft<R> {
         touched: Held<Places>,
     ) -> Draft<R>
         requires made { IsMadeBy origin graph }
+        requires others { KeepsOthers origin graph }
         requires touched { touched ≡ touched_in (Some origin) graph }
         ensures { result ≡ record { origin = origin; graph = graph } }
     {

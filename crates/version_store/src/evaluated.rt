@@ -6,6 +6,8 @@ ghost use Rattle.stage_graph.specs.Walk.{IsRanked, rank};
 ghost use Rattle.stage_ops.specs.Java.{java_step};
 ghost use Rattle.scratch_eval.specs.Path.{reason_in};
 ghost use Rattle.propagate.specs.Patched.{touched_by};
+ghost use Rattle.propagate.specs.Reach.{StaysUntouched};
+ghost use Rattle.stage_ops.specs.Evaluation.{at};
 ghost use Rattle.version_store.specs.Drafts.{IsCountAfter};
 ghost use Rattle.version_store.specs.Queries.{state_of, told, held, held_by};
 
@@ -88,6 +90,8 @@ impl<R: StateRepresentation> Evaluated<R> {
         ensures ranked { IfOk result (λ edited. IsRanked edited.graph.places) }
         ensures touched { IfOk result (λ edited. edited.touched
             ≡ touched_by (java_step edited.graph.mode) edits.now self.now.places edited.graph.places) }
+        ensures untouched { IfOk result (λ edited. StaysUntouched (at (java_step self.now.mode)) (at (java_step edited.graph.mode))
+            self.now.places edited.graph.places edited.touched) }
         ensures counted { IfOk result (λ edited. meter.new ≡ meter.old + length edited.touched) }
         ensures fault { IfErr result (λ fault. IsSettled (IsNewCycle edits.now) (Err fault) (changed edits.now self.now)) }
         ensures refused { OnErr result (IsCountAfter edits.now self.now meter.old meter.new) }

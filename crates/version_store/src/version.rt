@@ -8,7 +8,7 @@ ghost use Rattle.scratch_eval.specs.Answers.{NoneQueued};
 ghost use Rattle.scratch_eval.specs.Path.{IsPath, path, reason_at};
 ghost use Rattle.scratch_eval.specs.Queries.{AnswersOrMemory, chain_at, list_at};
 ghost use Rattle.version_store.specs.Plain.{opening_version, numbered, parent_of};
-ghost use Rattle.version_store.specs.Queries.{state_of, told, found, outcome_in, moment_in, start_in, before, touched_in, touched_of};
+ghost use Rattle.version_store.specs.Queries.{state_of, told, found, outcome_in, moment_in, start_in, before, touched_by_place, touched_in, touched_of, KeepsOthers};
 
 use crate::before::Before;
 use crate::evaluated::Evaluated;
@@ -41,12 +41,12 @@ impl<R: StateRepresentation> Model for Version<R> {
 
     ghost coded = { Prim.hlevel (codes, coded_expression) };
 
-    ghost use Rattle.std.specs.Prelude.{◌≡◌};
-    ghost use Rattle.version_store.specs.Queries.{touched_in};
+    ghost use Rattle.std.specs.Prelude.{◌≡◌, IfSome};
+    ghost use Rattle.version_store.specs.Queries.{KeepsOthers, touched_in};
 
     ghost view = { λ version. record { number = version.number; graph = version.graph; origin = version.origin } };
 
-    ghost invariant = { λ version. version.touched ≡ touched_in version.origin version.graph };
+    ghost invariant = { λ version. (version.touched ≡ touched_in version.origin version.graph) × IfSome version.origin (λ origin. KeepsOthers origin version.graph) };
 }
 
 impl<R: StateRepresentation> Again for Version<R> {
@@ -81,7 +81,8 @@ impl<R: StateRepresentation> Version<R> {
         origin: Origin<R>,
         touched: Held<Places>,
     ) -> Version<R>
-        requires { touched ≡ touched_in (Some origin) graph }
+        requires touched { touched ≡ touched_in (Some origin) graph }
+        requires others { KeepsOthers origin graph }
         ensures { result ≡ numbered (record { origin = origin; graph = graph }) number }
     {
         Version {
@@ -212,10 +213,21 @@ impl<R: StateRepresentation> Version<R> {
 
     /// The stages that the version's edits touch: those that they speak of, and those that read one whose outcome,
     /// moment or blamed source is another than in the parent; by rank, and then by place. There are none of version 0.
+    /// All other stages are in the parent what they are here.
     pub fn touched(&self) -> &[u32]
-        ensures { result.now ≡ touched_of self.now }
+        ensures touched { result.now ≡ touched_of self.now }
+        ensures others { IfSome self.now.origin (λ origin. KeepsOthers origin self.now.graph) }
     {
         self.touched.as_slice()
+    }
+
+    /// The same stages, by place alone.
+    pub fn touched_by_place(&self, alloc: Global) -> Result<Vec<u32>, AllocError>
+        ensures { IfOk result (λ places. places.items ≡ touched_by_place self.now) }
+    {
+        let mut places = Vec::from_slice(alloc, self.touched())?;
+        places.sort_unstable();
+        Ok(places)
     }
 
     /// The chain of blame of the stage at a place: none unless it completed exceptionally, else the stage itself, and

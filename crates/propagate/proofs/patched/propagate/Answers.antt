@@ -5,7 +5,9 @@ use Rattle.stage_graph.specs.Plain.{PlainGraph}
 use Rattle.stage_graph.specs.Sound.{IsSound}
 use Rattle.rank_order.specs.Lists.{is_among}
 use Rattle.propagate.specs.Patched.{touched_by}
-use Rattle.propagate.specs.Reach.{touched}
+use Rattle.propagate.specs.Reach.{StaysUntouched, touched}
+use Rattle.stage_ops.specs.Evaluation.{at}
+use Rattle.act_expr.specs.declared.outcome.Mode.{Mode}
 use Rattle.propagate.proofs.Naming.{change_between, all_edited_within, touched_by_places, count_of_ranked}
 use Rattle.propagate.proofs.patched.propagate.Goals as goal
 
@@ -69,3 +71,15 @@ returns-in-Err-Memory-clause-refused g c =
     (subst (λ (xs : List ℕ). count ≤ meter + length xs) by_edits c.in-Err-Memory.ensures.refused.1)) in
     count_of_ranked (λ to. touched_by (step to.mode) c.args.edits.now old.places to.places) (changed c.args.edits.now old) graph meter count answer c.in-Ok-changed_order.ensures.ranked
     (c.in-Err-Memory.ensures.refused.0, few)
+
+pub returns-in-Ok-propagate_change-clause-untouched : goal.returns-in-Ok-propagate_change-clause-untouched
+returns-in-Ok-propagate_change-clause-untouched g c =
+    let before = c.deref-before.result.now in
+    let after = c.deref-after.result.now in
+    let same : after ≡ c.in-Ok.changed = c.deref-after.ensures ∙ c.in_ok-graph.ensures in
+    let mode : after.mode ≡ before.mode = ap (λ (graph : PlainGraph). graph.mode) same ∙ c.in-Ok.ensures.kept.same_mode in
+    let step = g.O.StageOps.step c.args.ops.now in
+    let found = c.in-Ok-propagate_change.reached.touched.items in
+    subst (λ (from : PlainGraph). StaysUntouched (at (step from.mode)) (at (step c.in_ok-graph.graph.mode)) from.places c.in_ok-graph.graph.places found) c.deref-before.ensures
+    (subst (λ (to : PlainGraph). StaysUntouched (at (step before.mode)) (at (step to.mode)) before.places to.places found) c.deref-after.ensures
+    (subst (λ (mode : Mode). StaysUntouched (at (step mode)) (at (step after.mode)) before.places after.places found) mode c.in-Ok-propagate_change.ensures.untouched))

@@ -14,6 +14,7 @@ use Rattle.rank_order.proofs.Marking.{none_marked, marks_left}
 use Rattle.propagate.proofs.Outcomes.{on_err}
 use Rattle.propagate.proofs.Steps.{IsRankedChange, IsProgress}
 use Rattle.propagate.proofs.Turns.{first_turn, live_feeds, in_time, within_touched, states_in_time, all_in_time, live_places, climbs, level_live, level_results, level_done, level_touched, level_in_graph, ended, touched_all}
+use Rattle.propagate.proofs.Runs.{stays_untouched}
 use Rattle.propagate.proofs.spread.propagate_change.Goals as goal
 
 ranked_change : (old new : PlainGraph) (edited : ℕ → Bool) → IsRanked old.places → IsRanked new.places → IsSound new → IsChange old.places new.places edited → IsRankedChange old.places new.places edited
@@ -217,3 +218,12 @@ returns-clause-touched g c =
     let edit = ranked_change c.args.old.now c.args.graph.now (λ place. is_among place c.args.edited.now) c.requires.old_ranked c.requires.ranked c.requires.sound c.requires.change in
     let none = c.is_empty.ensures.0 c.loop-alloc-test.false in
     touched_all law edit inv.progress (λ place. none_marked c.loop-alloc.marks none (rank stages place) place)
+
+pub returns-clause-untouched : goal.returns-clause-untouched
+returns-clause-untouched g c =
+    let stages = c.args.graph.now.places in
+    let inv = c.loop-alloc.invariant in
+    let law = c.laws.ensures.reads_decide c.args.graph.now.mode in
+    let edit = ranked_change c.args.old.now c.args.graph.now (λ place. is_among place c.args.edited.now) c.requires.old_ranked c.requires.ranked c.requires.sound c.requires.change in
+    let none = c.is_empty.ensures.0 c.loop-alloc-test.false in
+    stays_untouched law edit _ (touched_all law edit inv.progress (λ place. none_marked c.loop-alloc.marks none (rank stages place) place))

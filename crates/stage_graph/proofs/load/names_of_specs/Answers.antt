@@ -1,7 +1,7 @@
 use Rattle.std.proofs.Common.{◌≡◌, ◌∙◌, ℕ, Option, cond, is_some, sym, ap, Some, None, take}
 use Rattle.std.specs.Str.{bytes_eq}
 use Rattle.stage_graph.specs.declared.stage.Spec.{Spec}
-use Rattle.stage_graph.specs.Names.{found, place_of}
+use Rattle.stage_graph.specs.Names.{first_place, place_of}
 use Rattle.stage_graph.proofs.Positions.{position_more}
 use Rattle.stage_graph.proofs.load.names_of_specs.Goals as goal
 
@@ -10,7 +10,7 @@ loop-place-preserved c = λ name.
     let specs = c.args.specs.now in
     let k = c.loop-place.place in
     let spec = c.index-specs-place.result in
-    let added : found c.add.new.self name ≡ cond (is_some (found c.loop-place.names name)) (found c.loop-place.names name) (cond (bytes_eq spec.name name) (Some k) None) =
+    let added : first_place c.add.new.self name ≡ cond (is_some (first_place c.loop-place.names name)) (first_place c.loop-place.names name) (cond (bytes_eq spec.name name) (Some k) None) =
     rw (← c.as_str.ensures) (c.in_ok-add.ensures name) in
     added
     ∙ ap (λ (old : Option ℕ). cond (is_some old) old (cond (bytes_eq spec.name name) (Some k) None)) (c.loop-place.invariant name)

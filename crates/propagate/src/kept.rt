@@ -1,0 +1,97 @@
+//! States as lists keep them.
+ghost use Rattle.std.specs.Prelude.{◌≡◌, IfOk};
+
+use act_expr::{Outcome, Value};
+use share_tree::Held;
+use stage_ops::{Done, Reads, State};
+use std::alloc::{AllocError, Global};
+use std::marker::Model;
+use std::ops::Deref;
+
+/// A state in as little room as most need. An exception's name has much more, so a state with one stands apart.
+#[derive(Drop)]
+enum Form {
+    Pending(Reads),
+    Returned {
+        value: Value,
+        moment: u64,
+        start: Option<u64>,
+        reads: Reads,
+    },
+    Other(Held<State>),
+}
+
+/// A state, as a list keeps it. Contracts see the state.
+#[derive(Drop)]
+pub struct KeptState {
+    form: Form,
+}
+
+impl Model for KeptState {
+    ghost use Rattle.stage_ops.specs.declared.state.State.{State};
+    ghost use Rattle.propagate.specs.KeptStates.{state_in};
+
+    ghost Value = { State };
+
+    ghost view = { λ kept. state_in kept.form };
+}
+
+impl KeptState {
+    /// Keeps a state.
+    pub fn new(alloc: Global, state: State) -> Result<KeptState, AllocError>
+        ensures { IfOk result (λ kept. kept ≡ state) }
+    {
+        let State { done, reads } = state;
+        let Some(done) = done else {
+            return Ok(KeptState {
+                form: Form::Pending(reads),
+            });
+        };
+        let Done {
+            outcome,
+            moment,
+            from,
+            start,
+        } = done;
+        match (outcome, from) {
+            (Outcome::Value(value), None) => Ok(KeptState {
+                form: Form::Returned {
+                    value,
+                    moment,
+                    start,
+                    reads,
+                },
+            }),
+            _ => Ok(KeptState {
+                form: Form::Other(Held::new(alloc, state)?),
+            }),
+        }
+    }
+
+    /// The state.
+    pub fn state(&self) -> State
+        ensures { result ≡ self.now }
+    {
+        match &self.form {
+            Form::Pending(reads) => State {
+                done: None,
+                reads: *reads,
+            },
+            Form::Returned {
+                value,
+                moment,
+                start,
+                reads,
+            } => State {
+                done: Some(Done {
+                    outcome: Outcome::Value(*value),
+                    moment: *moment,
+                    from: None,
+                    start: *start,
+                }),
+                reads: *reads,
+            },
+            Form::Other(held) => *held.deref(),
+        }
+    }
+}

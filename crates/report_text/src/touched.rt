@@ -1,0 +1,190 @@
+//! The reports that go over the touched stages of a version alone: what changed, and how much later or earlier it is.
+ghost use Rattle.std.specs.Prelude.{◌≡◌, ◌≢◌, ◌+◌, ◌-◌, ◌^◌, ◌<◌, ◌++◌, Some, OnOk, OnErr, string_bytes, is_some, count_by};
+ghost use Rattle.std.specs.List.{flat_map};
+ghost use Rattle.std.specs.Io.KnownBytes.{Appends};
+ghost use Rattle.stage_graph.specs.Plain.{stage_at};
+ghost use Rattle.text_io.specs.Sink.{AppendsPrefix};
+ghost use Rattle.report_text.specs.Reports.{failed_writes};
+ghost use Rattle.report_text.specs.Lines.{touched_line};
+ghost use Rattle.report_text.specs.Texts.{before_text, change_line, changes_text, drift_line, drift_text, shift_at};
+
+use crate::fault::ReportFault;
+use crate::headers::{push_changes_header, push_drift_header};
+use crate::queries::{before_of, state_of};
+use crate::shift::Shift;
+use propagate::StateRepresentation;
+use stage_graph::Stage;
+use std::alloc::{AllocError, Global};
+use std::fmt::Write;
+use text_io::Sink;
+use version_store::{Before, Version};
+
+/// What the lines say of a touched stage.
+#[derive(Clone, Copy, Debug, PartialEq, Eq)]
+pub(crate) enum TouchedLines {
+    /// What it was in the parent, and what it is here.
+    Changes,
+    /// How much later or earlier than in the parent it completes, if it does.
+    Shifts,
+}
+
+/// Writes the header, and what each touched stage was in the parent and is here.
+pub(crate) fn write_changes<R: StateRepresentation, S: Sink>(
+    line: &mut String,
+    version: &Version<R>,
+    sink: &mut S,
+) -> Result<(), ReportFault>
+    requires { S.failures sink.old < 2 ^ 64 - 1 }
+    ensures ok { OnOk result (Appends (S.held sink.old) (S.held sink.new) (changes_text version.now)) }
+    ensures err { OnErr result (AppendsPrefix (S.held sink.old) (S.held sink.new) (changes_text version.now)) }
+    ensures found { result ≢ Err ReportFault.NoStage }
+    ensures failures { S.failures sink.new ≡ S.failures sink.old + failed_writes result }
+{
+    let touched = version.touched();
+    line.clear();
+    push_changes_header(line, version, touched.len())?;
+    write_each_line(line, TouchedLines::Changes, version, touched, sink)
+}
+
+/// Writes the header, and how much later or earlier than in the parent each stage completes that does. A stage that the
+/// edits don't touch completes as it did, so no other stage is looked at.
+pub(crate) fn write_drift<R: StateRepresentation, S: Sink>(
+    alloc: Global,
+    line: &mut String,
+    version: &Version<R>,
+    sink: &mut S,
+) -> Result<(), ReportFault>
+    requires { S.failures sink.old < 2 ^ 64 - 1 }
+    ensures ok { OnOk result (Appends (S.held sink.old) (S.held sink.new) (drift_text version.now)) }
+    ensures err { OnErr result (AppendsPrefix (S.held sink.old) (S.held sink.new) (drift_text version.now)) }
+    ensures found { result ≢ Err ReportFault.NoStage }
+    ensures failures { S.failures sink.new ≡ S.failures sink.old + failed_writes result }
+{
+    let touched = version.touched_by_place(alloc)?;
+    let _ = version.touched();
+    line.clear();
+    push_drift_header(line, version, shift_count(version, touched.as_slice()))?;
+    write_each_line(
+        line,
+        TouchedLines::Shifts,
+        version,
+        touched.as_slice(),
+        sink,
+    )
+}
+
+// How many of the places have stages that complete at another moment than in the parent.
+fn shift_count<R: StateRepresentation>(version: &Version<R>, places: &[u32]) -> usize
+    ensures { result ≡ count_by (λ place. is_some (shift_at version.now place)) places.now }
+{
+    let mut count = 0;
+    for place in places {
+        if Shift::at(version, *place).is_some() {
+            count += 1;
+        }
+    }
+    count
+}
+
+// Writes the header, which stands in the line's room, and then the line of each of the places.
+fn write_each_line<R: StateRepresentation, S: Sink>(
+    line: &mut String,
+    lines: TouchedLines,
+    version: &Version<R>,
+    places: &[u32],
+    sink: &mut S,
+) -> Result<(), ReportFault>
+    requires { S.failures sink.old < 2 ^ 64 - 1 }
+    ensures ok { OnOk result (Appends (S.held sink.old) (S.held sink.new)
+        (string_bytes line.old ++ flat_map (touched_line lines version.now) places.now)) }
+    ensures err { OnErr result (AppendsPrefix (S.held sink.old) (S.held sink.new)
+        (string_bytes line.old ++ flat_map (touched_line lines version.now) places.now)) }
+    ensures found { result ≢ Err ReportFault.NoStage }
+    ensures failures { S.failures sink.new ≡ S.failures sink.old + failed_writes result }
+{
+    sink.write(line.as_bytes())?;
+    for place in places {
+        write_line(line, lines, version, *place, sink)?;
+    }
+    Ok(())
+}
+
+// Writes the line of a place.
+fn write_line<R: StateRepresentation, S: Sink>(
+    line: &mut String,
+    lines: TouchedLines,
+    version: &Version<R>,
+    place: u32,
+    sink: &mut S,
+) -> Result<(), ReportFault>
+    requires { S.failures sink.old < 2 ^ 64 - 1 }
+    ensures ok { OnOk result (Appends (S.held sink.old) (S.held sink.new) (touched_line lines version.now place)) }
+    ensures err { OnErr result (AppendsPrefix (S.held sink.old) (S.held sink.new) (touched_line lines version.now place)) }
+    ensures found { result ≢ Err ReportFault.NoStage }
+    ensures failures { S.failures sink.new ≡ S.failures sink.old + failed_writes result }
+{
+    line.clear();
+    push_line(line, lines, version, place)?;
+    sink.write(line.as_bytes())?;
+    Ok(())
+}
+
+// Puts the line of a place at the end of a text, or nothing where it has none.
+fn push_line<R: StateRepresentation>(
+    line: &mut String,
+    lines: TouchedLines,
+    version: &Version<R>,
+    place: u32,
+) -> Result<(), AllocError>
+    ensures { OnOk result (string_bytes line.new ≡ string_bytes line.old ++ touched_line lines version.now place) }
+{
+    let Some(stage) = version.graph().stage(place) else {
+        return Ok(());
+    };
+    match lines {
+        TouchedLines::Changes => push_change(line, version, place, stage),
+        TouchedLines::Shifts => push_drift(line, version, place, stage),
+    }
+}
+
+fn push_change<R: StateRepresentation>(
+    line: &mut String,
+    version: &Version<R>,
+    place: u32,
+    stage: &Stage,
+) -> Result<(), AllocError>
+    requires { stage_at version.now.graph.places place ≡ Some stage.now }
+    ensures { OnOk result (string_bytes line.new ≡ string_bytes line.old ++ change_line version.now place stage.now) }
+{
+    let name = stage.name.as_str();
+    let state = state_of(version, place);
+    write!(line, "{name} ")?;
+    push_before(line, before_of(version, place))?;
+    writeln!(line, " -> {state}")
+}
+
+// What a stage was in the parent.
+fn push_before(line: &mut String, before: Before) -> Result<(), AllocError>
+    ensures { OnOk result (string_bytes line.new ≡ string_bytes line.old ++ before_text before) }
+{
+    match before {
+        Before::Absent => line.push_str("absent"),
+        Before::Pending => line.push_str("pending"),
+        Before::Done(outcome, moment) => write!(line, "{outcome} at {moment}"),
+    }
+}
+
+fn push_drift<R: StateRepresentation>(
+    line: &mut String,
+    version: &Version<R>,
+    place: u32,
+    stage: &Stage,
+) -> Result<(), AllocError>
+    ensures { OnOk result (string_bytes line.new ≡ string_bytes line.old ++ drift_line version.now place stage.now) }
+{
+    let name = stage.name.as_str();
+    match Shift::at(version, place) {
+        Some(shift) => writeln!(line, "{name} {shift}"),
+        None => Ok(()),
+    }
+}
