@@ -1,13 +1,19 @@
 -- What is written one after the other.
-use Rattle.std.proofs.Common.{◌≡◌, ℕ, true, List, ◌++◌, Option, Some, None, Result, Ok, Err, OnErr, sym}
+use Rattle.std.proofs.Common.{◌≡◌, ℕ, true, List, ◌++◌, Option, Some, None, Result, Ok, Err, OnErr, sym, ap, ◌∙◌}
 use Rattle.std.specs.Io.KnownBytes.{Appends}
 use Rattle.text_io.specs.Sink.{AppendsPrefix}
 use Rattle.std.proofs.KnownBytes.{Appends-trans}
 use Rattle.text_io.proofs.Written.{AppendsPrefix-after, AppendsPrefix-longer}
 use Rattle.stage_graph.specs.declared.stage.Stage.{Stage}
-use Rattle.stage_graph.specs.Plain.{IsLive, place_named, stage_at}
+use Rattle.stage_graph.specs.Plain.{PlainGraph, IsLive, place_named, stage_at}
 use Rattle.stage_graph.proofs.Placing.{live_from_name, named_at}
+use Rattle.std.specs.Option.{option_map}
+use Rattle.recording.specs.Reads.{IsNamed}
+use Rattle.recording.specs.RecordingOf.{named}
+use Rattle.version_store.specs.Plain.{PlainVersion, opening_version}
 use Rattle.version_store.specs.Queries.{found}
+use Rattle.recording_reports.specs.declared.stage.StageReport.{StageReport}
+use Rattle.recording_reports.specs.Reported.{stage_of, stage_text, IsTextOf}
 
 -- a part of the first of three texts
 pub in_first : (a b : Option (List ℕ)) (one two three : List ℕ) → AppendsPrefix a b one → AppendsPrefix a b (one ++ two ++ three)
@@ -30,3 +36,14 @@ placed (Some other) at is = cc
 -- the stage of a name stands where it is found
 pub live_where_found : (places : List (Option Stage)) (name : List ℕ) (place : ℕ) → Ok place ≡ found (place_named places name) → IsLive places place
 live_where_found places name place is = live_from_name name (stage_at places place) (named_at places name place (placed (place_named places name) place is)).1
+
+-- what is told of the stage that a name finds is what is to be told of the name
+pub text_of_stage : (asked : StageReport) (name recording : List ℕ) (graph : PlainGraph) (version : PlainVersion) (place : ℕ) → IsNamed (Ok graph) (named recording)
+    → version ≡ opening_version graph → Ok place ≡ found (place_named version.graph.places name) → IsTextOf recording (stage_of asked name) (Some (stage_text asked version place))
+text_of_stage asked name recording graph version place is loaded finds =
+    let here : Ok place ≡ found (place_named graph.places name) = finds ∙ ap (λ (version : PlainVersion). found (place_named version.graph.places name)) loaded in (
+      graph,
+      is,
+      ap (λ (version : PlainVersion). Some (stage_text asked version place)) loaded
+          ∙ ap (option_map (stage_text asked (opening_version graph))) (sym (placed (place_named graph.places name) place here)),
+    )
