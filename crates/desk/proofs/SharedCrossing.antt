@@ -16,6 +16,7 @@ use Rattle.act_expr.proofs.Crossing.{expr_send, expr_sync}
 use Rattle.stage_graph.proofs.Crossing.{places_send, places_sync, name_send, name_sync, outcome_send, outcome_sync, ends_send, ends_sync}
 use Rattle.stage_graph.specs.contracts.stage.Stage as stage
 use Rattle.stage_ops.specs.contracts.state.State as state
+use Rattle.propagate.specs.contracts.kept.KeptState as kept
 
 shared_send : (T : RattleType) (a : Again.Ghosts T.Denot) → IsSend T → IsSync T → IsSend (shared.the_row T a)
 shared_send T a s y = search (sendable, crosses) depth 60 fits 100000
@@ -34,6 +35,12 @@ state_send = search (sendable, crosses) depth 60 fits 100000
 
 state_sync : IsSync state.the_row
 state_sync = search (sendable, crosses) depth 60 fits 100000
+
+kept_send : IsSend kept.the_row
+kept_send = search (sendable, crosses, state_send, state_sync) depth 60 fits 100000
+
+kept_sync : IsSync kept.the_row
+kept_sync = search (sendable, crosses, state_send, state_sync) depth 60 fits 100000
 
 -- the shared representation's lists of what is held
 abbrev list_of : RattleType → RattleType
@@ -63,11 +70,11 @@ stages_send = search (sendable, crosses, shared_send, stage_send, stage_sync) de
 pub stages_sync : IsSync stages
 stages_sync = search (sendable, crosses, shared_sync, stage_send, stage_sync) depth 60 fits 100000
 
-pub states_send : IsSend (list_of state.the_row)
-states_send = list_send state.the_row state_send state_sync
+pub states_send : IsSend (list_of kept.the_row)
+states_send = list_send kept.the_row kept_send kept_sync
 
-pub states_sync : IsSync (list_of state.the_row)
-states_sync = list_sync state.the_row state_send state_sync
+pub states_sync : IsSync (list_of kept.the_row)
+states_sync = list_sync kept.the_row kept_send kept_sync
 
 pub dependents_send : IsSend (list_of places.the_row)
 dependents_send = list_send places.the_row places_send places_sync
