@@ -1,7 +1,9 @@
 //! What `clap` says in place of an answer.
-ghost use Rattle.std.specs.Prelude.{◌≡◌, Err};
+ghost use Rattle.std.specs.Prelude.{◌≡◌, ◌↔◌, Err, IfOk};
+ghost use Rattle.std.specs.Process.{exit_status};
 ghost use Rattle.clap.specs.Values.{kind_of};
 ghost use Rattle.clap.specs.declared.error.kind.ErrorKind.TheVariants.{OutOfMemory};
+ghost use Rattle.command_line.specs.Told.{told_status};
 ghost use Rattle.command_line.specs.declared.telling.ToldFault.TheVariants.{Memory};
 
 use clap::error::ErrorKind;
@@ -19,17 +21,18 @@ pub enum ToldFault {
     Write,
 }
 
-/// Prints what `clap` says in place of an answer: help that was asked for, or what is wrong with the command line. The
-/// answer is the exit status.
+/// Prints what `clap` says in place of an answer: help or the version that was asked for, or what is wrong with the command
+/// line. The answer is the exit status. Where memory was wanting there is nothing to print, and it is the only fault then.
 pub fn told(rt: &HostRuntime, error: &clap::Error) -> Result<ExitCode, ToldFault>
-    ensures memory { kind_of error.now ≡ OutOfMemory → result ≡ Err Memory }
+    ensures memory { (result ≡ Err Memory) ↔ (kind_of error.now ≡ OutOfMemory) }
+    ensures status { IfOk result (λ code. exit_status code ≡ told_status (kind_of error.now)) }
 {
     if error.kind() == ErrorKind::OutOfMemory {
         return Err(ToldFault::Memory);
     }
     match error.print(rt) {
         Ok(()) if error.use_stderr() => Ok(ExitCode::from(2)),
-        Ok(()) => Ok(ExitCode::SUCCESS),
+        Ok(()) => Ok(ExitCode::from(0)),
         Err(_) => Err(ToldFault::Write),
     }
 }
