@@ -27,6 +27,13 @@ def shown_runs(page):
     return [it for it in runs if it[1]]
 
 
+def missing(top, command):
+    """The files that the command names and that aren't there."""
+    _, words, script = command
+    named = [it for it in [*words.split(), *filter(None, [script])] if it.startswith("examples/")]
+    return [it for it in named if not os.path.exists(os.path.join(top, it))]
+
+
 def shown_case(top, page, command, blocks):
     """What is printed of a file as it is; or steps and their answers in turn; or answers alone, which are somewhere in those to the whole script.
 
@@ -50,7 +57,8 @@ def shown_case(top, page, command, blocks):
 
 def readme_cases(top):
     """What the page shows, and each example taken by the program."""
-    cases = [shown_case(top, "README", command, blocks) for command, blocks in shown_runs(read(top, "README.md"))]
+    shown = shown_runs(read(top, "README.md"))
+    cases = [shown_case(top, "README", command, blocks) for command, blocks in shown if not missing(top, command)]
     for path in sorted(glob.glob(os.path.join(top, "examples", "*.json"))):
         name = os.path.basename(path)
         files = {name: read(top, path)}
@@ -69,8 +77,12 @@ def told_apart(top):
     examples = [f"examples/{os.path.basename(it)}" for it in sorted(glob.glob(os.path.join(top, "examples", "*")))]
     unnamed = [it for it in examples if it not in page and not it.startswith("examples/modelling-")]
     yield "README names each example", f"it doesn't name {', '.join(unnamed)}" if unnamed else "", set()
-    for (_, _, script), blocks in shown_runs(page):
-        if script:
+    for command, blocks in shown_runs(page):
+        _, words, script = command
+        gone = missing(top, command)
+        if gone:
+            yield f"README: the examples of {words.strip()} are there", f"these are not: {', '.join(gone)}", set()
+        elif script:
             steps = read(top, script).splitlines()
             strange = [it for it in "".join(blocks).splitlines() if it.startswith("{") and it not in steps]
             yield f"README: its steps are those of {script}", f"these are not: {strange}" if strange else "", set()
