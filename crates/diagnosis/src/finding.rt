@@ -1,0 +1,304 @@
+//! What is wrong in a recording or in a step.
+use crate::circle::Circle;
+use crate::quoted::Quoted;
+use crate::site::{Path, Site};
+use crate::wanted::Wanted;
+use serde_json::Value;
+use std::fmt;
+
+/// How a member has another form than the format gives it.
+#[derive(Clone, Copy)]
+pub enum ShapeFault<'a> {
+    /// It is not there.
+    Missing(Wanted),
+    /// It is something else.
+    Wrong {
+        found: &'a Value,
+        wanted: Wanted,
+        near: Option<&'static str>,
+    },
+}
+
+/// Which check a stage or an edit fails.
+#[derive(Clone, Copy)]
+pub enum StageFault<'a> {
+    /// No stage has the name.
+    NoStage {
+        name: &'a str,
+        near: Option<&'a str>,
+    },
+    /// The stage at an earlier place has the name.
+    NameTaken {
+        place: usize,
+    },
+    BadName,
+    /// The operation takes another number of sources.
+    Sources {
+        operation: &'a str,
+        wanted: usize,
+        given: usize,
+    },
+    /// The operation picks no inner stage.
+    Inner {
+        operation: &'a str,
+        given: usize,
+    },
+    /// The operation needs an action.
+    ActionMissing {
+        operation: &'a str,
+    },
+    /// The operation has no action.
+    ActionGiven {
+        operation: &'a str,
+    },
+    /// No stage has the name of a source or of an inner stage.
+    NoSource {
+        member: &'static str,
+        name: &'a str,
+        near: Option<&'a str>,
+    },
+    /// A number is above its limit.
+    Limit {
+        what: &'static str,
+        number: u64,
+        most: u64,
+    },
+    EndBeforeCreated {
+        index: usize,
+        at: u64,
+        created: u64,
+    },
+    /// The operation has no action that could take time.
+    NoAction {
+        operation: &'a str,
+    },
+    /// The action has too many nodes, or is too deep.
+    Expression {
+        nodes: usize,
+        depth: usize,
+    },
+}
+
+/// A fault of a recording or of a step.
+#[derive(Drop)]
+pub enum Finding<'a> {
+    Shape {
+        path: Path<'a>,
+        fault: ShapeFault<'a>,
+    },
+    Stage {
+        site: Site<'a>,
+        fault: StageFault<'a>,
+    },
+    /// These stages wait for each other.
+    Circle(Circle<'a>),
+    /// A list of edits has none, or more than 64.
+    ListSize {
+        given: usize,
+    },
+}
+
+impl StageFault<'_> {
+    /// The number by which such a fault is refused.
+    pub fn number(&self) -> u32 {
+        match self {
+            StageFault::NoStage { .. } => 10,
+            StageFault::NameTaken { .. } => 11,
+            StageFault::BadName => 12,
+            StageFault::Sources { .. }
+            | StageFault::Inner { .. }
+            | StageFault::ActionMissing { .. }
+            | StageFault::ActionGiven { .. } => 13,
+            StageFault::NoSource { .. } => 14,
+            StageFault::Limit { .. } => 15,
+            StageFault::EndBeforeCreated { .. } => 16,
+            StageFault::NoAction { .. } => 17,
+            StageFault::Expression { .. } => 20,
+        }
+    }
+}
+
+impl Finding<'_> {
+    /// The number by which such a fault is refused.
+    pub fn number(&self) -> u32 {
+        match self {
+            Finding::Shape { .. } => 71,
+            Finding::Stage { fault, .. } => fault.number(),
+            Finding::Circle(_) => 19,
+            Finding::ListSize { .. } => 21,
+        }
+    }
+}
+
+/// A JSON value, in short.
+#[derive(Clone, Copy)]
+struct Shown<'a>(&'a Value);
+
+impl fmt::Display for Shown<'_> {
+    fn fmt<W: fmt::Write>(&self, f: &mut fmt::Formatter<W>) -> fmt::Result {
+        match self.0 {
+            Value::Null => f.write_str("null"),
+            Value::Bool(true) => f.write_str("true"),
+            Value::Bool(false) => f.write_str("false"),
+            Value::Number(number) => write!(f, "{number}"),
+            Value::String(text) => {
+                let text = Quoted(text.as_str());
+                write!(f, "{text}")
+            }
+            Value::Array(_) => f.write_str("an array"),
+            Value::Object(_) => f.write_str("an object"),
+        }
+    }
+}
+
+impl fmt::Display for ShapeFault<'_> {
+    fn fmt<W: fmt::Write>(&self, f: &mut fmt::Formatter<W>) -> fmt::Result {
+        match self {
+            ShapeFault::Missing(wanted) => write!(f, " is missing: {wanted}"),
+            ShapeFault::Wrong {
+                wanted: Wanted::NoTakes,
+                ..
+            } => f.write_str(" is not read in form 2, which has queued and runs in place of takes"),
+            ShapeFault::Wrong {
+                found,
+                wanted,
+                near,
+            } => {
+                let found = Shown(found);
+                write!(f, " is {found}")?;
+                if let Some(near) = near {
+                    let near = Quoted(near);
+                    write!(f, "; did you mean {near}?")?;
+                }
+                let wanted = *wanted;
+                write!(f, " ({wanted})")
+            }
+        }
+    }
+}
+
+fn write_near<W: fmt::Write>(near: Option<&str>, f: &mut fmt::Formatter<W>) -> fmt::Result {
+    match near {
+        Some(near) => {
+            let near = Quoted(near);
+            write!(f, "; did you mean {near}?")
+        }
+        None => Ok(()),
+    }
+}
+
+/// Writes `1 source` or `2 sources`.
+fn write_sources<W: fmt::Write>(count: usize, f: &mut fmt::Formatter<W>) -> fmt::Result {
+    match count {
+        0 => f.write_str("no source"),
+        1 => f.write_str("1 source"),
+        _ => write!(f, "{count} sources"),
+    }
+}
+
+fn write_arity<W: fmt::Write>(fault: StageFault<'_>, f: &mut fmt::Formatter<W>) -> fmt::Result {
+    match fault {
+        StageFault::Sources {
+            operation,
+            wanted,
+            given,
+        } => {
+            let operation = Quoted(operation);
+            write!(f, "{operation} takes ")?;
+            write_sources(wanted, f)?;
+            match given {
+                0 => f.write_str(", and none is given"),
+                1 => f.write_str(", and 1 is given"),
+                _ => write!(f, ", and {given} are given"),
+            }
+        }
+        StageFault::Inner { operation, given } => {
+            let operation = Quoted(operation);
+            write!(
+                f,
+                "{operation} picks no inner stage, and {given} of them are given"
+            )
+        }
+        StageFault::ActionMissing { operation } => {
+            let operation = Quoted(operation);
+            write!(f, "{operation} needs an action, and none is given")
+        }
+        StageFault::ActionGiven { operation } => {
+            let operation = Quoted(operation);
+            write!(f, "{operation} has no action, and one is given")
+        }
+        _ => Ok(()),
+    }
+}
+
+fn write_name_fault<W: fmt::Write>(
+    fault: StageFault<'_>,
+    f: &mut fmt::Formatter<W>,
+) -> fmt::Result {
+    match fault {
+        StageFault::NoStage { name, near } => {
+            let name = Quoted(name);
+            write!(f, "no stage has the name {name}")?;
+            write_near(near, f)
+        }
+        StageFault::NameTaken { place } => {
+            write!(f, "the stage at place {place} has this name already")
+        }
+        StageFault::NoSource { member, name, near } => {
+            let name = Quoted(name);
+            write!(f, "{member} {name} is no stage")?;
+            write_near(near, f)
+        }
+        _ => f.write_str(
+            "a name is 1 to 64 of the characters A-Z a-z 0-9 _ - . and begins with no - or .",
+        ),
+    }
+}
+
+impl fmt::Display for StageFault<'_> {
+    fn fmt<W: fmt::Write>(&self, f: &mut fmt::Formatter<W>) -> fmt::Result {
+        match *self {
+            StageFault::NoStage { .. }
+            | StageFault::NameTaken { .. }
+            | StageFault::BadName
+            | StageFault::NoSource { .. } => write_name_fault(*self, f),
+            StageFault::Sources { .. }
+            | StageFault::Inner { .. }
+            | StageFault::ActionMissing { .. }
+            | StageFault::ActionGiven { .. } => write_arity(*self, f),
+            StageFault::Limit { what, number, most } => {
+                write!(f, "{what} is {number}, and at most {most} is allowed")
+            }
+            StageFault::EndBeforeCreated { index, at, created } => {
+                write!(
+                    f,
+                    "ends[{index}] is at {at}, before the stage is created at {created}"
+                )
+            }
+            StageFault::NoAction { operation } => {
+                let operation = Quoted(operation);
+                write!(
+                    f,
+                    "{operation} has no action that could take time or be set"
+                )
+            }
+            StageFault::Expression { nodes, depth } => write!(
+                f,
+                "the action has {nodes} nodes and a depth of {depth}, and at most 256 and 32 are allowed"
+            ),
+        }
+    }
+}
+
+impl fmt::Display for Finding<'_> {
+    fn fmt<W: fmt::Write>(&self, f: &mut fmt::Formatter<W>) -> fmt::Result {
+        match self {
+            Finding::Shape { path, fault } => write!(f, "{path}{fault}"),
+            Finding::Stage { site, fault } => write!(f, "{site}: {fault}"),
+            Finding::Circle(circle) => write!(f, "{circle}"),
+            Finding::ListSize { given } => {
+                write!(f, "edits has {given} edits, and 1 to 64 are allowed")
+            }
+        }
+    }
+}

@@ -1,0 +1,41 @@
+//! What a person is told of a mistaken recording or step: where the mistake stands, and what would do.
+//!
+//! It reads a recording or a step once more, by the rules of the formats, and finds each fault and each member that
+//! nothing reads. What is answered does not rest on it.
+#![tactic(auto)]
+
+mod action;
+mod beginning;
+mod circle;
+mod finding;
+mod findings;
+mod known;
+mod likeness;
+mod members;
+mod operation;
+mod quoted;
+mod recording;
+mod refused_step;
+mod scanner;
+mod site;
+mod stage;
+mod stage_checks;
+mod step;
+mod syntax;
+mod unread;
+mod wanted;
+
+pub use beginning::{Beginning, beginning_of};
+pub use circle::{Circle, circle_of};
+pub use finding::{Finding, ShapeFault, StageFault};
+pub use findings::Findings;
+pub use known::KnownStages;
+pub use likeness::nearest;
+pub use quoted::Quoted;
+pub use recording::{examine_recording, nearest_stage};
+pub use refused_step::{Refusal, RefusedStep, explain_step};
+pub use site::{Path, Site};
+pub use step::examine_step;
+pub use syntax::{Expected, JsonFault, json_fault};
+pub use unread::{Unread, Warning};
+pub use wanted::Wanted;

@@ -1,0 +1,256 @@
+//! Why a step was refused, by its line and the answer.
+use crate::finding::{Finding, StageFault};
+use crate::findings::Findings;
+use crate::known::KnownStages;
+use crate::likeness::nearest;
+use crate::quoted::Quoted;
+use crate::site::Site;
+use crate::stage_checks::items_of;
+use crate::step::stage_of;
+use serde_json::Value;
+use std::alloc::AllocError;
+use std::fmt;
+
+/// The words of an answer `refused NUMBER NAME DETAIL in INDEX`.
+#[derive(Clone, Copy, Debug, PartialEq, Eq)]
+pub struct Refusal<'a> {
+    pub number: u32,
+    /// What follows the name, where something does.
+    pub detail: Option<&'a str>,
+    /// The index of the refused edit in its list.
+    pub index: Option<usize>,
+}
+
+/// Why a step was refused.
+#[derive(Clone, Copy)]
+pub enum RefusedStep<'a> {
+    /// What the step's line alone shows.
+    Shown(&'a Finding<'a>),
+    /// What the version shows.
+    Stage {
+        site: Site<'a>,
+        fault: StageFault<'a>,
+    },
+    /// The number tells it, with the step's own numbers.
+    Told {
+        number: u32,
+        detail: Option<&'a str>,
+        session: Option<u64>,
+        version: Option<u64>,
+        stage: Option<&'a str>,
+    },
+}
+
+impl<'a> Refusal<'a> {
+    /// The refusal that an answer's first line tells, if it tells one.
+    pub fn of_answer(answer: &'a str) -> Option<Refusal<'a>> {
+        let words = answer.strip_prefix("refused ")?;
+        let (number, rest) = words.split_once(' ')?;
+        let number = number.parse::<u32>().ok()?;
+        let (rest, index) = match rest.split_once(" in ") {
+            Some((front, index)) => (front, index.parse::<usize>().ok()),
+            None => (rest, None),
+        };
+        let detail = rest.split_once(' ').map(|(_, detail)| detail);
+        Some(Refusal {
+            number,
+            detail,
+            index,
+        })
+    }
+}
+
+/// The edit that was refused: the step itself, or one of its list.
+fn refused_edit<'a>(step: &'a Value, refusal: Refusal<'_>) -> (&'a Value, Option<usize>) {
+    let Some(index) = refusal.index else {
+        return (step, None);
+    };
+    match items_of(step, "edits").get(index) {
+        Some(edit) => (edit, Some(index)),
+        None => (step, None),
+    }
+}
+
+fn site_of<'a>(edit: &'a Value, index: Option<usize>) -> Site<'a> {
+    let stage = stage_of(edit);
+    match index {
+        Some(index) => Site::Edit { index, stage },
+        None => Site::Step { stage },
+    }
+}
+
+/// The first name of a member that is not known.
+fn unknown_in<'a>(known: &KnownStages, object: &'a Value, member: &str) -> Option<&'a str> {
+    items_of(object, member)
+        .iter()
+        .filter_map(Value::as_str)
+        .find(|name| !known.contains(name))
+}
+
+/// The first source or inner stage of an edit that is not known, with its kind.
+fn unknown_feed<'a>(known: &KnownStages, edit: &'a Value) -> Option<(&'static str, &'a str)> {
+    let object = edit.get("new").unwrap_or(edit);
+    if let Some(name) = unknown_in(known, object, "sources") {
+        return Some(("source", name));
+    }
+    match unknown_in(known, object, "inner") {
+        Some(name) => Some(("inner stage", name)),
+        None => None,
+    }
+}
+
+/// What the version shows of a refused edit or report.
+fn stage_fault<'a>(
+    known: &'a mut KnownStages,
+    edit: &'a Value,
+    number: u32,
+) -> Result<Option<StageFault<'a>>, AllocError> {
+    match number {
+        10 => match stage_of(edit) {
+            Some(name) => {
+                let near = nearest(known.alloc(), name, known.candidates()?.as_slice())?;
+                Ok(Some(StageFault::NoStage { name, near }))
+            }
+            None => Ok(None),
+        },
+        14 => match unknown_feed(known, edit) {
+            Some((member, name)) => {
+                let near = nearest(known.alloc(), name, known.candidates()?.as_slice())?;
+                Ok(Some(StageFault::NoSource { member, name, near }))
+            }
+            None => Ok(None),
+        },
+        _ => Ok(None),
+    }
+}
+
+/// The version that a step names.
+fn version_of(step: &Value) -> Option<u64> {
+    ["version", "base", "against"]
+        .iter()
+        .find_map(|member| step.get(*member)?.as_u64())
+}
+
+/// Why a step was refused: `findings` are those of its line.
+pub fn explain_step<'a>(
+    findings: &'a Findings<'a>,
+    step: &'a Value,
+    refusal: Refusal<'a>,
+    known: &'a mut KnownStages,
+) -> Result<RefusedStep<'a>, AllocError> {
+    if let Some(finding) = findings.explanation(refusal.number, None, refusal.detail) {
+        return Ok(RefusedStep::Shown(finding));
+    }
+    let (edit, index) = refused_edit(step, refusal);
+    if let Some(fault) = stage_fault(known, edit, refusal.number)? {
+        let site = site_of(edit, index);
+        return Ok(RefusedStep::Stage { site, fault });
+    }
+    Ok(RefusedStep::Told {
+        number: refusal.number,
+        detail: refusal.detail,
+        session: step.get("session").and_then(Value::as_u64),
+        version: version_of(step),
+        stage: stage_of(edit).or(edit.get("new").and_then(crate::stage::name_of)),
+    })
+}
+
+/// What a number tells that needs nothing of the step.
+fn plain_text(number: u32) -> &'static str {
+    match number {
+        10 => "no stage of the version has the name",
+        11 => "a stage of the version has the name already",
+        12 => "a name is 1 to 64 of the characters A-Z a-z 0-9 _ - . and begins with no - or .",
+        13 =>
+            "the operation takes another number of sources, picks no inner stage, or has no action",
+        14 => "a source or an inner stage is no stage of the version",
+        15 => "a number is above its limit",
+        16 => "an end is set before the stage is created",
+        17 => "the operation has no action that could take time or be set",
+        19 => "with these edits stages would wait for each other in a circle",
+        20 => "the action has more than 256 nodes, or is deeper than 32",
+        54 => "the session stands where it was opened, so nothing can be undone",
+        55 => "65536 versions are there, and there may be no more",
+        57 => "a session's number is from 1 to 65535",
+        58 => "1024 sessions are open: close one first",
+        _ => "the step was refused",
+    }
+}
+
+fn write_number<W: fmt::Write>(
+    what: &str,
+    number: Option<u64>,
+    f: &mut fmt::Formatter<W>,
+) -> fmt::Result {
+    match number {
+        Some(number) => write!(f, "{what} {number}"),
+        None => f.write_str(what),
+    }
+}
+
+/// Writes what is told of a session.
+fn write_session<W: fmt::Write>(
+    number: u32,
+    session: Option<u64>,
+    version: Option<u64>,
+    detail: Option<&str>,
+    f: &mut fmt::Formatter<W>,
+) -> fmt::Result {
+    match number {
+        50 => {
+            write_number("session", session, f)?;
+            f.write_str(" is open already: close it first, or take another number")
+        }
+        51 => {
+            write_number("session", session, f)?;
+            f.write_str(" is not open: open it first")
+        }
+        52 => {
+            f.write_str("there is no ")?;
+            write_number("version", version, f)
+        }
+        _ => {
+            write_number("session", session, f)?;
+            let head = detail.unwrap_or("another");
+            write!(f, " stands at version {head} by now, and the base is ")?;
+            write_number("version", version, f)
+        }
+    }
+}
+
+impl fmt::Display for RefusedStep<'_> {
+    fn fmt<W: fmt::Write>(&self, f: &mut fmt::Formatter<W>) -> fmt::Result {
+        match *self {
+            RefusedStep::Shown(finding) => write!(f, "{finding}"),
+            RefusedStep::Stage { site, fault } => write!(f, "{site}: {fault}"),
+            RefusedStep::Told {
+                number: number @ 50..=53,
+                detail,
+                session,
+                version,
+                ..
+            } => write_session(number, session, version, detail, f),
+            RefusedStep::Told {
+                number,
+                detail,
+                stage,
+                ..
+            } => {
+                if let Some(stage) = stage {
+                    let stage = Quoted(stage);
+                    write!(f, "stage {stage}: ")?;
+                }
+                match detail {
+                    Some(other) if number == 18 => {
+                        let other = Quoted(other);
+                        write!(
+                            f,
+                            "it feeds stage {other}: take it out of the sources and inner stages there first"
+                        )
+                    }
+                    _ => f.write_str(plain_text(number)),
+                }
+            }
+        }
+    }
+}
