@@ -31,18 +31,20 @@ _whatif_words() {
     if [ "$option" = --workers ]; then echo {1..16}; else echo -; fi
   elif [[ -z $closed && $typed == -?* || -z $closed && $typed == - ]]; then
     case $command in
-      sweep) echo --top -h --help ;;
-      many) echo --workers -h --help ;;
+      '') echo -h --help -V --version ;;
+      sweep) echo --top --quiet --strict -h --help ;;
+      many) echo --workers --quiet --strict -h --help ;;
+      check) echo --strict -h --help ;;
       help) echo - ;;
-      *) echo -h --help ;;
+      *) echo --quiet --strict -h --help ;;
     esac
   elif [ -z "$command" ]; then
-    echo report explain sweep serve many help
+    echo report explain sweep check serve many help
   else
     case $command:$places in
-      help:0) echo report explain sweep serve many help ;;
+      help:0) echo report explain sweep check serve many help ;;
       explain:1 | sweep:1) _whatif_stages "$1" "$file" ;;
-      report:0 | explain:0 | sweep:0 | serve:0 | many:*) ;;
+      report:0 | explain:0 | sweep:0 | check:0 | serve:0 | many:*) ;;
       *) echo - ;;
     esac
   fi

@@ -29,7 +29,7 @@ def helped(program, words):
     options = re.search(r"(?m)^Options:\n((?: .*\n)*)", text)
     named = re.findall(r"(?m)^  (\w+)  ", commands[1]) if commands else []
     lines = re.findall(r"(?m)^ +(-.*?)(?:  |$)", options[1]) if options else []
-    return named, {it for line in lines for it in re.findall(r"--?[a-z][\w-]*", line)}
+    return named, {it for line in lines for it in re.findall(r"--?[A-Za-z][\w-]*", line)}
 
 
 def levels(program):
@@ -54,17 +54,22 @@ def in_bash(top, program, folder):
 
 def in_zsh(top):
     page = read(top, "completions/_whatif")
-    common = {*re.findall(r"\)(--?[\w-]+)", re.search(r"help=\((.*)\)", page)[1])}
+    # (the options that stand under a name of their own)
+    named = {it: {*re.findall(r"['\)](--?[\w-]+)", re.search(rf"(?m)^ +{it}=\((.*)\)$|[ ;]{it}=\((.*)\)$", page)[0])} for it in ("help", "version", "quiet", "strict")}
     commands = re.findall(r"(?m)^    '(\w+):", page)
     arguments = {it: re.search(rf"(?m)^    {it}\) (.*)$", page) for it in commands}
     told = {it: found[1] if found else "" for it, found in {**arguments, "": re.search(r"_arguments -C (.*)", page)}.items()}
-    return {it: {*re.findall(r"'(--[\w-]+)", line), *(common if "$help" in line else ())} for it, line in told.items()}
+    return {it: {*re.findall(r"'(--[\w-]+)", line), *(option for name in named if f"${name}" in line for option in named[name])} for it, line in told.items()}
 
 
 def in_fish(top):
     found = {"": set()}
     for line in read(top, "completions/whatif.fish").splitlines():
         condition = re.match(r'complete -c whatif -n "([^"]*)"', line)
+        # (an option of the program alone, before any command)
+        if condition and condition[1] == "not __fish_seen_subcommand_from $commands" and re.search(r" -l ", line):
+            found[""] |= {f"--{it}" for it in re.findall(r" -l ([\w-]+)", line)} | {f"-{it}" for it in re.findall(r" -s (\w)", line)}
+            continue
         name = re.search(r"not __fish_seen_subcommand_from \$commands\" -a (\w+)", line)
         options = {f"--{it}" for it in re.findall(r" -l ([\w-]+)", line)} | {f"-{it}" for it in re.findall(r" -s (\w)", line)}
         if name:
@@ -85,11 +90,12 @@ def in_manual(top):
     parts = {it[1]: it[2] for it in re.finditer(r"(?m)^\.SH (.*)\n((?:(?!\.SH).*\n)*)", page)}
 
     def options(text):
-        return {it for line in re.findall(r"(?m)^\.TP\n\.\w+ (.*)", text) for it in re.findall(r"--?[a-z][\w-]*", line)}
+        return {it for line in re.findall(r"(?m)^\.TP\n\.\w+ (.*)", text) for it in re.findall(r"--?[A-Za-z][\w-]*", line)}
 
-    common = options(parts["OPTIONS"])
+    common = options(parts["OPTIONS"]) - {"-V", "--version"}
+    program = options(parts["OPTIONS"])
     own = {it[1]: options(it[2]) for it in re.finditer(r"(?m)^\.SS (\w+)\n((?:(?!\.SS).*\n)*)", parts["COMMANDS"])}
-    return {"": common, **{name: found if name == "help" else found | common for name, found in own.items()}}
+    return {"": program, **{name: found if name == "help" else found | common for name, found in own.items()}}
 
 
 def differences(wanted, found):
@@ -103,7 +109,8 @@ def words_in_bash(top, program, folder):
     """What bash offers that is no option: what was typed, and what is wanted."""
     for typed, wanted in (
         (["sw"], ["sweep"]),
-        (["help", ""], ["report", "explain", "sweep", "serve", "many", "help"]),
+        (["check", "--s"], ["--strict"]),
+        (["help", ""], ["report", "explain", "sweep", "check", "serve", "many", "help"]),
         (["explain", "r.json", ""], ["a", "b"]),
         (["sweep", "--top", "1", "r.json", "b"], ["b"]),
         (["explain", "r.json", "a", ""], []),

@@ -289,7 +289,7 @@ def asked(child, line, answer, count):
 
 
 def growth(program, path, line, answer, few, count):
-    child = subprocess.Popen([program, "serve", path], stdin=subprocess.PIPE, stdout=subprocess.PIPE)
+    child = subprocess.Popen([program, "serve", path], stdin=subprocess.PIPE, stdout=subprocess.PIPE, stderr=subprocess.DEVNULL)
     try:
         said = asked(child, line, answer, few)
         before = peak(child)

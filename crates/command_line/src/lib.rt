@@ -5,4 +5,4 @@ mod telling;
 mod words;
 
 pub use telling::{ToldFault, told};
-pub use words::{MOST_SCRIPTS, MOST_WORKERS, command};
+pub use words::{MOST_SCRIPTS, MOST_WORKERS, VERSION, command, without_help_of_help};

@@ -1,5 +1,5 @@
 //! The words that the program takes.
-use clap::{Arg, Command, value_parser};
+use clap::{Arg, ArgAction, Command, value_parser};
 use std::alloc::{AllocError, Global};
 
 /// The most scripts that are answered at once.
@@ -8,21 +8,57 @@ pub const MOST_SCRIPTS: usize = 64;
 /// The most workers that compute for one script.
 pub const MOST_WORKERS: usize = 16;
 
+/// The version of the program.
+pub const VERSION: &str = "1.0.0";
+
 /// The words that the program takes.
 pub fn command<'a>(alloc: Global) -> Result<Command<'a>, AllocError> {
     let report = report_command(alloc)?;
     let explain = explain_command(alloc)?;
     let sweep = sweep_command(alloc)?;
+    let check = check_command(alloc)?;
     let serve = serve_command(alloc)?;
     let many = many_command(alloc)?;
     Command::new(alloc, "whatif")
         .about("A what-if debugger for recorded runs of asynchronous Java services")
+        .version(VERSION)
+        .after_help(
+            "Examples:\n  whatif report examples/first-run.json\n  whatif explain examples/late-reply.json reply\n\nRecordings, steps, reports and refusals: docs/FORMATS.md. How to write a run down: docs/MODELLING.md.",
+        )
         .subcommand_required(true)
         .subcommand(report)?
         .subcommand(explain)?
         .subcommand(sweep)?
+        .subcommand(check)?
         .subcommand(serve)?
         .subcommand(many)
+}
+
+/// Leaves out what asks for the help of `help` itself, whose help is that of the program.
+pub fn without_help_of_help(words: &mut Vec<String>) {
+    let asks_for_help = match words.get(1) {
+        Some(word) => word.as_str() == "help",
+        None => false,
+    };
+    if asks_for_help {
+        words.retain(|word| word.as_str() != "--help" && word.as_str() != "-h");
+    }
+}
+
+/// The words by which less or more is told on standard error.
+fn told_less_or_more<'a>(alloc: Global, command: Command<'a>) -> Result<Command<'a>, AllocError> {
+    let quiet = Arg::new(alloc, "quiet")
+        .long("quiet")
+        .action(ArgAction::SetTrue)
+        .help("leave explanations and warnings out");
+    command.arg(quiet)?.arg(strict(alloc))
+}
+
+fn strict<'a>(alloc: Global) -> Arg<'a> {
+    Arg::new(alloc, "strict")
+        .long("strict")
+        .action(ArgAction::SetTrue)
+        .help("end with status 1 where there is a warning")
 }
 
 /// The words of `report`.
@@ -30,9 +66,12 @@ fn report_command<'a>(alloc: Global) -> Result<Command<'a>, AllocError> {
     let file = Arg::new(alloc, "FILE").help(
         "the recording; standard input where it is left out, or -",
     );
-    Command::new(alloc, "report")
+    let report = Command::new(alloc, "report")
         .about("Prints each stage of a recording: its rank, its state and its moment")
-        .arg(file)
+        .after_help(
+            "Examples:\n  whatif report examples/first-run.json\n  whatif report --strict - < examples/first-run.json\n\nThe lines: docs/FORMATS.md, Reports.",
+        );
+    told_less_or_more(alloc, report)?.arg(file)
 }
 
 /// The words of `explain`.
@@ -41,12 +80,14 @@ fn explain_command<'a>(alloc: Global) -> Result<Command<'a>, AllocError> {
         .help("the recording; - is standard input")
         .required(true);
     let stage = Arg::new(alloc, "STAGE").help("the stage").required(true);
-    Command::new(alloc, "explain")
+    let explain = Command::new(alloc, "explain")
         .about(
             "Prints how a stage ended, which failure it hands on, and why it completed when it did or is pending",
         )
-        .arg(file)?
-        .arg(stage)
+        .after_help(
+            "Examples:\n  whatif explain examples/late-reply.json reply\n  whatif explain --quiet - reply < examples/late-reply.json\n\nThe lines: docs/FORMATS.md, Reports.",
+        );
+    told_less_or_more(alloc, explain)?.arg(file)?.arg(stage)
 }
 
 /// The words of `sweep`.
@@ -60,18 +101,49 @@ fn sweep_command<'a>(alloc: Global) -> Result<Command<'a>, AllocError> {
         .help("the recording; - is standard input")
         .required(true);
     let stage = Arg::new(alloc, "STAGE").help("the stage").required(true);
-    Command::new(alloc, "sweep")
+    let sweep = Command::new(alloc, "sweep")
         .about("Prints which stages would make a stage complete sooner if they took no time")
-        .arg(most)?
-        .arg(file)?
-        .arg(stage)
+        .after_help(
+            "Examples:\n  whatif sweep examples/late-reply.json reply\n  whatif sweep --top 3 examples/late-reply.json reply\n\nThe lines: docs/FORMATS.md, Reports.",
+        )
+        .arg(most)?;
+    told_less_or_more(alloc, sweep)?.arg(file)?.arg(stage)
+}
+
+/// The words of `check`.
+fn check_command<'a>(alloc: Global) -> Result<Command<'a>, AllocError> {
+    let file = Arg::new(alloc, "FILE")
+        .help("the recording; - is standard input")
+        .required(true);
+    Command::new(alloc, "check")
+        .about("Prints every fault of a recording, and every member that nothing reads")
+        .after_help(
+            "Examples:\n  whatif check examples/first-run.json\n  whatif check --strict examples/late-reply.json\n\nWhat a recording is: docs/FORMATS.md, Recordings.",
+        )
+        .arg(strict(alloc))?
+        .arg(file)
 }
 
 /// The words of `serve`.
 fn serve_command<'a>(alloc: Global) -> Result<Command<'a>, AllocError> {
     let file = Arg::new(alloc, "FILE").help("the recording").required(true);
+    let quiet = Arg::new(alloc, "quiet")
+        .long("quiet")
+        .action(ArgAction::SetTrue)
+        .help("leave explanations and warnings out");
+    let strict = Arg::new(alloc, "strict")
+        .long("strict")
+        .action(ArgAction::SetTrue)
+        .help(
+            "end with status 1 where the recording has a warning, and with 5 at the first refused step",
+        );
     Command::new(alloc, "serve")
         .about("Answers the steps that come on standard input, one to a line, about a recording")
+        .after_help(
+            "Examples:\n  whatif serve examples/late-reply.json < examples/late-reply.script\n  whatif serve --strict examples/late-reply.json < examples/late-reply-why.script\n\nThe steps and their answers: docs/FORMATS.md, Scripts.",
+        )
+        .arg(quiet)?
+        .arg(strict)?
         .arg(file)
 }
 
@@ -88,9 +160,11 @@ fn many_command<'a>(alloc: Global) -> Result<Command<'a>, AllocError> {
         .help("the scripts, at most 64, each answered by a client of its own")
         .num_args(1..=MOST_SCRIPTS)
         .required(true);
-    Command::new(alloc, "many")
+    let many = Command::new(alloc, "many")
         .about("Answers several scripts at once, whose clients share the sessions and versions")
-        .arg(workers)?
-        .arg(file)?
-        .arg(scripts)
+        .after_help(
+            "Examples:\n  whatif many examples/late-reply.json examples/late-reply.script examples/late-reply-why.script\n  whatif many --workers 4 examples/late-reply.json examples/late-reply.script\n\nThe steps and their answers: docs/FORMATS.md, Scripts and The program.",
+        )
+        .arg(workers)?;
+    told_less_or_more(alloc, many)?.arg(file)?.arg(scripts)
 }

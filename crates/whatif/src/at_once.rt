@@ -1,13 +1,18 @@
 //! Several scripts at once.
 ghost use Rattle.std.specs.Prelude.{◌≡◌, ◌-◌, ◌^◌, ◌<◌, All, IfOk, length, vec_len};
+ghost use Rattle.stage_graph.specs.Walk.{IsRanked};
 ghost use Rattle.text_io.specs.Counted.{read_failures};
 
+use crate::explaining::warn;
 use crate::fault::Fault;
 use crate::input;
+use crate::remembering::{Remembering, with_reason};
+use crate::voice::Voice;
 use clap::ArgMatches;
 use command_line::{MOST_SCRIPTS, MOST_WORKERS};
-use many_scripts::many;
-use stage_graph::InShared;
+use many_scripts::{ManyFault, many};
+use stage_graph::{Graph, InShared};
+use std::cell::Cell;
 use std::fs::File;
 use std::io::{self, BufWriter};
 use std::sync::Wait;
@@ -15,19 +20,44 @@ use std::thread::Threads;
 use text_io::{CountedReader, CountedWriter};
 
 /// The scripts' files in their order, each opened.
-fn opened(rt: &HostRuntime, paths: &[&str]) -> Result<Vec<CountedReader<File>>, Fault>
+fn opened(
+    rt: &HostRuntime,
+    voice: Voice<'_>,
+    paths: &[&str],
+) -> Result<Vec<CountedReader<File>>, Fault>
     ensures len { IfOk result (λ scripts. vec_len scripts ≡ length paths.now) }
     ensures new { IfOk result (λ scripts. All (λ script. read_failures script ≡ 0) scripts.items) }
 {
     let mut scripts = Vec::new(rt.alloc());
     for path in paths {
-        let Ok(file) = File::open(rt, path) else {
-            return Err(Fault::Read);
+        let file = match File::open(rt, path) {
+            Ok(file) => file,
+            Err(error) => return Err(Fault::Read(voice.reason(path, error))),
         };
         scripts.reserve(1)?;
         scripts.push_reserved(CountedReader::new(file));
     }
     Ok(scripts)
+}
+
+/// The graph of the file, whose warnings are told.
+fn graph_of(
+    rt: &HostRuntime,
+    voice: Voice<'_>,
+    matches: &ArgMatches<'_>,
+) -> Result<Graph<InShared>, Fault>
+    ensures { IfOk result (λ graph. IsRanked graph.places) }
+{
+    let Some(path) = matches.get_str("FILE") else {
+        return Err(Fault::CommandLine);
+    };
+    let recording = input::file(rt, voice, path)?;
+    let _known = warn(rt.alloc(), voice, &recording)?;
+    input::graph(rt.alloc(), voice, &recording)
+}
+
+fn ended(end: Result<(), ManyFault>) -> Result<(), Fault> {
+    Ok(end?)
 }
 
 /// Answers several scripts, each from a file of its own, about the recording of a file.
@@ -41,11 +71,20 @@ pub(crate) fn run_many<H: Threads + Wait + Copy + Drop + Send + Sync>(
     if paths.is_empty() || paths.len() > MOST_SCRIPTS || workers == 0 || workers > MOST_WORKERS {
         return Err(Fault::CommandLine);
     }
-    let graph = input::graph::<InShared>(rt, matches.get_str("FILE"))?;
-    let scripts = opened(rt, paths)?;
-    let Ok(writer) = BufWriter::new(rt.alloc(), io::writer(rt)) else {
+    let voice = Voice::new(rt, matches);
+    let graph = graph_of(rt, voice, matches)?;
+    let scripts = opened(rt, voice, paths)?;
+    let reason = Cell::new(None);
+    let Ok(writer) = BufWriter::new(
+        rt.alloc(),
+        Remembering {
+            writer: io::writer(rt),
+            reason: &reason,
+        },
+    ) else {
         return Err(Fault::Memory);
     };
     let mut sink = CountedWriter::new(writer);
-    Ok(many(threads, rt.alloc(), scripts, &mut sink, graph, workers)?)
+    let end = many(threads, rt.alloc(), scripts, &mut sink, graph, workers);
+    with_reason(voice, &reason, ended(end))
 }

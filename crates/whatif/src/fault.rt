@@ -4,20 +4,24 @@ use many_scripts::ManyFault;
 use recording::Fault as ReadingFault;
 use recording_reports::RecordingFault;
 use serve_script::ServeFault;
-use std::alloc::AllocError;
+use std::alloc::{AllocError, Global};
 use std::fmt;
 
-/// What ends the program early.
+/// What ends the program early. Beside some stands what people are told of it, where anything is.
 #[derive(Debug, Drop)]
 pub(crate) enum Fault {
     /// The recording is refused.
-    Refused(ReadingFault),
+    Refused(ReadingFault, Option<String>),
     /// The recording has no stage of the name.
-    NoStage,
+    NoStage(Option<String>),
     /// A file or standard input can't be opened or read.
-    Read,
+    Read(Option<String>),
     /// Standard output or standard error can't be written.
-    Write,
+    Write(Option<String>),
+    /// Nothing reads a member of the recording, and that is to end the program.
+    Strict,
+    /// A step was refused, and that is to end the program.
+    Step,
     /// The command line is no text, or names nothing to do.
     CommandLine,
     /// A desk isn't closed, since a client of it is missing.
@@ -33,11 +37,40 @@ impl Fault {
     /// The exit status.
     pub(crate) fn status(&self) -> u8 {
         match self {
-            Fault::Refused(ReadingFault::Memory) => 4,
-            Fault::Refused(_) | Fault::NoStage => 1,
+            Fault::Refused(ReadingFault::Memory, _) => 4,
+            Fault::Refused(_, _) | Fault::NoStage(_) | Fault::Strict => 1,
             Fault::CommandLine => 2,
-            Fault::Read | Fault::Write | Fault::Missing | Fault::Torn => 3,
+            Fault::Read(_) | Fault::Write(_) | Fault::Missing | Fault::Torn => 3,
             Fault::NoThread | Fault::Memory => 4,
+            Fault::Step => 5,
+        }
+    }
+
+    /// What people are told of it, beside its line.
+    pub(crate) fn why(&self) -> Option<&str> {
+        let why = match self {
+            Fault::Refused(_, why) => why,
+            Fault::NoStage(why) => why,
+            Fault::Read(why) => why,
+            Fault::Write(why) => why,
+            _ => return None,
+        };
+        match why {
+            Some(why) => Some(why.as_str()),
+            None => None,
+        }
+    }
+
+    /// The same, of a recording that is about to be answered from a script.
+    pub(crate) fn before_script(self, alloc: Global) -> Fault {
+        match self {
+            Fault::Refused(fault, Some(why)) => {
+                let text: Result<String, AllocError> = format!(in alloc;
+                    "{why}\nwhatif: the recording is refused, so no step was read"
+                );
+                Fault::Refused(fault, text.ok())
+            }
+            other => other,
         }
     }
 }
@@ -45,10 +78,12 @@ impl Fault {
 impl fmt::Display for Fault {
     fn fmt<W: fmt::Write>(&self, f: &mut fmt::Formatter<W>) -> fmt::Result {
         match self {
-            Fault::Refused(fault) => write!(f, "{fault}"),
-            Fault::NoStage => f.write_str("refused 10 NoStage"),
-            Fault::Read => f.write_str("refused 41 ReadFault"),
-            Fault::Write => f.write_str("refused 40 WriteFault"),
+            Fault::Refused(fault, _) => write!(f, "{fault}"),
+            Fault::Strict => f.write_str("warning: a member is read by nothing"),
+            Fault::Step => f.write_str("refused: a step"),
+            Fault::NoStage(_) => f.write_str("refused 10 NoStage"),
+            Fault::Read(_) => f.write_str("refused 41 ReadFault"),
+            Fault::Write(_) => f.write_str("refused 40 WriteFault"),
             Fault::CommandLine => f.write_str("error: the command line is not UTF-8 text"),
             Fault::Missing => f.write_str("refused 60 Missing"),
             Fault::Torn => f.write_str("refused 61 Torn"),
@@ -68,7 +103,7 @@ impl From<ToldFault> for Fault {
     fn from(fault: ToldFault) -> Fault {
         match fault {
             ToldFault::Memory => Fault::Memory,
-            ToldFault::Write => Fault::Write,
+            ToldFault::Write => Fault::Write(None),
         }
     }
 }
@@ -76,9 +111,9 @@ impl From<ToldFault> for Fault {
 impl From<RecordingFault> for Fault {
     fn from(fault: RecordingFault) -> Fault {
         match fault {
-            RecordingFault::Refused(fault) => Fault::Refused(fault),
-            RecordingFault::NoStage => Fault::NoStage,
-            RecordingFault::Write => Fault::Write,
+            RecordingFault::Refused(fault) => Fault::Refused(fault, None),
+            RecordingFault::NoStage => Fault::NoStage(None),
+            RecordingFault::Write => Fault::Write(None),
             RecordingFault::Memory => Fault::Memory,
         }
     }
@@ -87,8 +122,8 @@ impl From<RecordingFault> for Fault {
 impl From<ServeFault> for Fault {
     fn from(fault: ServeFault) -> Fault {
         match fault {
-            ServeFault::Read => Fault::Read,
-            ServeFault::Write => Fault::Write,
+            ServeFault::Read => Fault::Read(None),
+            ServeFault::Write => Fault::Write(None),
             ServeFault::Memory => Fault::Memory,
         }
     }
@@ -98,8 +133,8 @@ impl From<ManyFault> for Fault {
     fn from(fault: ManyFault) -> Fault {
         match fault {
             ManyFault::NoThread => Fault::NoThread,
-            ManyFault::Write => Fault::Write,
-            ManyFault::Read => Fault::Read,
+            ManyFault::Write => Fault::Write(None),
+            ManyFault::Read => Fault::Read(None),
             ManyFault::Missing => Fault::Missing,
             ManyFault::Torn => Fault::Torn,
             ManyFault::Memory => Fault::Memory,

@@ -2,24 +2,42 @@
 #![tactic(auto)]
 
 ghost use Rattle.std.specs.Prelude.{◌-◌, ◌^◌, ◌<◌};
+ghost use Rattle.stage_graph.specs.Walk.{IsRanked};
 
 mod at_once;
+mod checking;
+mod explaining;
 mod fault;
 mod input;
+mod listening;
+mod remembering;
+mod step_telling;
+mod voice;
 
 use at_once::run_many;
+use checking::run_check;
 use clap::ArgMatches;
-use command_line::{command, told};
+use command_line::{command, told, without_help_of_help};
+use explaining::{warn, why_no_stage, why_refused};
 use fault::Fault;
 use level_pool::{OneThread, Runner};
-use recording_reports::{StageReport, report_all, report_stage};
-use serve_script::serve;
-use stage_graph::InShared;
+use listening::{ListeningSink, ListeningSource, Watch};
+use recording_reports::{RecordingFault, StageReport, report_all, report_stage};
+use remembering::{Remembering, with_reason};
+use serve_script::{ServeFault, serve};
+use stage_graph::{Graph, InShared};
+use std::alloc::Global;
+use std::cell::Cell;
 use std::io::{self, BufWriter, ErrorKind};
 use std::process::ExitCode;
 use std::sync::Wait;
 use std::thread::Threads;
-use text_io::{CountedReader, CountedWriter, Sink};
+use step_telling::StepTeller;
+use text_io::{CountedWriter, Sink};
+use voice::Voice;
+
+/// The most bytes of a script that are read at once.
+const AT_ONCE: usize = 65_536;
 
 fn main(rt: HostRuntime) -> ExitCode {
     match run(&rt, rt, &OneThread::new(&rt)) {
@@ -28,16 +46,20 @@ fn main(rt: HostRuntime) -> ExitCode {
     }
 }
 
-/// Prints why the program ends early, but for a fault of writing; the answer is its exit status.
+/// Prints why the program ends early, but for a fault of writing and for what was told already, and tells people of it;
+/// the answer is its exit status.
 fn refuse(rt: &HostRuntime, fault: &Fault) -> ExitCode {
     let printed = match fault {
-        Fault::Write => Ok(()),
+        Fault::Write(_) | Fault::Strict | Fault::Step => Ok(()),
         Fault::CommandLine => rt.eprintln(format_args!("{fault}")),
         _ => rt.println(format_args!("{fault}")),
     };
+    if let Some(why) = fault.why() {
+        let _ = rt.eprintln(format_args!("whatif: {why}"));
+    }
     match printed {
         Ok(()) => ExitCode::from(fault.status()),
-        Err(_) => ExitCode::from(Fault::Write.status()),
+        Err(_) => ExitCode::from(Fault::Write(None).status()),
     }
 }
 
@@ -62,6 +84,7 @@ fn run<H: Threads + Wait + Copy + Drop + Send + Sync, W: Runner>(
             let most = matches.get_one::<usize>("top");
             run_report_stage(rt, runner, matches, StageReport::Sweep { most })?
         }
+        Some(("check", matches)) => return run_check(rt, matches),
         Some(("serve", matches)) => run_serve(rt, runner, matches)?,
         Some(("many", matches)) => run_many(rt, threads, matches)?,
         _ => return Err(Fault::CommandLine),
@@ -72,7 +95,11 @@ fn run<H: Threads + Wait + Copy + Drop + Send + Sync, W: Runner>(
 /// The words of the command line.
 fn words(rt: &HostRuntime) -> Result<Vec<String>, Fault> {
     match std::env::args(rt) {
-        Ok(words) => Ok(words.collect(rt.alloc())?),
+        Ok(words) => {
+            let mut words = words.collect(rt.alloc())?;
+            without_help_of_help(&mut words);
+            Ok(words)
+        }
         Err(error) if error.kind() == ErrorKind::OutOfMemory => Err(Fault::Memory),
         Err(_) => Err(Fault::CommandLine),
     }
@@ -80,14 +107,30 @@ fn words(rt: &HostRuntime) -> Result<Vec<String>, Fault> {
 
 /// Prints the report of all stages of a recording.
 fn run_report(rt: &HostRuntime, matches: &ArgMatches<'_>) -> Result<(), Fault> {
-    let recording = input::recording(rt, matches.get_str("FILE"))?;
-    let Ok(writer) = BufWriter::new(rt.alloc(), io::writer(rt)) else {
+    let voice = Voice::new(rt, matches);
+    let path = matches.get_str("FILE");
+    voice.say_what_is_read(path.is_some());
+    let recording = input::recording(rt, voice, path)?;
+    let _known = warn(rt.alloc(), voice, &recording)?;
+    let reason = Cell::new(None);
+    let Ok(writer) = BufWriter::new(
+        rt.alloc(),
+        Remembering {
+            writer: io::writer(rt),
+            reason: &reason,
+        },
+    ) else {
         return Err(Fault::Memory);
     };
     let mut sink = CountedWriter::new(writer);
     let end = report_all::<InShared, _>(rt.alloc(), &recording, &mut sink);
-    flush(&mut sink)?;
-    Ok(end?)
+    let end = flushed(&mut sink, reported(end));
+    with_explanation(
+        rt.alloc(),
+        voice,
+        &recording,
+        with_reason(voice, &reason, end),
+    )
 }
 
 /// Prints what is asked of one stage of a recording.
@@ -100,8 +143,17 @@ fn run_report_stage<W: Runner>(
     let Some(name) = matches.get_str("STAGE") else {
         return Err(Fault::CommandLine);
     };
-    let recording = input::recording(rt, matches.get_str("FILE"))?;
-    let Ok(writer) = BufWriter::new(rt.alloc(), io::writer(rt)) else {
+    let voice = Voice::new(rt, matches);
+    let recording = input::recording(rt, voice, matches.get_str("FILE"))?;
+    let _known = warn(rt.alloc(), voice, &recording)?;
+    let reason = Cell::new(None);
+    let Ok(writer) = BufWriter::new(
+        rt.alloc(),
+        Remembering {
+            writer: io::writer(rt),
+            reason: &reason,
+        },
+    ) else {
         return Err(Fault::Memory);
     };
     let mut sink = CountedWriter::new(writer);
@@ -113,8 +165,13 @@ fn run_report_stage<W: Runner>(
         runner,
         &mut sink,
     );
-    flush(&mut sink)?;
-    Ok(end?)
+    let end = with_reason(voice, &reason, flushed(&mut sink, reported(end)));
+    match with_explanation(rt.alloc(), voice, &recording, end) {
+        Err(Fault::NoStage(_)) => {
+            Err(Fault::NoStage(why_no_stage(rt.alloc(), voice, &recording, name)))
+        }
+        end => end,
+    }
 }
 
 /// Answers a script from standard input, about the recording of a file.
@@ -123,22 +180,89 @@ fn run_serve<W: Runner>(
     runner: &W,
     matches: &ArgMatches<'_>,
 ) -> Result<(), Fault> {
-    let graph = input::graph::<InShared>(rt, matches.get_str("FILE"))?;
-    let Ok(writer) = BufWriter::new(rt.alloc(), io::writer(rt)) else {
+    let Some(path) = matches.get_str("FILE") else {
+        return Err(Fault::CommandLine);
+    };
+    let voice = Voice::new(rt, matches);
+    let recording = input::file(rt, voice, path)?;
+    let known = warn(rt.alloc(), voice, &recording)?;
+    match input::graph::<InShared>(rt.alloc(), voice, &recording) {
+        Ok(graph) => {
+            drop(recording);
+            let teller = StepTeller::new(rt.alloc(), voice, known, voice.is_strict());
+            serve_listening(rt, runner, voice, teller, graph)
+        }
+        Err(fault) => Err(fault.before_script(rt.alloc())),
+    }
+}
+
+/// Answers a script from standard input, and tells of its refused steps.
+fn serve_listening<W: Runner>(
+    rt: &HostRuntime,
+    runner: &W,
+    voice: Voice<'_>,
+    teller: StepTeller<'_>,
+    graph: Graph<InShared>,
+) -> Result<(), Fault>
+    requires { IsRanked graph.places }
+{
+    let watch = Watch::new(rt.alloc());
+    let reason = Cell::new(None);
+    let Ok(writer) = BufWriter::new(
+        rt.alloc(),
+        Remembering {
+            writer: io::writer(rt),
+            reason: &reason,
+        },
+    ) else {
         return Err(Fault::Memory);
     };
-    let mut source = CountedReader::new(rt.stdin());
-    let mut sink = CountedWriter::new(writer);
+    let chunk = vec![in rt.alloc(); 0; AT_ONCE]?;
+    let mut source = ListeningSource::new(rt.alloc(), rt.stdin(), &watch, teller, chunk);
+    let mut sink = ListeningSink {
+        sink: CountedWriter::new(writer),
+        watch: &watch,
+    };
     let end = serve(rt.alloc(), runner, &mut source, &mut sink, graph);
-    flush(&mut sink)?;
+    watch.ends();
+    let end = with_reason(voice, &reason, flushed(&mut sink, served(end)));
+    source.tell();
+    if end.is_ok() && source.is_stopped() {
+        return Err(Fault::Step);
+    }
+    end
+}
+
+fn reported(end: Result<(), RecordingFault>) -> Result<(), Fault> {
     Ok(end?)
 }
 
-fn flush<S: Sink>(sink: &mut S) -> Result<(), Fault>
+fn served(end: Result<(), ServeFault>) -> Result<(), Fault> {
+    Ok(end?)
+}
+
+/// The end, with the explanation of a recording that is refused.
+fn with_explanation(
+    alloc: Global,
+    voice: Voice<'_>,
+    recording: &[u8],
+    end: Result<(), Fault>,
+) -> Result<(), Fault> {
+    match end {
+        Err(Fault::Refused(fault, None)) => {
+            let why = why_refused(alloc, voice, recording, &fault);
+            Err(Fault::Refused(fault, why))
+        }
+        end => end,
+    }
+}
+
+/// Passes on what was written; the end is that of the writing, or that this failed.
+fn flushed<S: Sink>(sink: &mut S, end: Result<(), Fault>) -> Result<(), Fault>
     requires { S.failures sink.old < 2 ^ 64 - 1 }
 {
     match sink.flush() {
-        Ok(()) => Ok(()),
-        Err(_) => Err(Fault::Write),
+        Ok(()) => end,
+        Err(_) => Err(Fault::Write(None)),
     }
 }

@@ -1,0 +1,193 @@
+//! Listening to a script and its answers, so that a refused step can be explained beside them.
+//!
+//! The script is given on line by line, and what a line was answered is known before the next line is asked for. The
+//! answers go out as they would without it.
+ghost use Rattle.std.specs.Prelude.{◌≡◌, ◌≤◌, length, None};
+ghost use Rattle.text_io.specs.Counted.{read_failures};
+
+use crate::step_telling::StepTeller;
+use std::alloc::Global;
+use std::cell::Cell;
+use std::io::Read;
+use text_io::{CountedReader, ReadFault, Sink, Source, WriteFault};
+
+/// How much of an answer is kept: its first line, where that is a refusal.
+const MOST_KEPT: usize = 256;
+
+/// How much of a line is kept: more than a step may have.
+const LONGEST_LINE: usize = 65_600;
+
+/// What the source and the sink know of each other.
+#[derive(Drop)]
+pub(crate) struct Watch {
+    alloc: Global,
+    /// The front of what the last line was answered.
+    answer: Cell<Vec<u8>>,
+    /// Whether a further line can be given on without waiting.
+    is_more: Cell<bool>,
+}
+
+impl Watch {
+    pub(crate) fn new(alloc: Global) -> Watch {
+        Watch {
+            alloc,
+            answer: Cell::new(Vec::new(alloc)),
+            is_more: Cell::new(false),
+        }
+    }
+
+    /// Keeps the front of an answer. Where memory is out nothing is kept of it.
+    fn keep(&self, bytes: &[u8]) {
+        let mut answer = self.answer.replace(Vec::new(self.alloc));
+        let room = MOST_KEPT.saturating_sub(answer.len());
+        let front = bytes.get(..room).unwrap_or(bytes);
+        if answer.extend_from_slice(front).is_err() {
+            answer.clear();
+        }
+        self.answer.set(answer);
+    }
+
+    /// Nothing is given on any more, so nothing is held back.
+    pub(crate) fn ends(&self) {
+        self.is_more.set(false);
+    }
+
+    /// Whether what was answered is a refusal.
+    fn is_refused(&self) -> bool {
+        let answer = self.answer.replace(Vec::new(self.alloc));
+        let is_refused = answer.as_slice().starts_with(b"refused ");
+        self.answer.set(answer);
+        is_refused
+    }
+}
+
+/// A sink that keeps what was answered.
+#[derive(Drop)]
+pub(crate) struct ListeningSink<'a, S> {
+    pub(crate) sink: S,
+    pub(crate) watch: &'a Watch,
+}
+
+impl<S: Sink> Sink for ListeningSink<'_, S> {
+    ghost held = { λ listening. S.held listening.sink };
+
+    ghost failures = { λ listening. S.failures listening.sink };
+
+    fn accept(&mut self, bytes: &[u8]) -> usize {
+        let taken = self.sink.accept(bytes);
+        self.watch.keep(&bytes[..taken]);
+        taken
+    }
+
+    fn flush(&mut self) -> Result<(), WriteFault> {
+        if self.watch.is_more.get() && !self.watch.is_refused() {
+            return Ok(());
+        }
+        self.sink.flush()
+    }
+}
+
+/// A source that gives a script on line by line.
+#[derive(Drop)]
+pub(crate) struct ListeningSource<'a, R> {
+    reader: CountedReader<R>,
+    watch: &'a Watch,
+    teller: StepTeller<'a>,
+    chunk: Vec<u8>,
+    taken: usize,
+    filled: usize,
+    /// What was given on of the last line.
+    line: Vec<u8>,
+    number: u64,
+    is_line_done: bool,
+}
+
+impl<'a, R: Read> ListeningSource<'a, R> {
+    pub(crate) fn new(
+        alloc: Global,
+        reader: R,
+        watch: &'a Watch,
+        teller: StepTeller<'a>,
+        chunk: Vec<u8>,
+    ) -> ListeningSource<'a, R>
+        ensures { read_failures result.reader ≡ 0 }
+    {
+        ListeningSource {
+            reader: CountedReader::new(reader),
+            watch,
+            teller,
+            chunk,
+            taken: 0,
+            filled: 0,
+            line: Vec::new(alloc),
+            number: 1,
+            is_line_done: false,
+        }
+    }
+
+    /// Tells what there is to tell of the last line and its answer, and begins the next one.
+    pub(crate) fn tell(&mut self)
+        ensures { read_failures self.new.reader ≡ read_failures self.old.reader }
+    {
+        let answer = self.watch.answer.replace(Vec::new(self.watch.alloc));
+        self.teller
+            .tell(self.number, self.line.as_slice(), answer.as_slice());
+        self.line.clear();
+        self.number = self.number.saturating_add(1);
+        self.is_line_done = false;
+    }
+
+    /// Whether the script was ended at a refused step.
+    pub(crate) fn is_stopped(&self) -> bool {
+        self.teller.is_stopped()
+    }
+
+    /// Gives on what waits, up to the end of a line.
+    fn give(&mut self, buffer: &mut [u8]) -> usize
+        ensures bound { result ≤ length buffer.new }
+        ensures failures { read_failures self.new.reader ≡ read_failures self.old.reader }
+    {
+        let waiting = self
+            .chunk
+            .as_slice()
+            .get(self.taken..self.filled)
+            .unwrap_or(&[]);
+        let end = match waiting.iter().position(|byte| *byte == b'\n') {
+            Some(index) => index + 1,
+            None => waiting.len(),
+        };
+        let count = end.min(buffer.len());
+        let given = &waiting[..count];
+        buffer[..count].copy_from_slice(given);
+        self.is_line_done = given.last() == Some(&b'\n');
+        let room = LONGEST_LINE.saturating_sub(self.line.len());
+        let front = given.get(..room).unwrap_or(given);
+        if self.line.extend_from_slice(front).is_err() {
+            self.line.clear();
+        }
+        self.taken = self.taken.saturating_add(count);
+        self.watch.is_more.set(self.taken < self.filled);
+        count
+    }
+}
+
+impl<R: Read> Source for ListeningSource<'_, R> {
+    ghost remaining = { λ _. None };
+
+    ghost failures = { λ listening. read_failures listening.reader };
+
+    fn read(&mut self, buffer: &mut [u8]) -> Result<usize, ReadFault> {
+        if self.is_line_done {
+            self.tell();
+        }
+        if self.teller.is_stopped() {
+            return Ok(0);
+        }
+        if self.taken >= self.filled {
+            let count = self.reader.read(self.chunk.as_mut_slice())?;
+            self.taken = 0;
+            self.filled = count;
+        }
+        Ok(self.give(buffer))
+    }
+}

@@ -1,0 +1,117 @@
+//! What is told of the steps of a script, by line.
+use crate::voice::Voice;
+use diagnosis::{KnownStages, Refusal, examine_step, explain_step, json_fault};
+use serde_json::Value;
+use std::alloc::{AllocError, Global};
+
+/// Of how many lines of a script something is told.
+const MOST_TOLD: usize = 1000;
+
+/// Tells of refused steps and of members that nothing reads.
+#[derive(Drop)]
+pub(crate) struct StepTeller<'a> {
+    alloc: Global,
+    voice: Voice<'a>,
+    known: KnownStages,
+    /// Whether the first refused step ends the script.
+    is_strict: bool,
+    is_stopped: bool,
+    /// Of how many lines something was told.
+    told: usize,
+}
+
+/// A line without what ends it.
+fn without_end(line: &[u8]) -> &[u8] {
+    match line {
+        [front @ .., b'\r', b'\n'] => front,
+        [front @ .., b'\n'] => front,
+        [front @ .., b'\r'] => front,
+        _ => line,
+    }
+}
+
+/// The first line of an answer.
+fn first_line(answer: &[u8]) -> Option<&str> {
+    let end = match answer.iter().position(|byte| *byte == b'\n') {
+        Some(end) => end,
+        None => answer.len(),
+    };
+    str::from_utf8(&answer[..end]).ok()
+}
+
+impl<'a> StepTeller<'a> {
+    pub(crate) fn new(
+        alloc: Global,
+        voice: Voice<'a>,
+        known: KnownStages,
+        is_strict: bool,
+    ) -> StepTeller<'a> {
+        StepTeller {
+            alloc,
+            voice,
+            known,
+            is_strict,
+            is_stopped: false,
+            told: 0,
+        }
+    }
+
+    pub(crate) fn is_stopped(&self) -> bool {
+        self.is_stopped
+    }
+
+    /// Tells of a line and of what it was answered.
+    pub(crate) fn tell(&mut self, number: u64, line: &[u8], answer: &[u8]) {
+        let refusal = match first_line(answer) {
+            Some(first) => Refusal::of_answer(first),
+            None => None,
+        };
+        // (a line that is skipped has no answer, and nothing is told where memory is out)
+        if !answer.is_empty() && !self.voice.is_quiet() && self.told < MOST_TOLD {
+            let _ = self.tell_of_step(number, without_end(line), refusal);
+            if self.told == MOST_TOLD {
+                self.voice.say_of_line(
+                    number,
+                    "from here on no step is explained, as this was done a thousand times",
+                );
+            }
+        }
+        if refusal.is_some() && self.is_strict {
+            self.is_stopped = true;
+        }
+    }
+
+    fn tell_of_step(
+        &mut self,
+        number: u64,
+        line: &[u8],
+        refusal: Option<Refusal<'_>>,
+    ) -> Result<(), AllocError> {
+        if refusal.is_some_and(|refusal| refusal.number == 72) {
+            self.voice
+                .say_of_line(number, "the step has more than 65536 bytes");
+            return Ok(());
+        }
+        let Ok(step) = Value::from_slice(self.alloc, line) else {
+            self.told = self.told.saturating_add(1);
+            let fault = json_fault(self.alloc, line)?;
+            let (column, expected) = (fault.column, fault.expected);
+            self.voice.say_of_line(number, format_args!("column {column}: expected {expected}"));
+            return Ok(());
+        };
+        let findings = examine_step(self.alloc, &step)?;
+        if refusal.is_some() || !findings.warnings().is_empty() {
+            self.told = self.told.saturating_add(1);
+        }
+        if let Some(refusal) = refusal {
+            let refused = explain_step(&findings, &step, refusal, &mut self.known)?;
+            self.voice.say_of_line(number, refused);
+        } else {
+            self.known.add_of_step(&step)?;
+        }
+        for warning in findings.warnings() {
+            self.voice.say_of_line(number, *warning);
+        }
+        Ok(())
+    }
+}

@@ -1,0 +1,300 @@
+"""What people are told on standard error: why a recording or a step is refused, what nothing reads, and `check`."""
+import gzip
+import json
+import re
+
+from .cases import FIRST_RUN, R, lines, recording, stage, step
+from .run import Case
+
+# A checkout, small: accept, price, tax, total, and a call with an end.
+CHECKOUT = """{
+  "form": 2,
+  "stages": [
+    {"name": "accept", "op": "supplyAsync", "queued": 1, "runs": 2, "action": 88123},
+    {"name": "auth", "op": "thenApplyAsync", "sources": ["accept"], "queued": 1, "runs": 14, "action": ["arg", 0]},
+    {"name": "price", "op": "thenApply", "sources": ["auth"], "queued": 412, "runs": 38, "action": ["mul", ["arg", 0], 3]},
+    {"name": "tax", "op": "thenApplyAsync", "sources": ["price"], "queued": 371, "runs": 6, "action": ["div", ["arg", 0], 5]},
+    {"name": "total", "op": "thenCombine", "sources": ["price", "tax"], "runs": 1, "action": ["add", ["arg", 0], ["arg", 1]]},
+    {"name": "money", "op": "thenApply", "sources": ["total"], "runs": 1, "action": ["arg", 0]},
+    {"name": "inventory", "op": "thenApplyAsync", "sources": ["auth"], "runs": 300, "action": 1,
+     "ends": [{"at": 93, "do": "completeOnTimeout", "delay": 200, "value": 50}]},
+    {"name": "inventory-part", "op": "exceptionally", "sources": ["inventory"], "action": -1}
+  ]
+}
+"""
+OPEN = step("open", session=1, version=0)
+
+
+def told(*texts):
+    """A pattern of lines of standard error, and of nothing else there."""
+    return r"\A" + "".join(re.escape(it) + r"\n" for it in texts) + r"\Z"
+
+
+def begins(text):
+    """A pattern of a line of standard error that begins so."""
+    return r"(?m)^" + re.escape(text)
+
+
+def wrong(name, old, new, out, err, status=1):
+    """A report of the checkout with one mistake."""
+    assert CHECKOUT.count(old) == 1, old
+    return Case(f"mistake: {name}", ["report", "r.json"], out, status, err=err, files={"r.json": CHECKOUT.replace(old, new)})
+
+
+def refused(name, old, new, out, err):
+    return wrong(name, old, new, f"refused {out}\n", err)
+
+
+def answered(name, old, new, err):
+    return wrong(name, old, new, re.compile(rb"version 0 parent - (.*\n)*"), err, 0)
+
+
+# The mistakes that a person makes in a recording.
+RECORDINGS = [
+    refused("source for sources", '"op": "thenApplyAsync", "sources": ["accept"]', '"op": "thenApplyAsync", "source": ["accept"]', "13 Arity at 1",
+            told('whatif: warning: stage "auth": nothing reads "source"; did you mean "sources"?',
+                 'whatif: r.json: stage "auth" (place 1): "thenApplyAsync" takes 1 source, and none is given')),
+    answered("queue for queued", '"queued": 371', '"queue": 371', told('whatif: warning: stage "tax": nothing reads "queue"; did you mean "queued"?')),
+    answered("end for ends", '"ends"', '"end"', told('whatif: warning: stage "inventory": nothing reads "end"; did you mean "ends"?')),
+    answered("Form for form", '"form"', '"Form"', begins('whatif: warning: the recording: nothing reads "Form"; did you mean "form"?')),
+    answered("queued and runs in form 1", '"form": 2', '"form": 1',
+             told('whatif: warning: stage "accept" and 6 more: nothing reads "queued" in form 1, which has takes; write "form": 2 for queued and runs')),
+    refused("dely in an end", '"delay"', '"dely"', "71 Shape ends", begins('whatif: r.json: stages[6].ends[0].delay ("inventory") is missing')),
+    answered("a member of no end", '"delay": 200', '"delay": 200, "dely": 3',
+             told('whatif: warning: stage "inventory", ends[0]: nothing reads "dely"; did you mean "delay"?')),
+    answered("a member of another end", '"do": "completeOnTimeout", "delay": 200, "value": 50', '"do": "cancel", "delay": 200',
+             told('whatif: warning: stage "inventory", ends[0]: nothing reads "delay" beside "cancel"')),
+    answered("value beside another operation", '"name": "money"', '"value": 4, "name": "money"',
+             told('whatif: warning: stage "money": nothing reads "value" beside "thenApply"')),
+    refused("nam for name", '"name": "tax"', '"nam": "tax"', "71 Shape name", begins('whatif: r.json: stages[3].name (after "price") is missing')),
+    refused("an operation of no CompletionStage", '"exceptionally"', '"onErrorReturn"', "71 Shape op",
+            begins('whatif: r.json: stages[7].op ("inventory-part") is "onErrorReturn" (the operations are async, ')),
+    refused("thenapply for thenApply", '"thenApply", "sources": ["total"]', '"thenapply", "sources": ["total"]', "71 Shape op",
+            begins('whatif: r.json: stages[5].op ("money") is "thenapply"; did you mean "thenApply"?')),
+    refused("a comma left out", '["price"], "queued"', '["price"] "queued"', "70 JSON", told('whatif: r.json: line 7, column 66: expected "," or "}"')),
+    refused("an unknown source", '["price", "tax"]', '["price", "taxes"]', "14 NoSource at 4",
+            told('whatif: r.json: stage "total" (place 4): source "taxes" is no stage; did you mean "tax"?')),
+    refused("a stage that waits for itself", '["price", "tax"]', '["price", "total"]', "19 Cycle",
+            told("whatif: r.json: these stages wait for each other: total, total")),
+    refused("a circle", '["price", "tax"]', '["price", "money"]', "19 Cycle",
+            r"\Awhatif: r.json: these stages wait for each other: (total, money, total|money, total, money)\n\Z"),
+    refused("ticks with a fraction", '"queued": 412', '"queued": 0.412', "71 Shape queued",
+            told('whatif: r.json: stages[2].queued ("price") is 0.412 (it is whole ticks, from 0)')),
+    refused("takes in form 2", '"queued": 412, "runs": 38', '"takes": 450', "71 Shape takes",
+            begins('whatif: r.json: stages[2].takes ("price") is not read in form 2, which has queued and runs in place of takes')),
+    refused("a name that is taken", '"name": "money"', '"name": "tax"', "11 NameTaken at 5",
+            begins('whatif: r.json: stage "tax" (place 5): the stage at place 3 has this name already')),
+    refused("a bad name", '"name": "inventory-part"', '"name": "-part"', "12 BadName at 7", begins('whatif: r.json: stage "-part" (place 7): a name is 1 to 64')),
+    refused("a limit", '"runs": 300', '"runs": 1099511627777', "15 Limit at 6",
+            begins('whatif: r.json: stage "inventory" (place 6): runs is 1099511627777, and at most 1099511627776 is allowed')),
+    refused("an end before the stage is created", '"name": "inventory",', '"name": "inventory", "created": 94,', "16 EndBeforeCreated at 6",
+            begins('whatif: r.json: stage "inventory" (place 6): ends[0] is at 93, before the stage is created at 94')),
+    refused("an action missing", ', "action": -1', "", "13 Arity at 7", begins('whatif: r.json: stage "inventory-part" (place 7): "exceptionally" needs an action')),
+    refused("a word that begins no expression", '["div", ', '["divide", ', "71 Shape action", begins('whatif: r.json: stages[3].action ("tax") is "divide"')),
+    refused("a form that is none", '"form": 2', '"form": 3', "71 Shape form", begins("whatif: r.json: form is 3 (the form is 1 or 2)")),
+]
+
+BYTES = [
+    Case("mistake: gzip", ["report", "r.json.gz"], "refused 70 JSON\n", 1, err=begins("whatif: r.json.gz: the bytes begin like gzip"), files={"r.json.gz": gzip.compress(R.encode())}),
+    Case("mistake: a byte order mark", ["report", "r.json"], "refused 70 JSON\n", 1, err=begins("whatif: r.json: the bytes begin with a byte order mark"),
+         files={"r.json": b"\xef\xbb\xbf" + R.encode()}),
+    Case("mistake: UTF-16", ["report", "r.json"], "refused 70 JSON\n", 1, err=begins("whatif: r.json: the bytes begin like UTF-16"), files={"r.json": R.encode("utf-16")}),
+    Case("mistake: no bytes", ["report"], "refused 70 JSON\n", 1, err=begins("whatif: standard input: there are no bytes")),
+    Case("mistake: Latin-1", ["report"], "refused 70 JSON\n", 1, err=told("whatif: standard input: line 1, column 3: expected UTF-8"), stdin=b'{"\xe4":1}'),
+    Case("mistake: a file that ends too soon", ["report"], "refused 70 JSON\n", 1,
+         err=told('whatif: standard input: line 2, column 1: expected "," or "]", and the text ends'), stdin='{"stages":[{}\n'),
+    Case("mistake: too deep", ["report"], "refused 70 JSON\n", 1,
+         err=told("whatif: standard input: line 1, column 128: expected no more than 127 arrays and objects in one another"), stdin="[" * 200 + "]" * 200),
+    Case("mistake: a number that doesn't fit", ["report"], "refused 70 JSON\n", 1, err=r"expected a number that fits", stdin='{"stages":[1e999]}'),
+    Case("mistake: no object", ["report"], "refused 71 Shape recording\n", 1, err=begins("whatif: standard input: the recording is an array"), stdin="[]"),
+    Case("mistake: no stages", ["report"], "refused 71 Shape stages\n", 1, err=begins("whatif: standard input: stages is missing"), stdin="{}"),
+    Case("mistake: a file that isn't there", ["report", "absent.json"], "refused 41 ReadFault\n", 3, err=told("whatif: absent.json: No such file or directory")),
+    Case("mistake: a folder", ["report", "folder"], "refused 41 ReadFault\n", 3, err=told("whatif: folder: Is a directory"), files={"folder": None}),
+    Case("mistake: a full disk", ["report", "r.json"], "", 3, err=told("whatif: standard output: No space left on device"), files={"r.json": R}, stdout="full"),
+    Case("mistake: a name with a line in it", ["report"], "refused 12 BadName at 0\n", 1, err=r"\A[^\n]*\\u000a[^\n]*\n\Z",
+         stdin=recording(stage("manual", name="a\nb\u202e"))),
+    Case("mistake: a stage of explain", ["explain", "r.json", "c"], "refused 10 NoStage\n", 1, err=told('whatif: r.json: no stage has the name "c"; did you mean "a"?'),
+         files={"r.json": R}),
+]
+
+
+
+def deep(levels):
+    """An action so deep, of one operand at each level."""
+    return 1 if levels == 1 else ["isnull", deep(levels - 1)]
+
+
+# A recording of one stage, the refusal, and what is said of it.
+ALONE = [
+    (stage("thenApply", sources=[], action=1), "13 Arity at 0", 'stage "a" (place 0): "thenApply" takes 1 source, and none is given'),
+    (stage("thenCombine", sources=["a"], action=1), "13 Arity at 0", 'stage "a" (place 0): "thenCombine" takes 2 sources, and 1 is given'),
+    (stage("async", sources=["a", "a"], action=1), "13 Arity at 0", 'stage "a" (place 0): "async" takes no source, and 2 are given'),
+    (stage("async", inner=["a"], action=1), "13 Arity at 0", 'stage "a" (place 0): "async" picks no inner stage, and 1 of them are given'),
+    (stage("manual", action=1), "13 Arity at 0", 'stage "a" (place 0): "manual" has no action, and one is given'),
+    (stage("thenCompose", sources=["a"], inner=["b"], action=1), "14 NoSource at 0", 'stage "a" (place 0): inner stage "b" is no stage'),
+    (stage("manual", takes=3), "17 NoAction at 0", 'stage "a" (place 0): "manual" has no action that could take time or be set'),
+    (stage("async", action=deep(40)), "20 Expr at 0", 'stage "a" (place 0): the action has 40 nodes and a depth of 40, and at most 256 and 32 are allowed'),
+    (stage("anyOf", sources=["a"] * 1025), "15 Limit at 0", 'stage "a" (place 0): the number of sources is 1025, and at most 1024 is allowed'),
+    (stage("manual", ends=[{"at": 1, "do": "cancel"}] * 17), "15 Limit at 0", 'stage "a" (place 0): the number of ends is 17, and at most 16 is allowed'),
+    (stage("manual", pinMoment=2**41), "15 Limit at 0", 'stage "a" (place 0): pinMoment is 2199023255552, and at most 1099511627776 is allowed'),
+    (stage("manual", name=3), "71 Shape name", "stages[0].name is 3 (it is a text)"),
+    (stage("manual", sources="a"), "71 Shape sources", 'stages[0].sources ("a") is "a" (it is an array of names of stages)'),
+    (stage("manual", sources=[1]), "71 Shape sources", 'stages[0].sources[0] ("a") is 1 (it is a text)'),
+    (stage("completed", value="x"), "71 Shape value", 'stages[0].value ("a") is "x" (it is a whole number of 64 bits or null)'),
+    (stage("failed", throws="a b"), "71 Shape throws", 'stages[0].throws ("a") is "a b" (it is the name of an exception'),
+    (stage("failed"), "71 Shape throws", 'stages[0].throws ("a") is missing: it is the name of an exception'),
+    (stage("manual", pinResult={"value": 1, "bare": "X"}), "71 Shape pinResult", 'stages[0].pinResult ("a") is an object (it is null, or an object with exactly one of'),
+    (stage("manual", pinResult={"bare": 1}), "71 Shape pinResult", 'stages[0].pinResult.bare ("a") is 1 (it is the name of an exception'),
+    (stage("manual", pinMoment=-1), "71 Shape pinMoment", 'stages[0].pinMoment ("a") is -1 (it is null, or whole ticks, from 0)'),
+    (stage("manual", ends={}), "71 Shape ends", 'stages[0].ends ("a") is an object (it is an array of ends)'),
+    (stage("manual", ends=[1]), "71 Shape ends", 'stages[0].ends[0] ("a") is 1 (an end is an object with "at" and "do")'),
+    (stage("manual", ends=[{"at": 1, "do": "orTimeOut", "delay": 1}]), "71 Shape ends", 'stages[0].ends[0].do ("a") is "orTimeOut"; did you mean "orTimeout"? (an end does one of'),
+    (stage("async", action=["arg", 2]), "71 Shape action", 'stages[0].action ("a") is 2 (the operand of arg is 0 or 1)'),
+    (stage("async", action=["add", 1]), "71 Shape action", 'stages[0].action ("a") is an array (if has 3 operands'),
+    (stage("async", action=True), "71 Shape action", 'stages[0].action ("a") is true (an expression is a number, null, or an array'),
+    (stage("async", action=["throw", 1]), "71 Shape action", 'stages[0].action ("a") is 1 (it is the name of an exception'),
+    (3, "71 Shape stages", "stages[0] is 3 (a stage is an object)"),
+]
+ALONE_CASES = [Case(f"mistake: {err[:60]}", ["report"], f"refused {out}\n", 1, err=begins(f"whatif: standard input: {err}"), stdin=recording(it)) for it, out, err in ALONE]
+
+# Bytes that are no JSON, and where.
+NO_JSON = [
+    ("{", 'line 1, column 2: expected a name in quotes or "}", and the text ends'),
+    ('{"a"', 'line 1, column 5: expected ":", and the text ends'),
+    ('{"a":1 "b"', 'line 1, column 8: expected "," or "}"'),
+    ('{"a":1,}', "line 1, column 8: expected a name in quotes"),
+    ("[1,]", "line 1, column 4: expected a value"),
+    ("[1 2]", 'line 1, column 4: expected "," or "]"'),
+    ("[;]", 'line 1, column 2: expected a value or "]"'),
+    ("[] []", "line 1, column 4: expected the end of the text"),
+    ("[01]", 'line 1, column 3: expected "," or "]"'),
+    ("[1.]", "line 1, column 4: expected a digit"),
+    ("[-]", "line 1, column 3: expected a digit"),
+    ("[1e]", "line 1, column 4: expected a digit"),
+    ("[tru]", 'line 1, column 2: expected a value or "]"'),
+    ('["a', "line 1, column 4: expected a quote that ends the text, and the text ends"),
+    ('["a\nb"]'.replace("\\n", "\n"), "line 1, column 4: expected no control character in a text"),
+    ('["\\x"]', "line 1, column 4: expected one of"),
+    ('["\\u00g0"]', "line 1, column 7: expected a hexadecimal digit"),
+    ('["\u00e4\u00f6", x]', "line 1, column 8: expected a value"),
+]
+NO_JSON_CASES = [Case(f"mistake: no JSON {it!r}", ["report"], "refused 70 JSON\n", 1, err=begins(f"whatif: standard input: {err}"), stdin=it) for it, err in NO_JSON]
+ARCHIVES = [
+    Case("mistake: a zip archive", ["report"], "refused 70 JSON\n", 1, err=r"begin like a zip archive", stdin=b"PK\x03\x04rest"),
+    Case("mistake: Zstandard", ["report"], "refused 70 JSON\n", 1, err=r"begin like Zstandard", stdin=b"\x28\xb5\x2f\xfdrest"),
+    Case("mistake: wrap", ["report"], "refused 71 Shape wrap\n", 1, err=r'wrap is "litteral"; did you mean "literal"\? \(the wrap mode is one of computed, literal\)', stdin=recording(wrap="litteral")),
+    Case("mistake: too many bytes", ["report"], "refused 72 TooLong\n", 1, err=begins("whatif: standard input: it has more than 67108864 bytes"), stdin=lambda: b" " * (2**26 + 1), seconds=60),
+]
+
+UNREAD = CHECKOUT.replace('"queued": 371', '"queue": 371')
+MANY_UNREAD = recording(*(stage("manual", name=f"m{it}", note=1) for it in range(50)))
+OPTIONS = [
+    Case("--quiet leaves warnings out", ["report", "--quiet", "r.json"], None, err=r"\A\Z", files={"r.json": UNREAD}),
+    Case("--quiet leaves explanations out", ["report", "--quiet", "absent"], "refused 41 ReadFault\n", 3, err=r"\A\Z"),
+    Case("--strict ends at a warning", ["report", "--strict", "r.json"], "", 1, err=begins("whatif: warning: "), files={"r.json": UNREAD}),
+    Case("--strict of explain", ["explain", "--strict", "r.json", "tax"], "", 1, files={"r.json": UNREAD}),
+    Case("--strict with --quiet", ["sweep", "--strict", "--quiet", "r.json", "tax"], "", 1, err=r"\A\Z", files={"r.json": UNREAD}),
+    Case("--strict where there is no warning", ["report", "--strict", "r.json"], FIRST_RUN, err=r"\A\Z", files={"r.json": R}),
+    Case("$schema is for editors", ["report", "--strict"], FIRST_RUN, err=r"\A\Z", stdin=R.replace("{", '{"$schema":"recording.schema.json",', 1)),
+    Case("twenty warnings are told", ["report"], None, err=r'(?s)\A(whatif: warning: stage "m[^\n]*\n){20}whatif: warning: and 30 more, which whatif check tells\n\Z', stdin=MANY_UNREAD),
+    Case("--version", ["--version"], re.compile(rb"whatif \d+\.\d+\.\d+\n")),
+    Case("help of help", ["help", "--help"], re.compile(rb"(?s).*report.*serve.*")),
+    Case("help of help by -h", ["help", "-h"], re.compile(rb"(?s).*report.*serve.*")),
+    Case("help names examples and the formats", ["report", "--help"], re.compile(rb"(?s).*Examples:\n  whatif report .*\n  whatif report .*docs/FORMATS.md.*")),
+    Case("a report of standard input that is no terminal", ["report"], FIRST_RUN, err=r"\A\Z", stdin=R),
+]
+
+CHECKS = [
+    Case("check of a sound recording", ["check", "r.json"], "", files={"r.json": R}),
+    Case("check of a warning", ["check", "r.json"], 'r.json: warning: stage "tax": nothing reads "queue"; did you mean "queued"?\n', files={"r.json": UNREAD}),
+    Case("check --strict of a warning", ["check", "--strict", "r.json"], 'r.json: warning: stage "tax": nothing reads "queue"; did you mean "queued"?\n', 1, files={"r.json": UNREAD}),
+    Case("check tells all", ["check", "r.json"],
+         re.compile(rb'r.json: stages\[3\].queued \("tax"\) is 0.5 .*\nr.json: stage "total" \(place 4\): source "taxes" .*\nr.json: stages\[7\].op .*\nr.json: warning: .*"source".*\n'), 1,
+         files={"r.json": CHECKOUT.replace("371", "0.5").replace('"tax"]', '"taxes"]').replace('"exceptionally"', '"sometimes"').replace('"sources": ["total"]', '"source": ["total"], "sources": ["total"]')}),
+    Case("check of a circle", ["check", "r.json"], "r.json: these stages wait for each other: total, total\n", 1, files={"r.json": CHECKOUT.replace('["price", "tax"]', '["price", "total"]')}),
+    Case("check of no JSON", ["check", "-"], 'standard input: line 1, column 2: expected a name in quotes or "}"\n', 1, stdin="{1}"),
+    Case("check of no file", ["check", "absent"], "refused 41 ReadFault\n", 3, err="No such file"),
+    Case("check without a file", ["check"], "", 2, err="FILE"),
+]
+
+
+def served(name, steps, out, err, status=0, words=(), **how):
+    return Case(f"step: {name}", ["serve", *words, "r.json"], out, status, err=err, files={"r.json": R}, stdin=lines(*steps), **how)
+
+
+STEPS = [
+    served("an unknown stage", ["", OPEN, step("setTakes", session=1, stage="aa", takes=3)], lines("opened 1 at 0", "refused 10 NoStage"),
+           told('whatif: line 3: stage "aa": no stage has the name "aa"; did you mean "a"?')),
+    served("an unknown source", [OPEN, step("rewire", session=1, stage="b", sources=["aa"], inner=[])], lines("opened 1 at 0", "refused 14 NoSource"),
+           told('whatif: line 2: stage "b": source "aa" is no stage; did you mean "a"?')),
+    served("an edit of a list", [OPEN, step("edits", session=1, edits=[{"do": "remove", "stage": "b"}, {"do": "remove", "stage": "aa"}])],
+           lines("opened 1 at 0", "refused 10 NoStage in 1"), told('whatif: line 2: edits[1], stage "aa": no stage has the name "aa"; did you mean "a"?')),
+    served("an unknown step", [step("opne", session=1, version=0)], "refused 71 Shape do\n", begins('whatif: line 1: do is "opne"; did you mean "open"?')),
+    served("a member missing", [step("open", session=1)], "refused 71 Shape version\n", begins("whatif: line 1: version is missing")),
+    served("no JSON", ["{}}"], "refused 70 JSON\n", told("whatif: line 1: column 3: expected the end of the text")),
+    served("a long line", [" " * 70_000], "refused 72 TooLong\n", told("whatif: line 1: the step has more than 65536 bytes")),
+    served("a list of no edits", [OPEN, step("edits", session=1, edits=[])], lines("opened 1 at 0", "refused 21 ListSize"), told("whatif: line 2: edits has 0 edits, and 1 to 64 are allowed")),
+    served("a session that is open", [OPEN, OPEN], lines("opened 1 at 0", "refused 50 SessionOpen"), told("whatif: line 2: session 1 is open already: close it first, or take another number")),
+    served("a session that isn't open", [step("head", session=7)], "refused 51 NoSession\n", told("whatif: line 1: session 7 is not open: open it first")),
+    served("a version that isn't there", [step("open", session=1, version=9)], "refused 52 NoVersion\n", told("whatif: line 1: there is no version 9")),
+    served("a session that moved", [OPEN, step("setTakes", session=1, stage="a", takes=3), step("setTakes", session=1, base=0, stage="a", takes=4)],
+           lines("opened 1 at 0", "committed 1", "refused 53 Moved 1"), told("whatif: line 3: session 1 stands at version 1 by now, and the base is version 0")),
+    served("a stage that feeds another", [OPEN, step("remove", session=1, stage="a")], lines("opened 1 at 0", "refused 18 InUse b"),
+           begins('whatif: line 2: stage "a": it feeds stage "b"')),
+    served("a circle", [OPEN, step("rewire", session=1, stage="b", sources=["b"], inner=[])], lines("opened 1 at 0", "refused 19 Cycle"), begins('whatif: line 2: stage "b": with these edits')),
+    served("a limit", [OPEN, step("setTakes", session=1, stage="a", takes=2**41)], lines("opened 1 at 0", "refused 15 Limit"),
+           told('whatif: line 2: stage "a": takes is 2199023255552, and at most 1099511627776 is allowed')),
+    served("undone too far", [OPEN, step("undo", session=1)], lines("opened 1 at 0", "refused 54 AtBottom"), begins("whatif: line 2: the session stands where it was opened")),
+    served("a member that nothing reads", [OPEN, step("setTakes", session=1, stage="a", takes=3, tick=1)], lines("opened 1 at 0", "committed 1"),
+           begins('whatif: line 2: warning: stage "a": nothing reads "tick"')),
+    Case("step: the last line without its end", ["serve", "r.json"], "refused 51 NoSession\n", err=told("whatif: line 1: session 7 is not open: open it first"),
+         files={"r.json": R}, stdin=step("head", session=7)),
+    served("a name that is taken", [OPEN, step("add", session=1, new=stage("manual", name="a"))], lines("opened 1 at 0", "refused 11 NameTaken"),
+           begins('whatif: line 2: stage "a": a stage of the version has the name already')),
+    served("a bad name", [OPEN, step("add", session=1, new=stage("manual", name="-"))], lines("opened 1 at 0", "refused 12 BadName"), begins('whatif: line 2: new stage "-": a name is 1 to 64')),
+    served("another number of sources", [OPEN, step("rewire", session=1, stage="b", sources=[], inner=[])], lines("opened 1 at 0", "refused 13 Arity"),
+           begins('whatif: line 2: stage "b": the operation takes another number of sources')),
+    served("sources of a new stage", [OPEN, step("add", session=1, new=stage("thenRun", name="n", action=1))], lines("opened 1 at 0", "refused 13 Arity"),
+           begins('whatif: line 2: new stage "n": "thenRun" takes 1 source, and none is given')),
+    served("an end before the creation", [OPEN, step("add", session=1, new=stage("manual", name="n", created=9, ends=[{"at": 3, "do": "cancel"}]))],
+           lines("opened 1 at 0", "refused 16 EndBeforeCreated"), begins('whatif: line 2: new stage "n": ends[0] is at 3, before the stage is created at 9')),
+    served("no action", [OPEN, step("add", session=1, new=stage("manual", name="n")), step("setTakes", session=1, stage="n", takes=1)],
+           lines("opened 1 at 0", "committed 1", "refused 17 NoAction"), begins('whatif: line 3: stage "n": the operation has no action that could take time')),
+    served("a large action", [OPEN, step("setAction", session=1, stage="a", action=deep(40))], re.compile(rb"opened 1 at 0\nrefused 20 Expr.*\n"),
+           begins('whatif: line 2: stage "a": the action has 40 nodes and a depth of 40')),
+    served("a removed source", [OPEN, step("remove", session=1, stage="b"), step("add", session=1, new=stage("copy", name="c", sources=["b"]))],
+           lines("opened 1 at 0", "committed 1", "refused 14 NoSource"), begins('whatif: line 3: stage "c": a source or an inner stage is no stage of the version')),
+    served("a bad session", [step("open", session=0, version=0)], "refused 57 BadSession\n", begins("whatif: line 1: a session's number is from 1 to 65535")),
+    served("too many sessions", [step("open", session=it, version=0) for it in range(1, 1026)], re.compile(rb"(opened \d+ at 0\n){1024}refused 58 TooManySessions\n"),
+           begins("whatif: line 1025: 1024 sessions are open: close one first")),
+    served("an edit of no name", [OPEN, step("edits", session=1, edits=[{"do": "sett"}])], lines("opened 1 at 0", "refused 71 Shape do"),
+           begins('whatif: line 2: edits[0].do is "sett"')),
+    served("edits of no array", [OPEN, step("edits", session=1, edits=3)], lines("opened 1 at 0", "refused 71 Shape edits"), begins("whatif: line 2: edits is 3 (it is an array of edits)")),
+    served("an edit of no object", [OPEN, step("edits", session=1, edits=[3])], lines("opened 1 at 0", "refused 71 Shape edits"), begins("whatif: line 2: edits[0] is 3 (an edit is an object)")),
+    served("a step of no object", ["[]"], "refused 71 Shape step\n", begins("whatif: line 1: the step is an array (a step is one JSON object on a line)")),
+    served("a count too large", [step("open", session=2**32, version=0)], "refused 71 Shape session\n", begins("whatif: line 1: session is 4294967296 (it is a whole number from 0 to 4294967295)")),
+    served("a report of no name", [step("report", version=0, what="al")], "refused 71 Shape what\n", begins('whatif: line 1: what is "al"; did you mean "all"? (the reports are all, one')),
+    served("a report of two", [step("report", version=0, session=1, what="all")], "refused 71 Shape session\n", begins("whatif: line 1: session is 1 (a report is of a session or of a version")),
+    served("a new stage of no object", [OPEN, step("add", session=1, new=3)], lines("opened 1 at 0", "refused 71 Shape new"), begins("whatif: line 2: new is 3 (a stage is an object)")),
+    served("a new stage of a list", [OPEN, step("edits", session=1, edits=[{"do": "add", "new": stage("manul", name="n")}])], lines("opened 1 at 0", "refused 71 Shape op"),
+           begins('whatif: line 2: edits[0].new.op ("n") is "manul"; did you mean "manual"?')),
+    served("an unread member of a new stage", [OPEN, step("add", session=1, new=stage("manual", name="n", creatd=1))], lines("opened 1 at 0", "committed 1"),
+           told('whatif: line 2: warning: stage "n": nothing reads "creatd"; did you mean "created"?')),
+    served("a thousand are explained", [step("head", session=7)] * 1002, "refused 51 NoSession\n" * 1002,
+           r"(?s)\A(whatif: line \d+: session 7 is not open: open it first\n){1000}whatif: line 1000: from here on no step is explained[^\n]*\n\Z"),
+    served("--quiet", [step("head", session=7)], "refused 51 NoSession\n", r"\A\Z", words=["--quiet"]),
+    served("--strict", [OPEN, step("head", session=7), step("close", session=1)], lines("opened 1 at 0", "refused 51 NoSession"),
+           told("whatif: line 2: session 7 is not open: open it first"), 5, words=["--strict"]),
+    served("--strict with --quiet", [OPEN, step("head", session=7), step("close", session=1)], lines("opened 1 at 0", "refused 51 NoSession"), r"\A\Z", 5, words=["--strict", "--quiet"]),
+    served("--strict where none is refused", [OPEN], "opened 1 at 0\n", r"\A\Z", words=["--strict"]),
+    served("a stage that has the name of a refusal", [OPEN, step("add", session=1, new=stage("manual", name="refused")), step("report", session=1, what="one", stage="refused")],
+           re.compile(rb"opened 1 at 0\ncommitted 1\nrefused manual rank 0 pending\n(.*\n){4}"), r"\A\Z", words=["--strict"]),
+    Case("step: none is read of a refused recording", ["serve", "r.json"], "refused 71 Shape stages\n", 1, err=r"\Awhatif: r.json: stages is missing[^\n]*\nwhatif: the recording is refused, so no step was read\n\Z",
+         files={"r.json": "{}"}, stdin=lines(OPEN)),
+    Case("step: warnings of the recording, strictly", ["serve", "--strict", "r.json"], "", 1, err=begins("whatif: warning: "), files={"r.json": UNREAD}, stdin=lines(OPEN)),
+]
+
+
+def mistakes():
+    """The cases of what people are told."""
+    return [*RECORDINGS, *ALONE_CASES, *NO_JSON_CASES, *ARCHIVES, *BYTES, *OPTIONS, *CHECKS, *STEPS]
