@@ -61,10 +61,10 @@ fn ended(end: Result<(), ManyFault>) -> Result<(), Fault> {
 }
 
 /// Answers several scripts, each from a file of its own, about the recording of a file.
-pub(crate) fn run_many<H: Threads + Wait + Copy + Drop + Send + Sync>(
-    rt: &HostRuntime,
+pub(crate) fn run_many<'a, H: Threads + Wait + Copy + Drop + Send + Sync>(
+    rt: &'a HostRuntime,
     threads: H,
-    matches: &ArgMatches<'_>,
+    matches: &ArgMatches<'a>,
 ) -> Result<(), Fault> {
     let workers = matches.get_one::<usize>("workers").unwrap_or(1);
     let paths = matches.get_strs("SCRIPT").unwrap_or(&[]);

@@ -67,11 +67,15 @@ pub(crate) fn why_refused(
     match fault {
         ReadingFault::TooLong => voice.text("it has more than 67108864 bytes"),
         ReadingFault::Json => why_no_json(alloc, voice, recording),
-        ReadingFault::Memory | ReadingFault::ListSize => None,
-        _ => {
-            let value = Value::from_slice(alloc, recording).ok()?;
-            why_value_refused(alloc, voice, &value, fault).ok()?
+        ReadingFault::Shape(member) => {
+            why_at(alloc, voice, recording, 71, None, Some(member.text()))
         }
+        ReadingFault::Refused(refused) => {
+            let number = refused.refusal.number();
+            why_at(alloc, voice, recording, number, Some(refused.at), None)
+        }
+        ReadingFault::Cycle(places) => why_circle(alloc, voice, recording, places.as_slice()),
+        ReadingFault::Memory | ReadingFault::ListSize => None,
     }
 }
 
@@ -83,31 +87,25 @@ fn why_no_json(alloc: Global, voice: Voice<'_>, recording: &[u8]) -> Option<Stri
     }
 }
 
-/// Why a JSON value is refused.
-fn why_value_refused(
+/// The fault of a number, at a place or of a member.
+fn why_at(
     alloc: Global,
     voice: Voice<'_>,
-    value: &Value,
-    fault: &ReadingFault,
-) -> Result<Option<String>, AllocError> {
-    if let ReadingFault::Cycle(places) = fault {
-        return match circle_of(alloc, value, places.as_slice())? {
-            Some(circle) => Ok(voice.text(circle)),
-            None => Ok(None),
-        };
-    }
-    let findings = examine_recording(alloc, value)?;
-    let found = match fault {
-        ReadingFault::Shape(member) => findings.explanation(71, None, Some(member.text())),
-        ReadingFault::Refused(refused) => {
-            findings.explanation(refused.refusal.number(), Some(refused.at), None)
-        }
-        _ => None,
-    };
-    match found {
-        Some(finding) => Ok(voice.text(finding)),
-        None => Ok(None),
-    }
+    recording: &[u8],
+    number: u32,
+    place: Option<usize>,
+    member: Option<&str>,
+) -> Option<String> {
+    let value = Value::from_slice(alloc, recording).ok()?;
+    let findings = examine_recording(alloc, &value).ok()?;
+    voice.text(findings.explanation(number, place, member)?)
+}
+
+/// The names of stages that wait for each other.
+fn why_circle(alloc: Global, voice: Voice<'_>, recording: &[u8], places: &[u32]) -> Option<String> {
+    let value = Value::from_slice(alloc, recording).ok()?;
+    let circle = circle_of(alloc, &value, places).ok()?;
+    voice.text(circle?)
 }
 
 /// That no stage of a recording has the name, and which one is like it.

@@ -64,15 +64,19 @@ impl Fault {
     /// The same, of a recording that is about to be answered from a script.
     pub(crate) fn before_script(self, alloc: Global) -> Fault {
         match self {
-            Fault::Refused(fault, Some(why)) => {
-                let text: Result<String, AllocError> = format!(in alloc;
-                    "{why}\nwhatif: the recording is refused, so no step was read"
-                );
-                Fault::Refused(fault, text.ok())
-            }
+            Fault::Refused(fault, why) => Fault::Refused(fault, with_script(alloc, why)),
             other => other,
         }
     }
+}
+
+/// What is told of a refused recording, and that no step was read.
+fn with_script(alloc: Global, why: Option<String>) -> Option<String> {
+    let why = why?;
+    let text: Result<String, AllocError> = format!(in alloc;
+        "{why}\nwhatif: the recording is refused, so no step was read"
+    );
+    text.ok()
 }
 
 impl fmt::Display for Fault {

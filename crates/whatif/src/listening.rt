@@ -89,10 +89,10 @@ impl<S: Sink> Sink for ListeningSink<'_, S> {
 
 /// A source that gives a script on line by line.
 #[derive(Drop)]
-pub(crate) struct ListeningSource<'a, R> {
+pub(crate) struct ListeningSource<'a, 't, R> {
     reader: CountedReader<R>,
     watch: &'a Watch,
-    teller: StepTeller<'a>,
+    teller: StepTeller<'t>,
     chunk: Vec<u8>,
     taken: usize,
     filled: usize,
@@ -102,14 +102,14 @@ pub(crate) struct ListeningSource<'a, R> {
     is_line_done: bool,
 }
 
-impl<'a, R: Read> ListeningSource<'a, R> {
+impl<'a, 't, R: Read> ListeningSource<'a, 't, R> {
     pub(crate) fn new(
         alloc: Global,
         reader: R,
         watch: &'a Watch,
-        teller: StepTeller<'a>,
+        teller: StepTeller<'t>,
         chunk: Vec<u8>,
-    ) -> ListeningSource<'a, R>
+    ) -> ListeningSource<'a, 't, R>
         ensures { read_failures result.reader ≡ 0 }
     {
         ListeningSource {
@@ -171,7 +171,7 @@ impl<'a, R: Read> ListeningSource<'a, R> {
     }
 }
 
-impl<R: Read> Source for ListeningSource<'_, R> {
+impl<R: Read> Source for ListeningSource<'_, '_, R> {
     ghost remaining = { λ _. None };
 
     ghost failures = { λ listening. read_failures listening.reader };

@@ -106,7 +106,7 @@ fn words(rt: &HostRuntime) -> Result<Vec<String>, Fault> {
 }
 
 /// Prints the report of all stages of a recording.
-fn run_report(rt: &HostRuntime, matches: &ArgMatches<'_>) -> Result<(), Fault> {
+fn run_report<'a>(rt: &'a HostRuntime, matches: &ArgMatches<'a>) -> Result<(), Fault> {
     let voice = Voice::new(rt, matches);
     let path = matches.get_str("FILE");
     voice.say_what_is_read(path.is_some());
@@ -134,10 +134,10 @@ fn run_report(rt: &HostRuntime, matches: &ArgMatches<'_>) -> Result<(), Fault> {
 }
 
 /// Prints what is asked of one stage of a recording.
-fn run_report_stage<W: Runner>(
-    rt: &HostRuntime,
+fn run_report_stage<'a, W: Runner>(
+    rt: &'a HostRuntime,
     runner: &W,
-    matches: &ArgMatches<'_>,
+    matches: &ArgMatches<'a>,
     asked: StageReport,
 ) -> Result<(), Fault> {
     let Some(name) = matches.get_str("STAGE") else {
@@ -175,10 +175,10 @@ fn run_report_stage<W: Runner>(
 }
 
 /// Answers a script from standard input, about the recording of a file.
-fn run_serve<W: Runner>(
-    rt: &HostRuntime,
+fn run_serve<'a, W: Runner>(
+    rt: &'a HostRuntime,
     runner: &W,
-    matches: &ArgMatches<'_>,
+    matches: &ArgMatches<'a>,
 ) -> Result<(), Fault> {
     let Some(path) = matches.get_str("FILE") else {
         return Err(Fault::CommandLine);
