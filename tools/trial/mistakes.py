@@ -196,6 +196,13 @@ OPTIONS = [
     Case("--strict with --quiet", ["sweep", "--strict", "--quiet", "r.json", "tax"], "", 1, err=r"\A\Z", files={"r.json": UNREAD}),
     Case("--strict where there is no warning", ["report", "--strict", "r.json"], FIRST_RUN, err=r"\A\Z", files={"r.json": R}),
     Case("$schema is for editors", ["report", "--strict"], FIRST_RUN, err=r"\A\Z", stdin=R.replace("{", '{"$schema":"recording.schema.json",', 1)),
+    Case("labels of the recording", ["report", "--strict"], FIRST_RUN, err=r"\A\Z", stdin=R.replace("{", '{"service":"shop","unit":"ms","trace":"4bf9","deadline":800,"x-form":1,', 1)),
+    Case("labels of a stage, an outcome and an end", ["check", "--strict", "-"], "", err=r"\A\Z", stdin=recording(
+        stage("manual", pinResult={"value": 1, "x-by": "me"}, pinMoment=4, ends=[{"at": 1, "do": "cancel", "_why": "x"}], **{"x-service": "shop", "$id": 3}))),
+    Case("a label of the recording that is like a member", ["report"], None, err=told('whatif: warning: the recording: nothing reads "stage"; did you mean "stages"?'),
+         stdin=R.replace("{", '{"stage":"production",', 1)),
+    Case("a member of a stage that is like none", ["report"], None, err=told('whatif: warning: stage "a": nothing reads "service"; a label of your own begins with x-'),
+         stdin=recording(stage("manual", service="shop"))),
     Case("twenty warnings are told", ["report"], None, err=r'(?s)\A(whatif: warning: stage "m[^\n]*\n){20}whatif: warning: and 30 more, which whatif check tells\n\Z', stdin=MANY_UNREAD),
     Case("--version", ["--version"], re.compile(rb"whatif \d+\.\d+\.\d+\n")),
     Case("help of help", ["help", "--help"], re.compile(rb"(?s).*report.*serve.*")),

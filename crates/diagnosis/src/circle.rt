@@ -1,4 +1,6 @@
 //! Stages that wait for each other.
+ghost use Rattle.std.specs.Prelude.{◌≡◌, IfOk, IfSome, length, vec_len};
+
 use crate::quoted::Quoted;
 use crate::stage::name_of;
 use crate::stage_checks::items_of;
@@ -32,7 +34,9 @@ pub fn circle_of<'a>(
     alloc: Global,
     recording: &'a Value,
     places: &[u32],
-) -> Result<Option<Circle<'a>>, AllocError> {
+) -> Result<Option<Circle<'a>>, AllocError>
+    ensures { IfOk result (λ found. IfSome found (λ circle. vec_len circle.names ≡ length places.now)) }
+{
     let stages = items_of(recording, "stages");
     let mut names = Vec::new(alloc);
     let mut before: Option<&Value> = None;

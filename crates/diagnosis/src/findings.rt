@@ -109,7 +109,7 @@ impl<'a> Findings<'a> {
         Ok(())
     }
 
-    /// Keeps a warning of each member of an object that is not among those which are read there.
+    /// Keeps a warning of each member of an object that is not among those which are read there, and no label.
     pub(crate) fn unread(
         &mut self,
         path: Path<'a>,
@@ -119,14 +119,17 @@ impl<'a> Findings<'a> {
         let members = unread_members(self.alloc, object, read)?;
         for member in members.as_slice() {
             let near = nearest(self.alloc, member, read)?;
-            self.warning(Warning {
-                site: path.site,
-                within: path.member,
-                index: path.index,
-                member,
-                why: Unread::Unknown { near },
-                more: 0,
-            })?;
+            // (of the recording as a whole what is like none of its members is a label)
+            if near.is_some() || !matches!(path.site, Site::Recording) {
+                self.warning(Warning {
+                    site: path.site,
+                    within: path.member,
+                    index: path.index,
+                    member,
+                    why: Unread::Unknown { near },
+                    more: 0,
+                })?;
+            }
         }
         Ok(())
     }
@@ -153,7 +156,13 @@ impl<'a> Findings<'a> {
     }
 }
 
-/// The members of an object that are not among those which are read there, but for those that there is no room to keep.
+/// Whether the name of a member says that it is the writer's own, and not one that is to be read.
+pub(crate) fn is_label(member: &[u8]) -> bool {
+    matches!(member, [b'$' | b'_', ..] | [b'x', b'-', ..])
+}
+
+/// The members of an object that are no labels, and not among those which are read there, but for those that there is no
+/// room to keep.
 pub(crate) fn unread_members<'a>(
     alloc: Global,
     object: &'a Value,
@@ -167,7 +176,8 @@ pub(crate) fn unread_members<'a>(
     };
     for name in members.keys() {
         let member = name.as_str();
-        if unread.len() < MOST_KEPT && !is_among(member, read) && object.get(member).is_some() {
+        let is_kept = unread.len() < MOST_KEPT && !is_label(member.as_bytes());
+        if is_kept && !is_among(member, read) && object.get(member).is_some() {
             unread.push(member)?;
         }
     }

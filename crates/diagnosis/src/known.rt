@@ -26,15 +26,14 @@ impl KnownStages {
         }
     }
 
-    /// The names of a recording.
-    pub fn of_recording(alloc: Global, recording: &Value) -> Result<KnownStages, AllocError> {
-        let mut known = KnownStages::new(alloc);
+    /// Adds the names of the stages of a recording.
+    pub fn add_of_recording(&mut self, recording: &Value) -> Result<(), AllocError> {
         for stage in items_of(recording, "stages") {
             if let Some(name) = name_of(stage) {
-                known.add(name)?;
+                self.add(name)?;
             }
         }
-        Ok(known)
+        Ok(())
     }
 
     pub(crate) fn alloc(&self) -> Global {

@@ -221,6 +221,21 @@ fn look_at_end_exception<'a>(
     }
 }
 
+/// Whether an end of the kind has a delay.
+pub(crate) fn has_delay(kind: &str) -> bool {
+    is_among(kind, &["orTimeout", "completeOnTimeout"])
+}
+
+/// Whether an end of the kind has the value that it completes with.
+pub(crate) fn has_value(kind: &str) -> bool {
+    is_among(kind, &["complete", "completeOnTimeout"])
+}
+
+/// Whether an end of the kind has the exception that it completes with.
+pub(crate) fn has_exception(kind: &str) -> bool {
+    kind == "completeExceptionally"
+}
+
 /// Looks at the further members of an end of a kind, and at those that only other kinds have.
 fn look_at_kind<'a>(
     findings: &mut Findings<'a>,
@@ -228,17 +243,17 @@ fn look_at_kind<'a>(
     end: &'a Value,
     kind: &'a str,
 ) -> Result<(), AllocError> {
-    if is_among(kind, &["orTimeout", "completeOnTimeout"]) {
+    if has_delay(kind) {
         look_at_end_ticks(findings, path, end, "delay")?;
     } else {
         findings.unread_beside(path, end, "delay", kind)?;
     }
-    if is_among(kind, &["complete", "completeOnTimeout"]) {
+    if has_value(kind) {
         look_at_end_value(findings, path, end)?;
     } else {
         findings.unread_beside(path, end, "value", kind)?;
     }
-    if kind == "completeExceptionally" {
+    if has_exception(kind) {
         look_at_end_exception(findings, path, end)
     } else {
         findings.unread_beside(path, end, "throws", kind)

@@ -16,8 +16,8 @@ const MOST_STAGES: usize = 65_536;
 /// How many mistaken names a like one is looked for.
 const MOST_LOOKS: usize = 16;
 
-/// The members of a recording. `$schema` is for editors.
-const RECORDING_MEMBERS: &[&str] = &["form", "wrap", "stages", "$schema"];
+/// The members of a recording.
+const RECORDING_MEMBERS: &[&str] = &["form", "wrap", "stages"];
 
 /// The places of names: of several stages of one name that of the first.
 #[derive(Drop)]

@@ -58,6 +58,11 @@ impl<'a> Refusal<'a> {
             index,
         })
     }
+
+    /// Whether it is explained by the names of stages.
+    pub fn is_of_names(self) -> bool {
+        matches!(self.number, 10 | 14)
+    }
 }
 
 /// The edit that was refused: the step itself, or one of its list.

@@ -31,7 +31,7 @@ pub struct Warning<'a> {
 impl fmt::Display for Unread<'_> {
     fn fmt<W: fmt::Write>(&self, f: &mut fmt::Formatter<W>) -> fmt::Result {
         match *self {
-            Unread::Unknown { near: None } => Ok(()),
+            Unread::Unknown { near: None } => f.write_str("; a label of your own begins with x-"),
             Unread::Unknown { near: Some(near) } => {
                 let near = Quoted(near);
                 write!(f, "; did you mean {near}?")

@@ -52,7 +52,7 @@ fn graph_of(
         return Err(Fault::CommandLine);
     };
     let recording = input::file(rt, voice, path)?;
-    let _known = warn(rt.alloc(), voice, &recording)?;
+    warn(rt.alloc(), voice, &recording)?;
     input::graph(rt.alloc(), voice, &recording)
 }
 

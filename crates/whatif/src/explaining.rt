@@ -2,7 +2,7 @@
 use crate::fault::Fault;
 use crate::voice::Voice;
 use diagnosis::{
-    KnownStages, beginning_of, circle_of, examine_recording, json_fault, nearest_stage,
+    beginning_of, circle_of, examine_recording, json_fault, may_be_unread, nearest_stage,
 };
 use recording::Fault as ReadingFault;
 use serde_json::Value;
@@ -14,32 +14,23 @@ const MOST_WARNINGS: usize = 20;
 /// The most bytes of a recording.
 const LONGEST: usize = 67_108_864;
 
-/// Tells of members that nothing reads, and answers the names of the stages. Where that is to end the program it does.
-pub(crate) fn warn(
-    alloc: Global,
-    voice: Voice<'_>,
-    recording: &[u8],
-) -> Result<KnownStages, Fault> {
-    let nothing = KnownStages::new(alloc);
-    if voice.is_quiet() && !voice.is_strict() || recording.len() > LONGEST {
-        return Ok(nothing);
+/// Tells of members that nothing reads. Where that is to end the program it does.
+pub(crate) fn warn(alloc: Global, voice: Voice<'_>, recording: &[u8]) -> Result<(), Fault> {
+    let is_asked = !voice.is_quiet() || voice.is_strict();
+    if !is_asked || recording.len() > LONGEST || !may_be_unread(recording) {
+        return Ok(());
     }
     match warnings_told(alloc, voice, recording) {
-        Ok((known, warned)) if warned == 0 || !voice.is_strict() => Ok(known),
-        Ok(_) => Err(Fault::Strict),
+        Ok(warned) if warned > 0 && voice.is_strict() => Err(Fault::Strict),
         // (where memory is out nothing is told)
-        Err(_) => Ok(nothing),
+        _ => Ok(()),
     }
 }
 
-/// Tells the warnings, and answers the names of the stages and how many warnings there are.
-fn warnings_told(
-    alloc: Global,
-    voice: Voice<'_>,
-    recording: &[u8],
-) -> Result<(KnownStages, usize), AllocError> {
+/// Tells the warnings, and answers how many there are.
+fn warnings_told(alloc: Global, voice: Voice<'_>, recording: &[u8]) -> Result<usize, AllocError> {
     let Ok(value) = Value::from_slice(alloc, recording) else {
-        return Ok((KnownStages::new(alloc), 0));
+        return Ok(0);
     };
     let findings = examine_recording(alloc, &value)?;
     let warnings = findings.warnings();
@@ -50,8 +41,7 @@ fn warnings_told(
     if more > 0 {
         voice.say(format_args!("warning: and {more} more, which whatif check tells"));
     }
-    let known = KnownStages::of_recording(alloc, &value)?;
-    Ok((known, warnings.len()))
+    Ok(warnings.len())
 }
 
 /// Why a recording is refused.

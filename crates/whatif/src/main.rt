@@ -111,7 +111,7 @@ fn run_report<'a>(rt: &'a HostRuntime, matches: &ArgMatches<'a>) -> Result<(), F
     let path = matches.get_str("FILE");
     voice.say_what_is_read(path.is_some());
     let recording = input::recording(rt, voice, path)?;
-    let _known = warn(rt.alloc(), voice, &recording)?;
+    warn(rt.alloc(), voice, &recording)?;
     let reason = Cell::new(None);
     let Ok(writer) = BufWriter::new(
         rt.alloc(),
@@ -145,7 +145,7 @@ fn run_report_stage<'a, W: Runner>(
     };
     let voice = Voice::new(rt, matches);
     let recording = input::recording(rt, voice, matches.get_str("FILE"))?;
-    let _known = warn(rt.alloc(), voice, &recording)?;
+    warn(rt.alloc(), voice, &recording)?;
     let reason = Cell::new(None);
     let Ok(writer) = BufWriter::new(
         rt.alloc(),
@@ -185,11 +185,10 @@ fn run_serve<'a, W: Runner>(
     };
     let voice = Voice::new(rt, matches);
     let recording = input::file(rt, voice, path)?;
-    let known = warn(rt.alloc(), voice, &recording)?;
+    warn(rt.alloc(), voice, &recording)?;
     match input::graph::<InShared>(rt.alloc(), voice, &recording) {
         Ok(graph) => {
-            drop(recording);
-            let teller = StepTeller::new(rt.alloc(), voice, known, voice.is_strict());
+            let teller = StepTeller::new(rt.alloc(), voice, recording);
             serve_listening(rt, runner, voice, teller, graph)
         }
         Err(fault) => Err(fault.before_script(rt.alloc())),

@@ -1,6 +1,6 @@
 //! What is told of the steps of a script, by line.
 use crate::voice::Voice;
-use diagnosis::{KnownStages, Refusal, examine_step, explain_step, json_fault};
+use diagnosis::{Findings, KnownStages, Refusal, examine_step, explain_step, json_fault};
 use serde_json::Value;
 use std::alloc::{AllocError, Global};
 
@@ -12,6 +12,8 @@ const MOST_TOLD: usize = 1000;
 pub(crate) struct StepTeller<'a> {
     alloc: Global,
     voice: Voice<'a>,
+    /// The recording, as long as the names of its stages are not read.
+    recording: Vec<u8>,
     known: KnownStages,
     /// Whether the first refused step ends the script.
     is_strict: bool,
@@ -40,17 +42,13 @@ fn first_line(answer: &[u8]) -> Option<&str> {
 }
 
 impl<'a> StepTeller<'a> {
-    pub(crate) fn new(
-        alloc: Global,
-        voice: Voice<'a>,
-        known: KnownStages,
-        is_strict: bool,
-    ) -> StepTeller<'a> {
+    pub(crate) fn new(alloc: Global, voice: Voice<'a>, recording: Vec<u8>) -> StepTeller<'a> {
         StepTeller {
             alloc,
             voice,
-            known,
-            is_strict,
+            recording,
+            known: KnownStages::new(alloc),
+            is_strict: voice.is_strict(),
             is_stopped: false,
             told: 0,
         }
@@ -81,6 +79,37 @@ impl<'a> StepTeller<'a> {
         }
     }
 
+    /// Reads the names of the recording's stages, unless that is done.
+    fn read_names(&mut self) -> Result<(), AllocError> {
+        if self.recording.is_empty() {
+            return Ok(());
+        }
+        // (it was read once, so only memory can be wanting)
+        let Ok(recording) = Value::from_slice(self.alloc, self.recording.as_slice()) else {
+            return Err(AllocError);
+        };
+        self.known.add_of_recording(&recording)?;
+        self.recording = Vec::new(self.alloc);
+        Ok(())
+    }
+
+    /// Tells why a step was refused.
+    fn tell_refused(
+        &mut self,
+        number: u64,
+        findings: &Findings<'_>,
+        step: &Value,
+        refusal: Refusal<'_>,
+    ) -> Result<(), AllocError> {
+        if refusal.is_of_names() {
+            self.read_names()?;
+        }
+        let refused = explain_step(findings, step, refusal, &mut self.known)?;
+        self.voice.say_of_line(number, refused);
+        Ok(())
+    }
+
+    /// Tells of a step, which is not skipped.
     fn tell_of_step(
         &mut self,
         number: u64,
@@ -104,8 +133,7 @@ impl<'a> StepTeller<'a> {
             self.told = self.told.saturating_add(1);
         }
         if let Some(refusal) = refusal {
-            let refused = explain_step(&findings, &step, refusal, &mut self.known)?;
-            self.voice.say_of_line(number, refused);
+            self.tell_refused(number, &findings, &step, refusal)?;
         } else {
             self.known.add_of_step(&step)?;
         }
