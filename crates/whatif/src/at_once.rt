@@ -3,14 +3,11 @@ ghost use Rattle.std.specs.Prelude.{◌≡◌, ◌-◌, ◌^◌, ◌<◌, All, I
 ghost use Rattle.stage_graph.specs.Walk.{IsRanked};
 ghost use Rattle.text_io.specs.Counted.{read_failures};
 
-use crate::explaining::warn;
-use crate::fault::Fault;
-use crate::input;
-use crate::remembering::{Remembering, with_reason};
-use crate::voice::Voice;
+use crate::fault::ended;
 use clap::ArgMatches;
 use command_line::{MOST_SCRIPTS, MOST_WORKERS};
-use many_scripts::{ManyFault, many};
+use console::{Fault, Remembering, Voice, file, graph, warn, with_reason};
+use many_scripts::many;
 use stage_graph::{Graph, InShared};
 use std::cell::Cell;
 use std::fs::File;
@@ -51,13 +48,9 @@ fn graph_of(
     let Some(path) = matches.get_str("FILE") else {
         return Err(Fault::CommandLine);
     };
-    let recording = input::file(rt, voice, path)?;
+    let recording = file(rt, voice, path)?;
     warn(rt.alloc(), voice, &recording)?;
-    input::graph(rt.alloc(), voice, &recording)
-}
-
-fn ended(end: Result<(), ManyFault>) -> Result<(), Fault> {
-    Ok(end?)
+    graph(rt.alloc(), voice, &recording)
 }
 
 /// Answers several scripts, each from a file of its own, about the recording of a file.

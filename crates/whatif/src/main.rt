@@ -1,40 +1,29 @@
 //! `whatif`: a what-if debugger for recorded runs of asynchronous Java services.
 #![tactic(auto)]
 
-ghost use Rattle.std.specs.Prelude.{◌-◌, ◌^◌, ◌<◌};
 ghost use Rattle.stage_graph.specs.Walk.{IsRanked};
 
 mod at_once;
-mod checking;
-mod explaining;
 mod fault;
-mod input;
-mod listening;
-mod remembering;
-mod step_telling;
-mod voice;
 
 use at_once::run_many;
-use checking::run_check;
 use clap::ArgMatches;
 use command_line::{command, told, without_help_of_help};
-use explaining::{warn, why_no_stage, why_refused};
-use fault::Fault;
+use console::{
+    Fault, ListeningSink, ListeningSource, Remembering, StepTeller, Voice, Watch, flushed,
+    run_check, warn, why_no_stage, with_explanation, with_reason,
+};
+use fault::{reported, served};
 use level_pool::{OneThread, Runner};
-use listening::{ListeningSink, ListeningSource, Watch};
-use recording_reports::{RecordingFault, StageReport, report_all, report_stage};
-use remembering::{Remembering, with_reason};
-use serve_script::{ServeFault, serve};
+use recording_reports::{StageReport, report_all, report_stage};
+use serve_script::serve;
 use stage_graph::{Graph, InShared};
-use std::alloc::Global;
 use std::cell::Cell;
 use std::io::{self, BufWriter, ErrorKind};
 use std::process::ExitCode;
 use std::sync::Wait;
 use std::thread::Threads;
-use step_telling::StepTeller;
-use text_io::{CountedWriter, Sink};
-use voice::Voice;
+use text_io::CountedWriter;
 
 /// The most bytes of a script that are read at once.
 const AT_ONCE: usize = 65_536;
@@ -110,7 +99,7 @@ fn run_report<'a>(rt: &'a HostRuntime, matches: &ArgMatches<'a>) -> Result<(), F
     let voice = Voice::new(rt, matches);
     let path = matches.get_str("FILE");
     voice.say_what_is_read(path.is_some());
-    let recording = input::recording(rt, voice, path)?;
+    let recording = console::recording(rt, voice, path)?;
     warn(rt.alloc(), voice, &recording)?;
     let reason = Cell::new(None);
     let Ok(writer) = BufWriter::new(
@@ -144,7 +133,7 @@ fn run_report_stage<'a, W: Runner>(
         return Err(Fault::CommandLine);
     };
     let voice = Voice::new(rt, matches);
-    let recording = input::recording(rt, voice, matches.get_str("FILE"))?;
+    let recording = console::recording(rt, voice, matches.get_str("FILE"))?;
     warn(rt.alloc(), voice, &recording)?;
     let reason = Cell::new(None);
     let Ok(writer) = BufWriter::new(
@@ -184,9 +173,9 @@ fn run_serve<'a, W: Runner>(
         return Err(Fault::CommandLine);
     };
     let voice = Voice::new(rt, matches);
-    let recording = input::file(rt, voice, path)?;
+    let recording = console::file(rt, voice, path)?;
     warn(rt.alloc(), voice, &recording)?;
-    match input::graph::<InShared>(rt.alloc(), voice, &recording) {
+    match console::graph::<InShared>(rt.alloc(), voice, &recording) {
         Ok(graph) => {
             let teller = StepTeller::new(rt.alloc(), voice, recording);
             serve_listening(rt, runner, voice, teller, graph)
@@ -230,38 +219,4 @@ fn serve_listening<W: Runner>(
         return Err(Fault::Step);
     }
     end
-}
-
-fn reported(end: Result<(), RecordingFault>) -> Result<(), Fault> {
-    Ok(end?)
-}
-
-fn served(end: Result<(), ServeFault>) -> Result<(), Fault> {
-    Ok(end?)
-}
-
-/// The end, with the explanation of a recording that is refused.
-fn with_explanation(
-    alloc: Global,
-    voice: Voice<'_>,
-    recording: &[u8],
-    end: Result<(), Fault>,
-) -> Result<(), Fault> {
-    match end {
-        Err(Fault::Refused(fault, None)) => {
-            let why = why_refused(alloc, voice, recording, &fault);
-            Err(Fault::Refused(fault, why))
-        }
-        end => end,
-    }
-}
-
-/// Passes on what was written; the end is that of the writing, or that this failed.
-fn flushed<S: Sink>(sink: &mut S, end: Result<(), Fault>) -> Result<(), Fault>
-    requires { S.failures sink.old < 2 ^ 64 - 1 }
-{
-    match sink.flush() {
-        Ok(()) => end,
-        Err(_) => Err(Fault::Write(None)),
-    }
 }

@@ -15,7 +15,7 @@ const MOST_WARNINGS: usize = 20;
 const LONGEST: usize = 67_108_864;
 
 /// Tells of members that nothing reads. Where that is to end the program it does.
-pub(crate) fn warn(alloc: Global, voice: Voice<'_>, recording: &[u8]) -> Result<(), Fault> {
+pub fn warn(alloc: Global, voice: Voice<'_>, recording: &[u8]) -> Result<(), Fault> {
     let is_asked = !voice.is_quiet() || voice.is_strict();
     if !is_asked || recording.len() > LONGEST || !may_be_unread(recording) {
         return Ok(());
@@ -45,7 +45,7 @@ fn warnings_told(alloc: Global, voice: Voice<'_>, recording: &[u8]) -> Result<us
 }
 
 /// Why a recording is refused.
-pub(crate) fn why_refused(
+pub fn why_refused(
     alloc: Global,
     voice: Voice<'_>,
     recording: &[u8],
@@ -99,7 +99,7 @@ fn why_circle(alloc: Global, voice: Voice<'_>, recording: &[u8], places: &[u32])
 }
 
 /// That no stage of a recording has the name, and which one is like it.
-pub(crate) fn why_no_stage(
+pub fn why_no_stage(
     alloc: Global,
     voice: Voice<'_>,
     recording: &[u8],
@@ -110,4 +110,20 @@ pub(crate) fn why_no_stage(
     }
     let value = Value::from_slice(alloc, recording).ok()?;
     voice.text(nearest_stage(alloc, &value, name).ok()?)
+}
+
+/// The end, with the explanation of a recording that is refused.
+pub fn with_explanation(
+    alloc: Global,
+    voice: Voice<'_>,
+    recording: &[u8],
+    end: Result<(), Fault>,
+) -> Result<(), Fault> {
+    match end {
+        Err(Fault::Refused(fault, None)) => {
+            let why = why_refused(alloc, voice, recording, &fault);
+            Err(Fault::Refused(fault, why))
+        }
+        end => end,
+    }
 }

@@ -9,7 +9,7 @@ const MOST_TOLD: usize = 1000;
 
 /// Tells of refused steps and of members that nothing reads.
 #[derive(Drop)]
-pub(crate) struct StepTeller<'a> {
+pub struct StepTeller<'a> {
     alloc: Global,
     voice: Voice<'a>,
     /// The recording, as long as the names of its stages are not read.
@@ -42,7 +42,7 @@ fn first_line(answer: &[u8]) -> Option<&str> {
 }
 
 impl<'a> StepTeller<'a> {
-    pub(crate) fn new(alloc: Global, voice: Voice<'a>, recording: Vec<u8>) -> StepTeller<'a> {
+    pub fn new(alloc: Global, voice: Voice<'a>, recording: Vec<u8>) -> StepTeller<'a> {
         StepTeller {
             alloc,
             voice,
@@ -54,12 +54,12 @@ impl<'a> StepTeller<'a> {
         }
     }
 
-    pub(crate) fn is_stopped(&self) -> bool {
+    pub fn is_stopped(&self) -> bool {
         self.is_stopped
     }
 
     /// Tells of a line and of what it was answered.
-    pub(crate) fn tell(&mut self, number: u64, line: &[u8], answer: &[u8]) {
+    pub fn tell(&mut self, number: u64, line: &[u8], answer: &[u8]) {
         let refusal = match first_line(answer) {
             Some(first) => Refusal::of_answer(first),
             None => None,

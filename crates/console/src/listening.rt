@@ -3,7 +3,6 @@
 //! The script is given on line by line, and what a line was answered is known before the next line is asked for. The
 //! answers go out as they would without it.
 ghost use Rattle.std.specs.Prelude.{◌≡◌, ◌≤◌, length, None};
-ghost use Rattle.text_io.specs.Counted.{read_failures};
 
 use crate::step_telling::StepTeller;
 use std::alloc::Global;
@@ -19,7 +18,7 @@ const LONGEST_LINE: usize = 65_600;
 
 /// What the source and the sink know of each other.
 #[derive(Drop)]
-pub(crate) struct Watch {
+pub struct Watch {
     alloc: Global,
     /// The front of what the last line was answered.
     answer: Cell<Vec<u8>>,
@@ -28,7 +27,8 @@ pub(crate) struct Watch {
 }
 
 impl Watch {
-    pub(crate) fn new(alloc: Global) -> Watch {
+    /// Nothing was answered, and nothing waits.
+    pub fn new(alloc: Global) -> Watch {
         Watch {
             alloc,
             answer: Cell::new(Vec::new(alloc)),
@@ -48,7 +48,7 @@ impl Watch {
     }
 
     /// Nothing is given on any more, so nothing is held back.
-    pub(crate) fn ends(&self) {
+    pub fn ends(&self) {
         self.is_more.set(false);
     }
 
@@ -63,9 +63,11 @@ impl Watch {
 
 /// A sink that keeps what was answered.
 #[derive(Drop)]
-pub(crate) struct ListeningSink<'a, S> {
-    pub(crate) sink: S,
-    pub(crate) watch: &'a Watch,
+pub struct ListeningSink<'a, S> {
+    /// Where the answers go.
+    pub sink: S,
+    /// What the source is told by.
+    pub watch: &'a Watch,
 }
 
 impl<S: Sink> Sink for ListeningSink<'_, S> {
@@ -89,7 +91,7 @@ impl<S: Sink> Sink for ListeningSink<'_, S> {
 
 /// A source that gives a script on line by line.
 #[derive(Drop)]
-pub(crate) struct ListeningSource<'a, 't, R> {
+pub struct ListeningSource<'a, 't, R> {
     reader: CountedReader<R>,
     watch: &'a Watch,
     teller: StepTeller<'t>,
@@ -103,14 +105,17 @@ pub(crate) struct ListeningSource<'a, 't, R> {
 }
 
 impl<'a, 't, R: Read> ListeningSource<'a, 't, R> {
-    pub(crate) fn new(
+    ghost use Rattle.console.specs.Listened.{failed_reads};
+
+    /// A source that has read nothing yet, by chunks as long as this one.
+    pub fn new(
         alloc: Global,
         reader: R,
         watch: &'a Watch,
         teller: StepTeller<'t>,
         chunk: Vec<u8>,
     ) -> ListeningSource<'a, 't, R>
-        ensures { read_failures result.reader ≡ 0 }
+        ensures { failed_reads result ≡ 0 }
     {
         ListeningSource {
             reader: CountedReader::new(reader),
@@ -126,8 +131,8 @@ impl<'a, 't, R: Read> ListeningSource<'a, 't, R> {
     }
 
     /// Tells what there is to tell of the last line and its answer, and begins the next one.
-    pub(crate) fn tell(&mut self)
-        ensures { read_failures self.new.reader ≡ read_failures self.old.reader }
+    pub fn tell(&mut self)
+        ensures { failed_reads self.new ≡ failed_reads self.old }
     {
         let answer = self.watch.answer.replace(Vec::new(self.watch.alloc));
         self.teller
@@ -138,14 +143,14 @@ impl<'a, 't, R: Read> ListeningSource<'a, 't, R> {
     }
 
     /// Whether the script was ended at a refused step.
-    pub(crate) fn is_stopped(&self) -> bool {
+    pub fn is_stopped(&self) -> bool {
         self.teller.is_stopped()
     }
 
     /// Gives on what waits, up to the end of a line.
     fn give(&mut self, buffer: &mut [u8]) -> usize
         ensures bound { result ≤ length buffer.new }
-        ensures failures { read_failures self.new.reader ≡ read_failures self.old.reader }
+        ensures failures { failed_reads self.new ≡ failed_reads self.old }
     {
         let waiting = self
             .chunk
@@ -172,9 +177,11 @@ impl<'a, 't, R: Read> ListeningSource<'a, 't, R> {
 }
 
 impl<R: Read> Source for ListeningSource<'_, '_, R> {
+    ghost use Rattle.console.specs.Listened.{failed_reads};
+
     ghost remaining = { λ _. None };
 
-    ghost failures = { λ listening. read_failures listening.reader };
+    ghost failures = { failed_reads };
 
     fn read(&mut self, buffer: &mut [u8]) -> Result<usize, ReadFault> {
         if self.is_line_done {

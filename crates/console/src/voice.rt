@@ -6,7 +6,7 @@ use std::io::{self, IsTerminal};
 
 /// What the words of the command line ask to be told, and of which file.
 #[derive(Clone, Copy)]
-pub(crate) struct Voice<'a> {
+pub struct Voice<'a> {
     rt: &'a HostRuntime,
     file: &'a str,
     is_quiet: bool,
@@ -14,7 +14,7 @@ pub(crate) struct Voice<'a> {
 }
 
 impl<'a> Voice<'a> {
-    pub(crate) fn new(rt: &'a HostRuntime, matches: &ArgMatches<'a>) -> Voice<'a> {
+    pub fn new(rt: &'a HostRuntime, matches: &ArgMatches<'a>) -> Voice<'a> {
         let file = match matches.get_str("FILE") {
             None | Some("-") => "standard input",
             Some(path) => path,
@@ -28,27 +28,27 @@ impl<'a> Voice<'a> {
     }
 
     /// The name of the file.
-    pub(crate) fn file(self) -> &'a str {
+    pub fn file(self) -> &'a str {
         self.file
     }
 
-    pub(crate) fn is_quiet(self) -> bool {
+    pub fn is_quiet(self) -> bool {
         self.is_quiet
     }
 
-    pub(crate) fn is_strict(self) -> bool {
+    pub fn is_strict(self) -> bool {
         self.is_strict
     }
 
     /// Says something of the recording.
-    pub(crate) fn say<D: Display + Drop>(self, what: D) {
+    pub fn say<D: Display + Drop>(self, what: D) {
         if !self.is_quiet {
             let _ = self.rt.eprintln(format_args!("whatif: {what}"));
         }
     }
 
     /// Says something of a line of the script.
-    pub(crate) fn say_of_line<D: Display + Drop>(self, number: u64, what: D) {
+    pub fn say_of_line<D: Display + Drop>(self, number: u64, what: D) {
         if !self.is_quiet {
             let _ = self
                 .rt
@@ -57,13 +57,13 @@ impl<'a> Voice<'a> {
     }
 
     /// What is to be said of the file where the program ends, unless nothing is; where memory is out nothing is.
-    pub(crate) fn text<D: Display + Drop>(self, what: D) -> Option<String> {
+    pub fn text<D: Display + Drop>(self, what: D) -> Option<String> {
         let file = self.file;
         self.text_of(file, what)
     }
 
     /// The same of another file.
-    pub(crate) fn text_of<D: Display + Drop>(self, file: &str, what: D) -> Option<String> {
+    pub fn text_of<D: Display + Drop>(self, file: &str, what: D) -> Option<String> {
         if self.is_quiet {
             return None;
         }
@@ -72,7 +72,7 @@ impl<'a> Voice<'a> {
     }
 
     /// The system's reason why a file can't be read or written.
-    pub(crate) fn reason(self, file: &str, error: io::Error) -> Option<String> {
+    pub fn reason(self, file: &str, error: io::Error) -> Option<String> {
         if self.is_quiet {
             return None;
         }
@@ -84,7 +84,7 @@ impl<'a> Voice<'a> {
     }
 
     /// Says that standard input is read, where a person may wait for something else.
-    pub(crate) fn say_what_is_read(self, is_given: bool) {
+    pub fn say_what_is_read(self, is_given: bool) {
         if !is_given && self.rt.stdin().is_terminal() {
             self.say("the recording is read from standard input, to its end");
         }

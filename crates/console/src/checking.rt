@@ -41,10 +41,7 @@ fn write_findings<W: Write>(
 
 /// Prints every fault of a recording, and every member that nothing reads; the status is 1 where there is a fault, or a
 /// warning that is to count as one.
-pub(crate) fn run_check<'a>(
-    rt: &'a HostRuntime,
-    matches: &ArgMatches<'a>,
-) -> Result<ExitCode, Fault> {
+pub fn run_check<'a>(rt: &'a HostRuntime, matches: &ArgMatches<'a>) -> Result<ExitCode, Fault> {
     let alloc = rt.alloc();
     let voice = Voice::new(rt, matches);
     let recording = input::recording(rt, voice, matches.get_str("FILE"))?;

@@ -1,14 +1,19 @@
 //! A writer that remembers why it failed.
+ghost use Rattle.std.specs.Prelude.{◌-◌, ◌^◌, ◌<◌};
+
 use crate::fault::Fault;
 use crate::voice::Voice;
 use std::cell::Cell;
 use std::io::{self, Write};
+use text_io::Sink;
 
 /// A writer that puts the reason of its last failure where it is looked for.
 #[derive(Drop)]
-pub(crate) struct Remembering<'a, W> {
-    pub(crate) writer: W,
-    pub(crate) reason: &'a Cell<Option<io::Error>>,
+pub struct Remembering<'a, W> {
+    /// Where it writes to.
+    pub writer: W,
+    /// Where the reason is looked for.
+    pub reason: &'a Cell<Option<io::Error>>,
 }
 
 impl<W: Write> Write for Remembering<'_, W> {
@@ -30,7 +35,7 @@ impl<W: Write> Write for Remembering<'_, W> {
 }
 
 /// The end, with the reason of a failed write.
-pub(crate) fn with_reason<T>(
+pub fn with_reason<T>(
     voice: Voice<'_>,
     reason: &Cell<Option<io::Error>>,
     end: Result<T, Fault>,
@@ -40,5 +45,15 @@ pub(crate) fn with_reason<T>(
             Err(Fault::Write(voice.reason("standard output", error)))
         }
         (end, _) => end,
+    }
+}
+
+/// Passes on what was written; the end is that of the writing, or that this failed.
+pub fn flushed<S: Sink>(sink: &mut S, end: Result<(), Fault>) -> Result<(), Fault>
+    requires { S.failures sink.old < 2 ^ 64 - 1 }
+{
+    match sink.flush() {
+        Ok(()) => end,
+        Err(_) => Err(Fault::Write(None)),
     }
 }

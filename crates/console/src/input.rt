@@ -15,7 +15,7 @@ use std::io::{self, Read};
 const MOST_READ: u64 = 67_108_865;
 
 /// The graph of a recording, or why it is refused.
-pub(crate) fn graph<R: Representation>(
+pub fn graph<R: Representation>(
     alloc: Global,
     voice: Voice<'_>,
     recording: &[u8],
@@ -32,11 +32,7 @@ pub(crate) fn graph<R: Representation>(
 }
 
 /// The bytes of the file, or of standard input where there is none or it is `-`.
-pub(crate) fn recording(
-    rt: &HostRuntime,
-    voice: Voice<'_>,
-    path: Option<&str>,
-) -> Result<Vec<u8>, Fault> {
+pub fn recording(rt: &HostRuntime, voice: Voice<'_>, path: Option<&str>) -> Result<Vec<u8>, Fault> {
     match path {
         None | Some("-") => read_whole(rt.alloc(), voice, rt.stdin()),
         Some(path) => file(rt, voice, path),
@@ -44,7 +40,7 @@ pub(crate) fn recording(
 }
 
 /// The bytes of a file.
-pub(crate) fn file(rt: &HostRuntime, voice: Voice<'_>, path: &str) -> Result<Vec<u8>, Fault> {
+pub fn file(rt: &HostRuntime, voice: Voice<'_>, path: &str) -> Result<Vec<u8>, Fault> {
     match File::open(rt, path) {
         Ok(file) => read_whole(rt.alloc(), voice, file),
         Err(error) => Err(Fault::Read(voice.reason(voice.file(), error))),
