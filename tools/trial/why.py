@@ -33,35 +33,59 @@ Commands:
   report   Prints each stage of a recording: its rank, its state and its moment
   explain  Prints how a stage ended, which failure it hands on, and why it completed when it did or is pending
   sweep    Prints which stages would make a stage complete sooner if they took no time
+  check    Prints every fault of a recording, and every member that nothing reads
   serve    Answers the steps that come on standard input, one to a line, about a recording
   many     Answers several scripts at once, whose clients share the sessions and versions
   help     Print this message or the help of the given subcommand(s)
 
 Options:
-  -h, --help  Print help
+  -h, --help     Print help
+  -V, --version  Print version
+
+Examples:
+  whatif report examples/first-run.json
+  whatif explain examples/late-reply.json reply
+
+Recordings, steps, reports and refusals: docs/FORMATS.md. How to write a run down: docs/MODELLING.md.
 """)
 HELP_OF_REPORT = help_of("""\
 Prints each stage of a recording: its rank, its state and its moment
 
-Usage: PROGRAM report [FILE]
+Usage: PROGRAM report [OPTIONS] [FILE]
 
 Arguments:
   [FILE]  the recording; standard input where it is left out, or -
 
 Options:
-  -h, --help  Print help
+      --quiet   leave explanations and warnings out
+      --strict  end with status 1 where there is a warning
+  -h, --help    Print help
+
+Examples:
+  whatif report examples/first-run.json
+  whatif report --strict - < examples/first-run.json
+
+The lines: docs/FORMATS.md, Reports.
 """)
 HELP_OF_EXPLAIN = help_of("""\
 Prints how a stage ended, which failure it hands on, and why it completed when it did or is pending
 
-Usage: PROGRAM explain <FILE> <STAGE>
+Usage: PROGRAM explain [OPTIONS] <FILE> <STAGE>
 
 Arguments:
   <FILE>   the recording; - is standard input
   <STAGE>  the stage
 
 Options:
-  -h, --help  Print help
+      --quiet   leave explanations and warnings out
+      --strict  end with status 1 where there is a warning
+  -h, --help    Print help
+
+Examples:
+  whatif explain examples/late-reply.json reply
+  whatif explain --quiet - reply < examples/late-reply.json
+
+The lines: docs/FORMATS.md, Reports.
 """)
 HELP_OF_SWEEP = help_of("""\
 Prints which stages would make a stage complete sooner if they took no time
@@ -74,7 +98,33 @@ Arguments:
 
 Options:
       --top <N>  print the first N stages alone
+      --quiet    leave explanations and warnings out
+      --strict   end with status 1 where there is a warning
   -h, --help     Print help
+
+Examples:
+  whatif sweep examples/late-reply.json reply
+  whatif sweep --top 3 examples/late-reply.json reply
+
+The lines: docs/FORMATS.md, Reports.
+""")
+HELP_OF_CHECK = help_of("""\
+Prints every fault of a recording, and every member that nothing reads
+
+Usage: PROGRAM check [OPTIONS] <FILE>
+
+Arguments:
+  <FILE>  the recording; - is standard input
+
+Options:
+      --strict  end with status 1 where there is a warning
+  -h, --help    Print help
+
+Examples:
+  whatif check examples/first-run.json
+  whatif check --strict examples/late-reply.json
+
+What a recording is: docs/FORMATS.md, Recordings.
 """)
 
 # The command line.
@@ -83,10 +133,10 @@ COMMAND_LINES = [
     Case("the subcommand of help names each", ["help"], HELP),
     *[
         Case(f"help of {name}, by {' '.join(words)}", words, text)
-        for name, text in (("report", HELP_OF_REPORT), ("explain", HELP_OF_EXPLAIN), ("sweep", HELP_OF_SWEEP))
+        for name, text in (("report", HELP_OF_REPORT), ("explain", HELP_OF_EXPLAIN), ("sweep", HELP_OF_SWEEP), ("check", HELP_OF_CHECK))
         for words in ([name, "--help"], [name, "-h"], ["help", name])
     ],
-    Case("no word names the subcommands", [], "", 2, err="report, explain, sweep, serve, many, help"),
+    Case("no word names the subcommands", [], "", 2, err="report, explain, sweep, check, serve, many, help"),
     *[
         case
         for name in ("explain", "sweep")
