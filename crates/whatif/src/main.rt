@@ -1,6 +1,7 @@
 //! `whatif`: a what-if debugger for recorded runs of asynchronous Java services.
 #![tactic(auto)]
 
+ghost use Rattle.std.specs.Prelude.{◌≡◌};
 ghost use Rattle.stage_graph.specs.Walk.{IsRanked};
 
 mod at_once;
@@ -18,12 +19,13 @@ use level_pool::{OneThread, Runner};
 use recording_reports::{StageReport, report_all, report_stage};
 use serve_script::serve;
 use stage_graph::{Graph, InShared};
+use std::alloc::Global;
 use std::cell::Cell;
 use std::io::{self, BufWriter, ErrorKind};
 use std::process::ExitCode;
 use std::sync::Wait;
 use std::thread::Threads;
-use text_io::CountedWriter;
+use text_io::{CountedWriter, Sink, Source};
 
 /// The most bytes of a script that are read at once.
 const AT_ONCE: usize = 65_536;
@@ -211,12 +213,29 @@ fn serve_listening<W: Runner>(
         sink: CountedWriter::new(writer),
         watch: &watch,
     };
-    let end = serve(rt.alloc(), runner, &mut source, &mut sink, graph);
-    watch.ends();
-    let end = with_reason(voice, &reason, flushed(&mut sink, served(end)));
+    let end = answered(rt.alloc(), runner, &mut source, &mut sink, &watch, graph);
+    let end = with_reason(voice, &reason, end);
     source.tell();
     if end.is_ok() && source.is_stopped() {
         return Err(Fault::Step);
     }
     end
+}
+
+/// Answers a script, and passes on what was answered.
+fn answered<W: Runner, R: Source, S: Sink>(
+    alloc: Global,
+    runner: &W,
+    source: &mut R,
+    sink: &mut S,
+    watch: &Watch,
+    graph: Graph<InShared>,
+) -> Result<(), Fault>
+    requires ranked { IsRanked graph.places }
+    requires reads { R.failures source.old ≡ 0 }
+    requires writes { S.failures sink.old ≡ 0 }
+{
+    let end = serve(alloc, runner, source, sink, graph);
+    watch.ends();
+    flushed(sink, served(end))
 }
