@@ -1,12 +1,11 @@
 //! Every fault of a recording, and every member that nothing reads.
-use crate::explaining::why_refused;
+use crate::explaining::{value_of, why_refused};
 use crate::fault::Fault;
 use crate::input;
 use crate::voice::Voice;
 use clap::ArgMatches;
 use diagnosis::{Findings, examine_recording};
 use recording::{Fault as ReadingFault, read_recording};
-use serde_json::Value;
 use stage_graph::{Graph, InShared};
 use std::alloc::Global;
 use std::io::{self, BufWriter, Write};
@@ -71,16 +70,14 @@ fn write_check<W: Write>(
     refusal: &Option<ReadingFault>,
 ) -> Result<(io::Result<()>, bool), Fault> {
     let file = voice.file();
-    let Ok(value) = Value::from_slice(alloc, recording) else {
-        return Ok((
-            write_refusal(alloc, writer, voice, recording, refusal),
-            false,
-        ));
+    let Some(value) = value_of(alloc, recording)? else {
+        let written = write_refusal(alloc, writer, voice, recording, refusal)?;
+        return Ok((written, false));
     };
     let findings = examine_recording(alloc, &value)?;
     let mut written = write_findings(writer, file, &findings, refusal.is_some());
     if written.is_ok() && findings.faults().is_empty() {
-        written = write_refusal(alloc, writer, voice, recording, refusal);
+        written = write_refusal(alloc, writer, voice, recording, refusal)?;
     }
     Ok((written, !findings.warnings().is_empty()))
 }
@@ -92,15 +89,15 @@ fn write_refusal<W: Write>(
     voice: Voice<'_>,
     recording: &[u8],
     refusal: &Option<ReadingFault>,
-) -> io::Result<()> {
+) -> Result<io::Result<()>, Fault> {
     let Some(fault) = refusal else {
-        return Ok(());
+        return Ok(Ok(()));
     };
-    match why_refused(alloc, voice, recording, fault) {
-        Some(why) => writeln!(writer, "{why}"),
+    match why_refused(alloc, voice, recording, fault)? {
+        Some(why) => Ok(writeln!(writer, "{why}")),
         None => {
             let file = voice.file();
-            writeln!(writer, "{file}: {fault}")
+            Ok(writeln!(writer, "{file}: {fault}"))
         }
     }
 }

@@ -5,8 +5,9 @@ use diagnosis::{
     beginning_of, circle_of, examine_recording, json_fault, may_be_unread, nearest_stage,
 };
 use recording::Fault as ReadingFault;
-use serde_json::Value;
+use serde_json::{Category, Value};
 use std::alloc::{AllocError, Global};
+use std::fmt::Display;
 
 /// How many warnings are told of one recording; `check` tells all.
 const MOST_WARNINGS: usize = 20;
@@ -14,7 +15,19 @@ const MOST_WARNINGS: usize = 20;
 /// The most bytes of a recording.
 const LONGEST: usize = 67_108_864;
 
-/// Tells of members that nothing reads. Where that is to end the program it does.
+/// The JSON value of a recording, if it is JSON.
+pub(crate) fn value_of(alloc: Global, recording: &[u8]) -> Result<Option<Value>, AllocError> {
+    match Value::from_slice(alloc, recording) {
+        Ok(value) => Ok(Some(value)),
+        Err(error) => match error.classify() {
+            Category::Memory => Err(AllocError),
+            _ => Ok(None),
+        },
+    }
+}
+
+/// Tells of members that nothing reads. Where that is to end the program it does, and where memory is out so that this
+/// can't be known.
 pub fn warn(alloc: Global, voice: Voice<'_>, recording: &[u8]) -> Result<(), Fault> {
     let is_asked = !voice.is_quiet() || voice.is_strict();
     if !is_asked || recording.len() > LONGEST || !may_be_unread(recording) {
@@ -22,14 +35,14 @@ pub fn warn(alloc: Global, voice: Voice<'_>, recording: &[u8]) -> Result<(), Fau
     }
     match warnings_told(alloc, voice, recording) {
         Ok(warned) if warned > 0 && voice.is_strict() => Err(Fault::Strict),
-        // (where memory is out nothing is told)
+        Err(_) if voice.is_strict() => Err(Fault::Memory),
         _ => Ok(()),
     }
 }
 
 /// Tells the warnings, and answers how many there are.
 fn warnings_told(alloc: Global, voice: Voice<'_>, recording: &[u8]) -> Result<usize, AllocError> {
-    let Ok(value) = Value::from_slice(alloc, recording) else {
+    let Some(value) = value_of(alloc, recording)? else {
         return Ok(0);
     };
     let findings = examine_recording(alloc, &value)?;
@@ -44,18 +57,18 @@ fn warnings_told(alloc: Global, voice: Voice<'_>, recording: &[u8]) -> Result<us
     Ok(warnings.len())
 }
 
-/// Why a recording is refused.
-pub fn why_refused(
+/// Why a recording is refused; nothing where no more can be told, or nothing is to be.
+pub(crate) fn why_refused(
     alloc: Global,
     voice: Voice<'_>,
     recording: &[u8],
     fault: &ReadingFault,
-) -> Option<String> {
+) -> Result<Option<String>, AllocError> {
     if voice.is_quiet() {
-        return None;
+        return Ok(None);
     }
     match fault {
-        ReadingFault::TooLong => voice.text("it has more than 67108864 bytes"),
+        ReadingFault::TooLong => told(voice, "it has more than 67108864 bytes"),
         ReadingFault::Json => why_no_json(alloc, voice, recording),
         ReadingFault::Shape(member) => {
             why_at(alloc, voice, recording, 71, None, Some(member.text()))
@@ -65,15 +78,27 @@ pub fn why_refused(
             why_at(alloc, voice, recording, number, Some(refused.at), None)
         }
         ReadingFault::Cycle(places) => why_circle(alloc, voice, recording, places.as_slice()),
-        ReadingFault::Memory | ReadingFault::ListSize => None,
+        ReadingFault::Memory | ReadingFault::ListSize => Ok(None),
+    }
+}
+
+/// The text of what is told.
+fn told<T: Display + Drop>(voice: Voice<'_>, what: T) -> Result<Option<String>, AllocError> {
+    match voice.text(what) {
+        Some(text) => Ok(Some(text)),
+        None => Err(AllocError),
     }
 }
 
 /// Why bytes are no JSON.
-fn why_no_json(alloc: Global, voice: Voice<'_>, recording: &[u8]) -> Option<String> {
+fn why_no_json(
+    alloc: Global,
+    voice: Voice<'_>,
+    recording: &[u8],
+) -> Result<Option<String>, AllocError> {
     match beginning_of(recording) {
-        Some(beginning) => voice.text(beginning),
-        None => voice.text(json_fault(alloc, recording).ok()?),
+        Some(beginning) => told(voice, beginning),
+        None => told(voice, json_fault(alloc, recording)?),
     }
 }
 
@@ -85,17 +110,31 @@ fn why_at(
     number: u32,
     place: Option<usize>,
     member: Option<&str>,
-) -> Option<String> {
-    let value = Value::from_slice(alloc, recording).ok()?;
-    let findings = examine_recording(alloc, &value).ok()?;
-    voice.text(findings.explanation(number, place, member)?)
+) -> Result<Option<String>, AllocError> {
+    let Some(value) = value_of(alloc, recording)? else {
+        return Ok(None);
+    };
+    let findings = examine_recording(alloc, &value)?;
+    match findings.explanation(number, place, member) {
+        Some(finding) => told(voice, finding),
+        None => Ok(None),
+    }
 }
 
 /// The names of stages that wait for each other.
-fn why_circle(alloc: Global, voice: Voice<'_>, recording: &[u8], places: &[u32]) -> Option<String> {
-    let value = Value::from_slice(alloc, recording).ok()?;
-    let circle = circle_of(alloc, &value, places).ok()?;
-    voice.text(circle?)
+fn why_circle(
+    alloc: Global,
+    voice: Voice<'_>,
+    recording: &[u8],
+    places: &[u32],
+) -> Result<Option<String>, AllocError> {
+    let Some(value) = value_of(alloc, recording)? else {
+        return Ok(None);
+    };
+    match circle_of(alloc, &value, places)? {
+        Some(circle) => told(voice, circle),
+        None => Ok(None),
+    }
 }
 
 /// That no stage of a recording has the name, and which one is like it.
@@ -121,7 +160,8 @@ pub fn with_explanation(
 ) -> Result<(), Fault> {
     match end {
         Err(Fault::Refused(fault, None)) => {
-            let why = why_refused(alloc, voice, recording, &fault);
+            // (where memory is out nothing is told)
+            let why = why_refused(alloc, voice, recording, &fault).unwrap_or(None);
             Err(Fault::Refused(fault, why))
         }
         end => end,

@@ -25,7 +25,7 @@ pub fn graph<R: Representation>(
     match read_recording(alloc, recording) {
         Ok(graph) => Ok(graph),
         Err(fault) => {
-            let why = why_refused(alloc, voice, recording, &fault);
+            let why = why_refused(alloc, voice, recording, &fault).unwrap_or(None);
             Err(Fault::Refused(fault, why))
         }
     }
