@@ -117,20 +117,35 @@ pub(crate) const PINNED: [(&str, &str); 6] = [
 ];
 
 /// No report of a place where no stage stands: nothing is written.
-#[test]
-fn report_of_no_stage(rt: HostRuntime) -> Result<(), Fail> {
-    let alloc = rt.alloc();
-    let first: Version<InShared> = opened(alloc, FIRST_RUN)?;
+fn tells_nothing<R: StateRepresentation>(
+    rt: &impl Abort,
+    alloc: Global,
+    version: &Version<R>,
+    what: What,
+) {
+    let mut sink = CountedWriter::new(Vec::new(alloc));
+    let answer = report(alloc, version, what, &mut sink);
+    assert_eq!(rt; answer, Err(ReportFault::NoStage));
+    assert!(rt; sink.into_inner().is_empty());
+}
+
+/// The first run without `b`, and no reports of the place where it stood, nor of one behind it.
+fn without_b<R: StateRepresentation, H: Abort + Threads + Sync>(
+    rt: &H,
+    alloc: Global,
+) -> Result<(), Fail> {
+    let first: Version<R> = opened(alloc, FIRST_RUN)?;
     let remove = r#"{"do":"remove","session":1,"stage":"b"}"#;
-    let draft = drafted(&rt, alloc, &OneThread::new(&rt), &first, remove)?;
-    let version = draft.numbered(1)?;
+    let version = drafted(rt, alloc, &OneThread::new(rt), &first, remove)?.numbered(1)?;
     for what in [What::One(1), What::Blame(1), What::One(2), What::Blame(2)] {
-        let mut sink = CountedWriter::new(Vec::new(alloc));
-        let answer = report(alloc, &version, what, &mut sink);
-        assert_eq!(rt; answer, Err(ReportFault::NoStage));
-        assert!(rt; sink.into_inner().is_empty());
+        tells_nothing(rt, alloc, &version, what);
     }
     Ok(())
+}
+
+#[test]
+fn report_of_no_stage(rt: HostRuntime) -> Result<(), Fail> {
+    without_b::<InShared, _>(&rt, rt.alloc())
 }
 
 #[test]
@@ -144,12 +159,9 @@ fn cycle(rt: HostRuntime) -> Result<(), Fail> {
     Ok(())
 }
 
-/// Each query of a version that was loaded, and of a place where no stage stands.
-fn queries<R: StateRepresentation>(rt: &impl Abort, alloc: Global) -> Result<(), Fail> {
-    let version: Version<R> = opened(alloc, CHAIN)?;
+/// Each query of a stage of a version that was loaded.
+fn queries<R: StateRepresentation>(rt: &impl Abort, version: &Version<R>) {
     let twenty = Value::Num(20);
-    assert_eq!(rt; (version.number(), version.parent()), (0, None));
-    assert_eq!(rt; version.id_of("b"), Ok(2));
     assert_eq!(rt; version.outcome(2), Ok(Some(Outcome::Value(twenty))));
     assert_eq!(rt; version.moment(2), Ok(Some(2)));
     assert_eq!(rt; version.start(2), Ok(Some(1)));
@@ -157,20 +169,28 @@ fn queries<R: StateRepresentation>(rt: &impl Abort, alloc: Global) -> Result<(),
     assert_eq!(rt; version.rank(2), Ok(2));
     assert_eq!(rt; version.dependents(1), Ok([2].as_slice()));
     assert_eq!(rt; version.before(2), Ok(Before::Absent));
-    assert_eq!(rt; version.rank(3), Err(NoStage));
+}
+
+/// Each query of a version that was loaded, and of a place where no stage stands.
+fn queries_of_none<R: StateRepresentation>(rt: &impl Abort, version: &Version<R>) {
+    assert_eq!(rt; (version.number(), version.parent()), (0, None));
+    assert_eq!(rt; version.id_of("b"), Ok(2));
     assert_eq!(rt; version.id_of("c"), Err(NoStage));
+    assert_eq!(rt; version.rank(3), Err(NoStage));
     assert!(rt; version.touched().is_empty());
+}
+
+fn queried<R: StateRepresentation>(rt: &impl Abort, alloc: Global) -> Result<(), Fail> {
+    let version: Version<R> = opened(alloc, CHAIN)?;
+    queries(rt, &version);
+    queries_of_none(rt, &version);
     Ok(())
 }
 
 #[test]
-fn queries_in_flat(rt: HostRuntime) -> Result<(), Fail> {
-    queries::<InFlat>(&rt, rt.alloc())
-}
-
-#[test]
-fn queries_in_shared(rt: HostRuntime) -> Result<(), Fail> {
-    queries::<InShared>(&rt, rt.alloc())
+fn queries_in_each(rt: HostRuntime) -> Result<(), Fail> {
+    queried::<InFlat>(&rt, rt.alloc())?;
+    queried::<InShared>(&rt, rt.alloc())
 }
 
 /// A gate that counts how often each of the first eight pieces ran.
@@ -206,7 +226,7 @@ impl Gate for Counted {
 }
 
 /// For a step, each of the first eight places of a recording ran so often.
-fn ran<H: Threads + Sync + Abort>(
+fn ran<R: StateRepresentation, H: Threads + Sync + Abort>(
     rt: &H,
     alloc: Global,
     recording: &str,
@@ -214,7 +234,7 @@ fn ran<H: Threads + Sync + Abort>(
     counts: &[u64; 8],
 ) -> Result<(), Fail> {
     let counted = Counted::new(alloc)?;
-    let version: Version<InShared> = opened(alloc, recording)?;
+    let version: Version<R> = opened(alloc, recording)?;
     drafted(rt, alloc, &Scoped::new(rt, 2, &counted), &version, step)?;
     assert!(rt; counted.is_just(counts));
     Ok(())
@@ -224,7 +244,7 @@ fn ran<H: Threads + Sync + Abort>(
 #[test]
 fn touched_stages_run_once(rt: HostRuntime) -> Result<(), Fail> {
     let unread = r#"{"do":"setTakes","session":1,"stage":"i1","takes":4}"#;
-    ran(
+    ran::<InShared, _>(
         &rt,
         rt.alloc(),
         COMPOSE_PICKS,
@@ -232,14 +252,14 @@ fn touched_stages_run_once(rt: HostRuntime) -> Result<(), Fail> {
         &[0, 0, 1, 0, 0, 0, 0, 0],
     )?;
     let index = r#"{"do":"setAction","session":1,"stage":"s","action":1}"#;
-    ran(
+    ran::<InShared, _>(
         &rt,
         rt.alloc(),
         COMPOSE_PICKS,
         index,
         &[1, 0, 0, 1, 0, 0, 0, 0],
     )?;
-    ran(
+    ran::<InShared, _>(
         &rt,
         rt.alloc(),
         REWIRED,
