@@ -94,6 +94,20 @@ fn replies<R: StateRepresentation, H: Abort + Threads + Sync>(
     Ok(text)
 }
 
+/// The steps have these replies.
+fn replied_in<R: StateRepresentation, H: Abort + Threads + Sync>(
+    rt: &H,
+    alloc: Global,
+    recording: &str,
+    steps: &[&str],
+    wanted: &str,
+) -> Result<(), Fail> {
+    let mut table: Table<R> = table(alloc, recording, 65_536)?;
+    let found = replies(rt, alloc, &mut table, steps)?;
+    assert_eq!(rt; found.as_str(), wanted);
+    Ok(())
+}
+
 /// The steps have these replies in each representation.
 fn replied<H: Abort + Threads + Sync>(
     rt: &H,
@@ -102,30 +116,37 @@ fn replied<H: Abort + Threads + Sync>(
     steps: &[&str],
     wanted: &str,
 ) -> Result<(), Fail> {
-    let mut flat: Table<InFlat> = table(alloc, recording, 65_536)?;
-    let found = replies(rt, alloc, &mut flat, steps)?;
-    assert_eq!(rt; found.as_str(), wanted);
-    let mut shared: Table<InShared> = table(alloc, recording, 65_536)?;
-    let found = replies(rt, alloc, &mut shared, steps)?;
-    assert_eq!(rt; found.as_str(), wanted);
+    replied_in::<InFlat, H>(rt, alloc, recording, steps, wanted)?;
+    replied_in::<InShared, H>(rt, alloc, recording, steps, wanted)
+}
+
+/// Version 2 is made of version 0, and told so.
+fn is_of_first<R: StateRepresentation>(rt: &impl Abort, second: &Version<R>) -> Result<(), Fail> {
+    assert_eq!(rt; second.parent(), Some(0));
+    assert_eq!(rt; second.moment(0)?, Some(10));
+    assert_eq!(rt; second.moment(1)?, Some(11));
     Ok(())
 }
 
-#[test]
-fn moved_and_undone_versions(rt: HostRuntime) -> Result<(), Fail> {
-    let mut table: Table<InFlat> = table(rt.alloc(), FIRST_RUN, 65_536)?;
+/// A session goes on from where it stands after an undo.
+fn goes_on<R: StateRepresentation, H: Abort + Threads + Sync>(
+    rt: &H,
+    alloc: Global,
+) -> Result<(), Fail> {
+    let mut table: Table<R> = table(alloc, FIRST_RUN, 65_536)?;
     let steps = [
         r#"{"do":"open","session":1,"version":0}"#,
         r#"{"do":"setTakes","session":1,"base":0,"stage":"a","takes":20}"#,
         r#"{"do":"undo","session":1}"#,
         r#"{"do":"setTakes","session":1,"base":0,"stage":"b","takes":1}"#,
     ];
-    replies(&rt, rt.alloc(), &mut table, &steps)?;
-    let second = table.version(2)?;
-    assert_eq!(rt; second.parent(), Some(0));
-    assert_eq!(rt; second.moment(0)?, Some(10));
-    assert_eq!(rt; second.moment(1)?, Some(11));
-    Ok(())
+    replies(rt, alloc, &mut table, &steps)?;
+    is_of_first(rt, table.version(2)?)
+}
+
+#[test]
+fn moved_and_undone_versions(rt: HostRuntime) -> Result<(), Fail> {
+    goes_on::<InFlat, _>(&rt, rt.alloc())
 }
 
 #[test]
@@ -163,11 +184,11 @@ fn number_of<T: Drop>(answer: Result<T, TableFault>) -> u32 {
 }
 
 /// A draft of another table's version is refused, and the refusal is the second entry.
-fn refuses_foreign<H: Abort + Threads + Sync>(
+fn refuses_foreign<R: StateRepresentation, H: Abort + Threads + Sync>(
     rt: &H,
     alloc: Global,
-    table: &mut Table<InShared>,
-    other: &Table<InShared>,
+    table: &mut Table<R>,
+    other: &Table<R>,
 ) -> Result<(), Fail> {
     let add = r#"{"do":"add","session":1,"new":{"name":"m","op":"manual"}}"#;
     let edits = Held::new(alloc, edits_of(alloc, add)?)?;
@@ -184,7 +205,7 @@ fn refuses_foreign<H: Abort + Threads + Sync>(
 }
 
 /// Beside session 1, 1,023 sessions can be opened, and one more once one is closed.
-fn opens_1024(rt: &impl Abort, table: &mut Table<InShared>) {
+fn opens_1024<R: StateRepresentation>(rt: &impl Abort, table: &mut Table<R>) {
     for session in 2..1025 {
         assert_eq!(rt; number_of(table.open(0, session, 0)), 0);
     }
@@ -194,14 +215,22 @@ fn opens_1024(rt: &impl Abort, table: &mut Table<InShared>) {
     assert_eq!(rt; number_of(table.head(0, 1)), 51);
 }
 
+/// A draft of another table is refused, and so is a session too many.
+fn refuses<R: StateRepresentation, H: Abort + Threads + Sync>(
+    rt: &H,
+    alloc: Global,
+) -> Result<(), Fail> {
+    let other: Table<R> = table(alloc, r#"{"stages":[]}"#, 1)?;
+    let mut table: Table<R> = table(alloc, FIRST_RUN, 65_536)?;
+    assert_eq!(rt; number_of(table.open(0, 1, 0)), 0);
+    refuses_foreign(rt, alloc, &mut table, &other)?;
+    opens_1024(rt, &mut table);
+    Ok(())
+}
+
 #[test]
 fn foreign_and_many_sessions(rt: HostRuntime) -> Result<(), Fail> {
-    let other = table(rt.alloc(), r#"{"stages":[]}"#, 1)?;
-    let mut table: Table<InShared> = table(rt.alloc(), FIRST_RUN, 65_536)?;
-    assert_eq!(rt; number_of(table.open(0, 1, 0)), 0);
-    refuses_foreign(&rt, rt.alloc(), &mut table, &other)?;
-    opens_1024(&rt, &mut table);
-    Ok(())
+    refuses::<InShared, _>(&rt, rt.alloc())
 }
 
 /// `a` of the first run holds an exception itself.
