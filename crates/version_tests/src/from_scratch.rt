@@ -9,7 +9,7 @@ use std::process::Abort;
 use std::test::Fail;
 use std::thread::Threads;
 use test_kit::edits_of;
-use version_store::{Before, Version};
+use version_store::{Before, StateRepresentation, Version};
 
 /// The marker of this test's meters.
 #[derive(Drop)]
@@ -116,7 +116,12 @@ fn step(alloc: Global, numbers: &mut Numbers, turn: usize) -> Result<String, Fai
 }
 
 /// Both versions tell the same of what stands at a place.
-fn same_at(rt: &impl Abort, drafted: &Version<InShared>, loaded: &Version<InShared>, place: u32) {
+fn same_at<R: StateRepresentation>(
+    rt: &impl Abort,
+    drafted: &Version<R>,
+    loaded: &Version<R>,
+    place: u32,
+) {
     assert_eq!(rt; drafted.state(place), loaded.state(place));
     assert_eq!(rt; drafted.start(place), loaded.start(place));
     assert_eq!(rt; drafted.rank(place), loaded.rank(place));
@@ -125,7 +130,7 @@ fn same_at(rt: &impl Abort, drafted: &Version<InShared>, loaded: &Version<InShar
 }
 
 /// What stands at a place of a version, as a version made of it tells it.
-fn before_of(parent: &Version<InShared>, place: u32) -> Before {
+fn before_of<R: StateRepresentation>(parent: &Version<R>, place: u32) -> Before {
     match (parent.outcome(place), parent.moment(place)) {
         (Ok(Some(outcome)), Ok(Some(moment))) => Before::Done(outcome, moment),
         (Ok(_), _) => Before::Pending,
@@ -134,10 +139,10 @@ fn before_of(parent: &Version<InShared>, place: u32) -> Before {
 }
 
 /// A version tells what its parent's stages were, and has touched each that came to something else.
-fn tells_changes(
+fn tells_changes<R: StateRepresentation>(
     rt: &impl Abort,
-    parent: &Version<InShared>,
-    drafted: &Version<InShared>,
+    parent: &Version<R>,
+    drafted: &Version<R>,
     place: u32,
 ) {
     let before = before_of(parent, place);
@@ -148,11 +153,11 @@ fn tells_changes(
 }
 
 /// Both versions blame the same stages for what a stage came to.
-fn same_blame(
+fn same_blame<R: StateRepresentation>(
     rt: &impl Abort,
     alloc: Global,
-    drafted: &Version<InShared>,
-    loaded: &Version<InShared>,
+    drafted: &Version<R>,
+    loaded: &Version<R>,
     place: u32,
 ) -> Result<(), Fail> {
     let one = drafted.blame(alloc, place)?;
@@ -162,12 +167,12 @@ fn same_blame(
 }
 
 /// A version answers each query as its graph does from scratch.
-fn same_answers(
+fn same_answers<R: StateRepresentation>(
     rt: &impl Abort,
     alloc: Global,
-    parent: &Version<InShared>,
-    drafted: &Version<InShared>,
-    loaded: &Version<InShared>,
+    parent: &Version<R>,
+    drafted: &Version<R>,
+    loaded: &Version<R>,
 ) -> Result<(), Fail> {
     assert!(rt; drafted.graph().same(loaded.graph()));
     for place in 0..drafted.graph().len() as u32 {
@@ -190,12 +195,12 @@ fn same_fault(rt: &impl Abort, fault: &Fault, other: &Fault) {
 
 /// The version that a list of edits makes, once it has been compared with its graph from scratch; none where the list is
 /// refused, by both ways alike.
-fn compared<H: Abort + Threads + Sync>(
+fn compared<R: StateRepresentation, H: Abort + Threads + Sync>(
     rt: &H,
     alloc: Global,
-    version: &Version<InShared>,
+    version: &Version<R>,
     edits: Edits,
-) -> Result<Option<Version<InShared>>, Fail> {
+) -> Result<Option<Version<R>>, Fail> {
     let edits = Held::new(alloc, edits)?;
     let mut meter = Meter::new(Random);
     let applied = version.graph().apply(alloc, &edits);
@@ -213,21 +218,30 @@ fn compared<H: Abort + Threads + Sync>(
     }
 }
 
-#[test]
-fn random_lists_of_edits(rt: HostRuntime) -> Result<(), Fail> {
-    let alloc = rt.alloc();
+/// So many random lists of edits, each on the version that the last accepted one made; how many are accepted.
+fn accepted<R: StateRepresentation, H: Abort + Threads + Sync>(
+    rt: &H,
+    alloc: Global,
+    lists: usize,
+) -> Result<u32, Fail> {
     let mut numbers = Numbers { state: 7 };
-    let graph = read_recording::<InShared>(alloc, STAGES.as_bytes())?;
+    let graph = read_recording::<R>(alloc, STAGES.as_bytes())?;
     let mut version = Version::load(alloc, graph)?;
     let mut accepted = 0u32;
-    for turn in 0..300 {
+    for turn in 0..lists {
         let step = step(alloc, &mut numbers, turn)?;
         let edits = edits_of(alloc, step.as_str())?;
-        if let Some(edited) = compared(&rt, alloc, &version, edits)? {
+        if let Some(edited) = compared(rt, alloc, &version, edits)? {
             version = edited;
             accepted = accepted.saturating_add(1);
         }
     }
+    Ok(accepted)
+}
+
+#[test]
+fn random_lists_of_edits(rt: HostRuntime) -> Result<(), Fail> {
+    let accepted = accepted::<InShared, _>(&rt, rt.alloc(), 300)?;
     assert!(rt; accepted > 50, "{accepted}");
     Ok(())
 }

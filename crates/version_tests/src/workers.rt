@@ -3,11 +3,13 @@
 use crate::versions::{drafted, opened};
 use level_pool::{Gate, Scoped};
 use stage_graph::InShared;
+use std::alloc::Global;
+use std::process::Abort;
 use std::sync::atomic::{AtomicU64, Ordering};
 use std::test::Fail;
-use std::thread;
+use std::thread::{self, Threads};
 use std::time::{Clock, Duration};
-use version_store::Version;
+use version_store::{StateRepresentation, Version};
 
 /// The turns that a piece waits at the gate before it goes on alone.
 const MOST_TURNS: u32 = 1_000_000;
@@ -47,6 +49,19 @@ impl<'a, C: Clock> Gate for Meeting<'a, C> {
     fn leave(&self, _piece: u32) {}
 }
 
+/// What is touched where the two stages of one rank meet at a gate.
+fn touched_at<R: StateRepresentation, H: Abort + Threads + Clock + Sync>(
+    rt: &H,
+    alloc: Global,
+    meeting: &Meeting<'_, H>,
+) -> Result<(), Fail> {
+    let version: Version<R> = opened(alloc, TWO_OF_ONE)?;
+    let runner = Scoped::new(rt, 2, meeting);
+    let draft = drafted(rt, alloc, &runner, &version, PIN_Z)?.numbered(1)?;
+    assert_eq!(rt; draft.touched(), [0, 1, 2].as_slice());
+    Ok(())
+}
+
 /// The two stages of one rank are computed at the same time. Were they computed one by one, the first would use up its turns.
 #[test]
 fn two_workers(rt: HostRuntime) -> Result<(), Fail> {
@@ -55,10 +70,7 @@ fn two_workers(rt: HostRuntime) -> Result<(), Fail> {
         entered: AtomicU64::new(0),
         gone_on_alone: AtomicU64::new(0),
     };
-    let version: Version<InShared> = opened(rt.alloc(), TWO_OF_ONE)?;
-    let runner = Scoped::new(&rt, 2, &meeting);
-    let draft = drafted(&rt, rt.alloc(), &runner, &version, PIN_Z)?.numbered(1)?;
-    assert_eq!(rt; draft.touched(), [0, 1, 2].as_slice());
+    touched_at::<InShared, _>(&rt, rt.alloc(), &meeting)?;
     assert_eq!(rt; meeting.entered.load(Ordering::SeqCst), 2);
     assert_eq!(rt; meeting.gone_on_alone.load(Ordering::SeqCst), 0);
     Ok(())
