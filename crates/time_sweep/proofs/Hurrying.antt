@@ -1,11 +1,10 @@
 -- The edits by which a stage's action takes no time are accepted.
 use Rattle.std.proofs.Common.{◌≡◌, ◌+◌, ℕ, [], ◌∷◌, ◌++◌, Option, Some, None, Result, Ok, Bool, true, false, refl, ap, sym, ◌∙◌, arith, cond, List}
-use Rattle.std.specs.Prelude.{IsTrue, is_some, filter_map, slice_set}
-use Rattle.std.specs.List.{range_with_len, cons_option}
+use Rattle.std.specs.Prelude.{IsTrue, is_some, slice_set}
+use Rattle.std.specs.List.{range_with_len}
 use Rattle.std.proofs.lemmas.Bool.{cond_above}
 use Rattle.std.proofs.lemmas.List.{map-id, set-get_or}
 use Rattle.std.proofs.lemmas.List.FromFn.{map-range_with_len_more}
-use Rattle.std.proofs.lemmas.List.Elements.{filter_map-append}
 use Rattle.std.specs.Option.{option_and_then}
 use Rattle.act_expr.specs.Expression.{Expression}
 use Rattle.stage_graph.specs.declared.op.Op.{Op}
@@ -19,7 +18,6 @@ use Rattle.stage_graph.specs.Operations.{has_action}
 use Rattle.stage_graph.specs.Plain.{PlainGraph, stage_at, stage_named}
 use Rattle.stage_graph.specs.Sound.{IsSound}
 use Rattle.stage_ops.specs.declared.state.Done.{Done}
-use Rattle.time_sweep.specs.declared.trial.Trial.{Trial}
 use Rattle.time_sweep.specs.Sweep.{completion_of, hurried, hurry, sooner_trial, trial_of}
 
 acts : (op : Op) (action : Option Expression) → is_some action ≡ true → IsTrue (fits_action op action) → has_action op ≡ true
@@ -43,22 +41,19 @@ hurry_allowed graph sound stage stands some =
     ∙ ap (λ (made : Result PlainGraph Refusal). then_on 0 made (changed_from 1 []))
     (passes_with graph stage (has_action stage.op) (acts stage.op stage.action some lawful.acts))
 
--- the list of trials, with one more place
-range_more : (count : ℕ) → range_with_len 0 (count + 1) ≡ range_with_len 0 count ++ count ∷ []
+-- the places, with one more
+pub range_more : (count : ℕ) → range_with_len 0 (count + 1) ≡ range_with_len 0 count ++ count ∷ []
 range_more count =
     sym (map-id (range_with_len 0 (count + 1)))
     ∙ map-range_with_len_more (λ place. place) 0 count count (omega arith)
     ∙ ap (λ places. places ++ count ∷ []) (map-id (range_with_len 0 count))
 
-pub trials_more : (trial : ℕ → Option Trial) (count : ℕ) → filter_map trial (range_with_len 0 (count + 1)) ≡ filter_map trial (range_with_len 0 count) ++ cons_option (trial count) []
-trials_more trial count = ap (filter_map trial) (range_more count) ∙ filter_map-append trial (range_with_len 0 count) (count ∷ [])
-
 -- an action that takes no time already has no trial
-none_sooner : (acts : Bool) (place : ℕ) (done : Option Done) → cond acts (sooner_trial place done done) None ≡ None
+none_sooner : (acts : Bool) (place : ℕ) (old : Option Done) → cond acts (sooner_trial place old old) None ≡ None
 none_sooner true place None = refl
 none_sooner true place (Some done) =
     sym (cond_above done.moment done.moment (Some (record { place = place; outcome = done.outcome; moment = done.moment })) None None (omega arith) refl)
-none_sooner false place done = refl
+none_sooner false place old = refl
 
 pub untimed : (graph : PlainGraph) (stage : Stage) (target place : ℕ) → stage_at graph.places stage.place ≡ Some stage → stage.queued ≡ 0 → stage.runs ≡ 0 → trial_of graph target place (Some stage) ≡ None
 untimed graph stage target place stands queued runs =

@@ -1,2 +1,4 @@
+pub mod Crossing
 pub mod Hurrying
 pub mod Soonest
+pub mod Trying

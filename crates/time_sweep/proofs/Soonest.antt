@@ -1,7 +1,7 @@
 -- A list that a stable sort made of the trials is that of the trials at each tick.
-use Rattle.std.proofs.Common.{◌≡◌, ◌≢◌, ◌+◌, ◌<◌, ◌≤◌, ℕ, zero, suc, inl, inr, List, [], ◌∷◌, ◌++◌, length, Bool, true, false, cond, Option, Some, None, refl, sym, ap, ◌∙◌, subst, arith, tests}
+use Rattle.std.proofs.Common.{◌≡◌, ◌≢◌, ◌+◌, ◌<◌, ◌≤◌, ℕ, zero, suc, inl, inr, List, [], ◌∷◌, ◌++◌, Bool, true, false, cond, Option, Some, None, refl, sym, ap, ◌∙◌, arith, tests}
 use Rattle.std.specs.Prelude.{All, IfSome, filter, filter_map, is_some, nat_lt, not, ◌&&◌, ◌==◌}
-use Rattle.std.specs.List.{cons_option, range_with_len}
+use Rattle.std.specs.List.{cons_option}
 use Rattle.std.specs.List.Sorted.{IsNonDecreasingBy, IsStableByKey}
 use Rattle.std.specs.Ordering.{is_lt, nat_cmp}
 use Rattle.std.proofs.lemmas.Bool.{ltb-true}

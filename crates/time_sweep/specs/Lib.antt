@@ -1,1 +1,2 @@
 pub mod Sweep
+pub mod Tried

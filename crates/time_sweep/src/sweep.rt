@@ -1,96 +1,18 @@
-//! All trials of a stage.
-ghost use Rattle.std.specs.Prelude.{◌≡◌, ◌↔◌, IfOk, IsTrue, None, IsPermutation};
+//! The trials of a stage, the soonest first.
+ghost use Rattle.std.specs.Prelude.{◌≡◌, ◌↔◌, IfOk, None, IsPermutation};
 ghost use Rattle.std.specs.List.Sorted.{IsNonDecreasingBy, IsStableByKey};
 ghost use Rattle.std.specs.Ordering.{nat_cmp};
-ghost use Rattle.stage_graph.specs.Plain.{IsLive, stage_at};
-ghost use Rattle.time_sweep.specs.Sweep.{completion_of, sooner_trial, sweep, trial_at, trial_moment, trials, IsSweep};
+ghost use Rattle.stage_graph.specs.Plain.{stage_at};
+ghost use Rattle.time_sweep.specs.Sweep.{sweep, trial_moment, IsSweep};
 
-use crate::hurried::hurried_completion;
 use crate::trial::Trial;
+use crate::trials::trials;
 use level_pool::Runner;
 use propagate::StateRepresentation;
-use stage_graph::Stage;
-use stage_ops::Done;
 use std::alloc::{AllocError, Global};
-use version_store::{NoStage, QueryFault, Version};
+use version_store::{QueryFault, Version};
 
-/// A trial by which a stage would complete sooner.
-fn sooner_trial(place: u32, old: &Option<Done>, new: &Option<Done>) -> Option<Trial>
-    ensures { result ≡ sooner_trial place old.now new.now }
-{
-    match (old, new) {
-        (Some(old), Some(new)) if new.moment < old.moment => Some(Trial {
-            place,
-            outcome: new.outcome,
-            moment: new.moment,
-        }),
-        _ => None,
-    }
-}
-
-/// How a stage completes as it is; none while it is pending.
-fn completion_of<R: StateRepresentation>(version: &Version<R>, target: u32) -> Option<Done>
-    requires { IsLive version.now.graph.places target }
-    ensures { result ≡ completion_of version.now.graph target }
-{
-    match version.state(target) {
-        Ok(state) => state.done,
-        Err(NoStage) => unreachable!(),
-    }
-}
-
-/// Whether a stage's action takes no time as it is.
-fn takes_no_time(stage: &Stage) -> bool
-    ensures { IsTrue result ↔ ((stage.now.queued ≡ 0) × (stage.now.runs ≡ 0)) }
-{
-    stage.queued == 0 && stage.runs == 0
-}
-
-/// The trial at a place, where a stage with an action stands there and the target would complete sooner.
-fn trial_at<R: StateRepresentation, W: Runner>(
-    alloc: Global,
-    version: &Version<R>,
-    target: u32,
-    place: u32,
-    runner: &W,
-) -> Result<Option<Trial>, AllocError>
-    requires { IsLive version.now.graph.places target }
-    ensures { IfOk result (λ trial. trial ≡ trial_at version.now.graph target place) }
-{
-    let Some(stage) = version.graph().stage(place) else {
-        return Ok(None);
-    };
-    if stage.action.is_none() {
-        return Ok(None);
-    }
-    if takes_no_time(stage) {
-        return Ok(None);
-    }
-    let old = completion_of(version, target);
-    let new = hurried_completion(alloc, version, stage, target, runner)?;
-    Ok(sooner_trial(place, &old, &new))
-}
-
-/// All trials by which the target would complete sooner, by place.
-fn trials<R: StateRepresentation, W: Runner>(
-    alloc: Global,
-    version: &Version<R>,
-    target: u32,
-    runner: &W,
-) -> Result<Vec<Trial>, AllocError>
-    requires { IsLive version.now.graph.places target }
-    ensures { IfOk result (λ found. found.items ≡ trials version.now.graph target) }
-{
-    let mut found = Vec::new(alloc);
-    for place in 0..version.graph().len() as u32 {
-        if let Some(trial) = trial_at(alloc, version, target, place, runner)? {
-            found.push(trial)?;
-        }
-    }
-    Ok(found)
-}
-
-/// The same, the soonest first.
+/// The trials, the soonest first.
 fn soonest_first(mut found: Vec<Trial>) -> Result<Vec<Trial>, AllocError>
     ensures permutation { IfOk result (λ ordered. IsPermutation found.items ordered.items) }
     ensures ordered { IfOk result (λ ordered. IsNonDecreasingBy trial_moment ordered.items) }
@@ -101,7 +23,8 @@ fn soonest_first(mut found: Vec<Trial>) -> Result<Vec<Trial>, AllocError>
 }
 
 /// For each stage whose action, if it took no time, would make the target complete sooner: when that would be. The
-/// soonest comes first, and of several at one tick the one at the least place.
+/// soonest comes first, and of several at one tick the one at the least place. The runner makes the trials beside each
+/// other.
 pub fn sweep_of<R: StateRepresentation, W: Runner>(
     alloc: Global,
     version: &Version<R>,

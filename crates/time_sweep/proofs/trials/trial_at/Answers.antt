@@ -2,7 +2,7 @@ use Rattle.std.proofs.Common.{◌≡◌, Some, sym, ap, ◌∙◌}
 use Rattle.stage_graph.specs.Plain.{PlainGraph, stage_at}
 use Rattle.time_sweep.specs.Sweep.{trial_of}
 use Rattle.time_sweep.proofs.Hurrying.{untimed}
-use Rattle.time_sweep.proofs.sweep.trial_at.Goals as goal
+use Rattle.time_sweep.proofs.trials.trial_at.Goals as goal
 
 pub returns-then-takes_no_time : goal.returns-then-takes_no_time
 returns-then-takes_no_time g c =
