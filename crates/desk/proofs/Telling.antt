@@ -9,11 +9,11 @@ use Rattle.version_store.specs.Plain.{PlainVersion}
 use Rattle.session_core.specs.declared.event.Event.{Event}
 use Rattle.session_core.specs.declared.event.Event.TheVariants.{Open, Head, Commit, Undo, Close}
 use Rattle.session_core.specs.declared.event.Reply.{Reply}
-use Rattle.session_core.specs.declared.event.Reply.TheVariants.{Opened, At, Committed, Undone, Closed, Refused}
+use Rattle.session_core.specs.declared.event.Reply.TheVariants.{Opened, At, Committed, Undone, Closed, Refused, Memory}
 use Rattle.session_core.specs.declared.refusal.Refusal.{Refusal}
 use Rattle.session_core.specs.Applied.{applied}
 use Rattle.session_core.specs.Kept.{StandAtVersions}
-use Rattle.session_core.specs.Refusals.{bad_session, session_open, too_many_sessions, no_session, no_version, moved, at_bottom, full}
+use Rattle.session_core.specs.declared.refusal.Refusal.TheVariants.{BadSession, SessionOpen, TooManySessions, NoSession, NoVersion, Moved, AtBottom, Full}
 use Rattle.session_core.specs.Machine.{State, Numbers, Booked, numbers_at, alone, put, refuse, in_session, at_version, without_head, from_base, next, added, commit_applied, commit_at, book_open, book_head, book_commit, book_undo, book_close, book}
 use Rattle.desk.specs.Clients.{head_in, named}
 use Rattle.desk.specs.Committing.{RefusesCommit}
@@ -35,11 +35,11 @@ module _ (s : State) (session : ℕ) where
   refuses refusal is = record { grows = prefix_self s.versions; most = refl; names = λ standing. subst (λ (o : Option ℕ). IfSome o (λ k. k < length s.versions)) (sym is) tt; keeps = λ r e. refl }
 
   in_list : (o : Option Numbers) (go : Numbers → Booked) → ((list : Numbers) → o ≡ Some list → TellsOf s (go list)) → TellsOf s (in_session o s go)
-  in_list None go each = refuses no_session refl
+  in_list None go each = refuses NoSession refl
   in_list (Some list) go each = each list refl
 
   in_version : (o : Option PlainVersion) (go : PlainVersion → Booked) → ((v : PlainVersion) → TellsOf s (go v)) → TellsOf s (at_version o s go)
-  in_version None go each = refuses no_version refl
+  in_version None go each = refuses NoVersion refl
   in_version (Some v) go each = each v
 
   tells_if : (b : Bool) (x y : Booked) → TellsOf s x → TellsOf s y → TellsOf s (if b then x else y)
@@ -52,22 +52,22 @@ module _ (s : State) (session : ℕ) where
   rest_below : (list : Numbers) → numbers_at s session ≡ Some list → StandAtVersions s → All (λ number. number < length s.versions) list.below
   rest_below list is standing = (subst (λ (o : Option Numbers). IfSome o (λ numbers. (numbers.head < length s.versions) × All (λ number. number < length s.versions) numbers.below)) is (standing session)).1
 
-  opens_at : (version : ℕ) (b : Bool) → nat_le (length s.versions) version ≡ b → TellsOf s (if b then refuse no_version s else Some (Opened version, put s session (alone version)))
-  opens_at version true is = refuses no_version refl
+  opens_at : (version : ℕ) (b : Bool) → nat_le (length s.versions) version ≡ b → TellsOf s (if b then refuse NoVersion s else Some (Opened version, put s session (alone version)))
+  opens_at version true is = refuses NoVersion refl
   opens_at version false is = record { grows = prefix_self s.versions; most = refl; names = λ standing. grind (arith, nat_tests); keeps = λ r e. refl }
 
   opens : (version : ℕ) → TellsOf s (book_open s session version)
   opens version =
-      tells_if (not (nat_le 1 session && nat_lt session (2 ^ 16))) _ _ (refuses bad_session refl)
-      (tells_if (is_some (numbers_at s session)) _ _ (refuses session_open refl)
-      (tells_if (nat_le 1024 (length s.sessions)) _ _ (refuses too_many_sessions refl)
+      tells_if (not (nat_le 1 session && nat_lt session (2 ^ 16))) _ _ (refuses BadSession refl)
+      (tells_if (is_some (numbers_at s session)) _ _ (refuses SessionOpen refl)
+      (tells_if (nat_le 1024 (length s.sessions)) _ _ (refuses TooManySessions refl)
       (opens_at version (nat_le (length s.versions) version) refl)))
 
   heads : TellsOf s (book_head s session)
   heads = in_list (numbers_at s session) _ (λ list is. record { grows = prefix_self s.versions; most = refl; names = head_below list is; keeps = λ r e. refl })
 
   undoes_to : (below : List ℕ) → (StandAtVersions s → All (λ number. number < length s.versions) below) → TellsOf s (without_head s session below)
-  undoes_to [] under = refuses at_bottom refl
+  undoes_to [] under = refuses AtBottom refl
   undoes_to (number ∷ below) under = record { grows = prefix_self s.versions; most = refl; names = λ standing. first (under standing); keeps = λ r e. refl }
     where
       first : All (λ k. k < length s.versions) (number ∷ below) → number < length s.versions
@@ -85,14 +85,14 @@ module _ (s : State) (session : ℕ) where
       let w : PlainVersion = next s (from_base base v.graph edits) graph in
       record { grows = (w ∷ [], refl); most = refl; names = λ standing. omega (arith, length-append s.versions (w ∷ [])); keeps = λ r e. absurd (cc e) }
 
-  moves : (list : Numbers) → numbers_at s session ≡ Some list → Tells s (Refused (moved list.head)) s
+  moves : (list : Numbers) → numbers_at s session ≡ Some list → Tells s (Refused (Moved list.head)) s
   moves list is = record { grows = prefix_self s.versions; most = refl; names = head_below list is; keeps = λ r e. refl }
 
   commits : (base : ℕ) (edits : List Edit) → TellsOf s (book_commit s session base edits)
   commits base edits =
       in_list (numbers_at s session) _ (λ list is. in_version (slice_get s.versions base) _ (λ v.
       tells_if (not (list.head == base)) _ _ (moves list is)
-      (tells_if (nat_le s.most (length s.versions)) _ _ (refuses full refl) (adds list base edits v (applied edits v.graph)))))
+      (tells_if (nat_le s.most (length s.versions)) _ _ (refuses Full refl) (adds list base edits v (applied edits v.graph)))))
 
 tells : (s : State) (event : Event) → TellsOf s (book s event)
 tells s (Open session version) = opens s session version
@@ -113,6 +113,7 @@ Declines base (At number) = Unit {0}
 Declines base (Committed number) = Unit {0}
 Declines base (Undone number) = Unit {0}
 Declines base Closed = Unit {0}
+Declines base Memory = Unit {0}
 
 abbrev DeclinesOf : ℕ → Booked → Type 0
 DeclinesOf base None = Unit {0}
@@ -123,12 +124,12 @@ module _ (s : State) (session base : ℕ) (edits : List Edit) where
   applied_declines list v (Ok graph) = tt
   applied_declines list v (Err refusal) = tt
 
-  full_declines : (list : Numbers) (v : PlainVersion) (b : Bool) → DeclinesOf base (if b then refuse full s else commit_applied s session list (from_base base v.graph edits) (applied edits v.graph))
+  full_declines : (list : Numbers) (v : PlainVersion) (b : Bool) → DeclinesOf base (if b then refuse Full s else commit_applied s session list (from_base base v.graph edits) (applied edits v.graph))
   full_declines list v true = inr (inr (inr refl))
   full_declines list v false = applied_declines list v (applied edits v.graph)
 
   moved_declines : (list : Numbers) (v : PlainVersion) (b : Bool) → (list.head == base) ≡ b
-      → DeclinesOf base (if not b then refuse (moved list.head) s else (if nat_le s.most (length s.versions) then refuse full s else commit_applied s session list (from_base base v.graph edits) (applied edits v.graph)))
+      → DeclinesOf base (if not b then refuse (Moved list.head) s else (if nat_le s.most (length s.versions) then refuse Full s else commit_applied s session list (from_base base v.graph edits) (applied edits v.graph)))
   moved_declines list v true is = full_declines list v (nat_le s.most (length s.versions))
   moved_declines list v false is = inr (inr (inl (list.head, refl, λ same. true≢false (sym (eq-eqb list.head base same) ∙ is))))
 

@@ -1,13 +1,14 @@
 -- What a client is to its callers.
-use Rattle.std.specs.Prelude.{◌≡◌, ◌==◌, ◌<◌, ◌+◌, ℕ, if◌then◌else◌, List, [], ◌∷◌, ◌++◌, length, filter, Option, Some, None, IfSome, IsSomeAnd, MatchOption, slice_get}
+use Rattle.std.specs.Prelude.{◌≡◌, ◌==◌, ◌<◌, ◌+◌, ℕ, List, [], ◌∷◌, ◌++◌, length, filter, Option, Some, None, IfSome, IsSomeAnd, MatchOption, slice_get}
 use mathlib.Core.List.{IsPrefix}
 use Rattle.version_store.specs.Plain.{PlainVersion}
 use Rattle.session_core.specs.Log.{entry}
 use Rattle.session_core.specs.declared.event.Entry.{Entry}
 use Rattle.session_core.specs.declared.event.Event.{Event}
 use Rattle.session_core.specs.declared.event.Reply.{Reply}
-use Rattle.session_core.specs.declared.event.Reply.TheVariants.{Opened, At, Committed, Undone, Closed, Refused}
+use Rattle.session_core.specs.declared.event.Reply.TheVariants.{Opened, At, Committed, Undone, Closed, Refused, Memory}
 use Rattle.session_core.specs.declared.refusal.Refusal.{Refusal}
+use Rattle.session_core.specs.declared.refusal.Refusal.TheVariants.{Moved}
 
 -- a client's number, its calls of the table with their replies, how many more there is room for, and the published versions that it has seen
 pub record ClientView : Type 0 where
@@ -38,7 +39,8 @@ SeesOn c d = IsPrefix c.seen d.seen
 
 -- the head that a refusal carries
 abbrev pub head_in : Refusal → Option ℕ
-head_in refusal = if refusal.number == 53 then Some refusal.detail else None
+head_in (Moved head) = Some head
+head_in others = None
 
 -- the version that a reply names
 abbrev pub named : Reply → Option ℕ
@@ -48,6 +50,7 @@ named (Committed number) = Some number
 named (Undone number) = Some number
 named Closed = None
 named (Refused refusal) = head_in refusal
+named Memory = None
 
 -- the version that a reply names has been seen
 abbrev pub HasSeen : ClientView → Reply → Type 0

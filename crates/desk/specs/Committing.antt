@@ -1,7 +1,7 @@
 -- What a commit under the lock rests on, and how it fails.
 use Rattle.std.specs.Prelude.{◌≡◌, ◌≢◌, ◌⊎◌, ℕ, IsSomeAnd, slice_get}
 use Rattle.version_store.specs.Plain.{Origin, PlainVersion}
-use Rattle.session_core.specs.Refusals.{no_session, no_version, moved, full}
+use Rattle.session_core.specs.declared.refusal.Refusal.TheVariants.{NoSession, NoVersion, Moved, Full}
 use Rattle.session_core.specs.declared.refusal.Refusal.{Refusal}
 use Rattle.session_core.specs.declared.refusal.TableFault.{TableFault}
 use Rattle.session_core.specs.declared.refusal.TableFault.TheVariants.{Refused, Memory}
@@ -13,7 +13,7 @@ IsSeenOrigin c origin = IsSomeAnd (slice_get c.seen origin.number) (λ version. 
 
 -- why the table refuses a commit on the base: the session is not open, there is no such base, the session stands elsewhere, or the most versions are there
 abbrev pub RefusesCommit : ℕ → Refusal → Type 0
-RefusesCommit base refusal = (refusal ≡ no_session) ⊎ (refusal ≡ no_version) ⊎ ((head : ℕ) × (refusal ≡ moved head) × (head ≢ base)) ⊎ (refusal ≡ full)
+RefusesCommit base refusal = (refusal ≡ NoSession) ⊎ (refusal ≡ NoVersion) ⊎ ((head : ℕ) × (refusal ≡ Moved head) × (head ≢ base)) ⊎ (refusal ≡ Full)
 
 -- the table refuses it, or memory was wanting
 abbrev pub RefusesToCommit : ℕ → TableFault → Type 0

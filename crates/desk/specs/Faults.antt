@@ -1,5 +1,6 @@
 -- The numbers of the faults.
 use Rattle.std.specs.Prelude.{ℕ}
+use Rattle.session_core.specs.Refusals.{refusal_number}
 use Rattle.desk.specs.declared.fault.CloseFault.{CloseFault}
 use Rattle.desk.specs.declared.fault.CloseFault.TheVariants as close
 use Rattle.desk.specs.declared.fault.EditFault.{EditFault}
@@ -15,8 +16,8 @@ read_number read.Memory = 90
 abbrev pub edit_number : EditFault → ℕ
 edit_number edit.NoVersion = 52
 edit_number (edit.Foreign number) = 56
-edit_number (edit.Edits refusal) = refusal.number
-edit_number (edit.Table refusal) = refusal.number
+edit_number (edit.Edits refusal) = refusal_number refusal
+edit_number (edit.Table refusal) = refusal_number refusal
 edit_number edit.Memory = 90
 
 abbrev pub close_number : CloseFault → ℕ

@@ -54,8 +54,8 @@ impl EditFault {
         match self {
             EditFault::NoVersion => 52,
             EditFault::Foreign(_) => 56,
-            EditFault::Edits(refusal) => refusal.number,
-            EditFault::Table(refusal) => refusal.number,
+            EditFault::Edits(refusal) => refusal.number(),
+            EditFault::Table(refusal) => refusal.number(),
             EditFault::Memory => 90,
         }
     }

@@ -4,7 +4,7 @@ ghost use Rattle.session_core.specs.Adding.{IsOfState};
 
 use level_pool::OneThread;
 use recording::{Step, read_recording, read_step};
-use session_core::{Event, Reply, Table, TableFault, draft_of, run};
+use session_core::{Event, Refusal, Reply, Table, TableFault, draft_of, run};
 use share_tree::{Again, Held};
 use stage_graph::{InFlat, InShared};
 use stage_ops::Meter;
@@ -48,7 +48,7 @@ fn event_of(rt: &impl Abort, alloc: Global, step: &str) -> Result<Event, Fail> {
     })
 }
 
-/// A reply as a line: of a refusal its number, its detail and the index of its edit.
+/// A reply as a line: of a refusal its number and name, its detail and the index of its edit.
 fn line_of(alloc: Global, reply: &Reply) -> Result<String, Fail> {
     Ok(match reply {
         Reply::Opened(number) => format!(in alloc; "opened {number}\n")?,
@@ -56,13 +56,15 @@ fn line_of(alloc: Global, reply: &Reply) -> Result<String, Fail> {
         Reply::Committed(number) => format!(in alloc; "committed {number}\n")?,
         Reply::Undone(number) => format!(in alloc; "undone {number}\n")?,
         Reply::Closed => String::from_str(alloc, "closed\n")?,
-        Reply::Refused(refusal) => {
-            let (number, detail) = (refusal.number, refusal.detail);
-            match refusal.place {
-                Some(place) => format!(in alloc; "refused {number} {detail} in {place}\n")?,
-                None => format!(in alloc; "refused {number} {detail}\n")?,
+        Reply::Refused(refusal) => match (refusal.detail(), refusal.place()) {
+            (Some(detail), Some(place)) => {
+                format!(in alloc; "refused {refusal} {detail} in {place}\n")?
             }
-        }
+            (Some(detail), None) => format!(in alloc; "refused {refusal} {detail}\n")?,
+            (None, Some(place)) => format!(in alloc; "refused {refusal} in {place}\n")?,
+            (None, None) => format!(in alloc; "refused {refusal}\n")?,
+        },
+        Reply::Memory => String::from_str(alloc, "refused 90 Memory\n")?,
     })
 }
 
@@ -167,7 +169,7 @@ fn session_refusals(rt: HostRuntime) -> Result<(), Fail> {
         rt.alloc(),
         COMPOSE_PICKS,
         &steps,
-        "opened 0\nrefused 54 0\nclosed\nrefused 51 0\nopened 0\nrefused 50 0\nrefused 57 0\nrefused 52 0\nrefused 18 3 in 0\nlog 8",
+        "opened 0\nrefused 54 AtBottom\nclosed\nrefused 51 NoSession\nopened 0\nrefused 50 SessionOpen\nrefused 57 BadSession\nrefused 52 NoVersion\nrefused 18 InUse 3 in 0\nlog 8",
     )
 }
 
@@ -199,7 +201,7 @@ fn refuses_foreign<R: StateRepresentation, H: Abort + Threads + Sync>(
     let Err(TableFault::Refused(foreign)) = table.commit(0, 1, &draft) else {
         panic!(rt; "a refusal");
     };
-    assert_eq!(rt; (foreign.number, foreign.detail), (56, 0));
+    assert_eq!(rt; foreign, Refusal::Foreign(0));
     assert_eq!(rt; table.history().len(), 2);
     Ok(())
 }

@@ -11,7 +11,7 @@ use Rattle.session_core.specs.Machine.{State, step}
 use Rattle.session_core.specs.declared.event.Event.{Event}
 use Rattle.session_core.specs.declared.event.Event.TheVariants.{Head, Commit}
 use Rattle.session_core.specs.declared.event.Reply.{Reply}
-use Rattle.session_core.specs.declared.event.Reply.TheVariants.{Opened, At, Committed, Undone, Closed, Refused}
+use Rattle.session_core.specs.declared.event.Reply.TheVariants.{Opened, At, Committed, Undone, Closed, Refused, Memory as OutOfMemory}
 use Rattle.serve_script.specs.Answers.{IsAnswered, Answered, answered, answer_event, answer_head, answer_line, answer_stand, answers_from, or_no_stage, report_among, report_asked, told, told_asked, on_head, on_stand, after_head, after_stand}
 use Rattle.recording.specs.Reads.{IsRead}
 use Rattle.recording.specs.declared.fault.Fault.{Fault}
@@ -82,6 +82,7 @@ other_reply session edits listed t (Committed version) none = refl
 other_reply session edits listed t (Undone version) none = refl
 other_reply session edits listed t Closed none = refl
 other_reply session edits listed t (Refused refusal) none = refl
+other_reply session edits listed t OutOfMemory none = refl
 
 pub head_refused : (s t : State) (session : ℕ) (edits : List Edit) (listed : Bool) (reply : Reply) → step s (Head session) ≡ Some (reply, t) → ((base : ℕ) → reply ≡ At base → ⊥)
     → answer_head s session edits listed ≡ answered (reply_line None (Head session) listed reply) t
@@ -101,6 +102,7 @@ not_standing session asked t (Committed version) none = refl
 not_standing session asked t (Undone version) none = refl
 not_standing session asked t Closed none = refl
 not_standing session asked t (Refused refusal) none = refl
+not_standing session asked t OutOfMemory none = refl
 
 pub stand_refused : (s t : State) (session : ℕ) (asked : Asked) (reply : Reply) → step s (Head session) ≡ Some (reply, t) → ((version : ℕ) → reply ≡ At version → ⊥)
     → answer_stand s session asked ≡ answered (reply_line None (Head session) false reply) t

@@ -1,10 +1,12 @@
 -- The lines by which replies are printed.
-use Rattle.std.specs.Prelude.{ℕ, ◌-◌, ◌==◌, ◌||◌, nat_lt, Bool, true, false, if◌then◌else◌, List, [], ◌∷◌, ◌++◌, length, codes, Option, Some, None, slice_get, slice_index_or}
+use Rattle.std.specs.Prelude.{ℕ, ◌-◌, nat_lt, Bool, true, false, if◌then◌else◌, List, [], ◌∷◌, ◌++◌, length, codes, Option, Some, None, slice_get, slice_index_or}
 use Rattle.std.specs.List.{filter_map}
 use Rattle.std.specs.Fmt.{decimal}
 use Rattle.stage_graph.specs.Plain.{stage_at}
 use Rattle.stage_graph.specs.declared.edit.Edit.{Edit}
 use Rattle.stage_graph.specs.declared.edit.Edit.TheVariants.{Add}
+use Rattle.stage_graph.specs.declared.fault.Refusal.{Refusal as EditRefusal}
+use Rattle.stage_graph.specs.declared.fault.Refusal.TheVariants.{InUse}
 use Rattle.stage_graph.specs.declared.stage.Stage.{Stage}
 use Rattle.version_store.specs.Plain.{PlainVersion}
 use Rattle.report_text.specs.Texts.{line_end, name_of}
@@ -13,32 +15,10 @@ use Rattle.session_core.specs.Machine.{State}
 use Rattle.session_core.specs.declared.event.Event.{Event}
 use Rattle.session_core.specs.declared.event.Event.TheVariants.{Commit}
 use Rattle.session_core.specs.declared.event.Reply.{Reply}
-use Rattle.session_core.specs.declared.event.Reply.TheVariants.{Opened, At, Committed, Undone, Closed, Refused}
+use Rattle.session_core.specs.declared.event.Reply.TheVariants.{Opened, At, Committed, Undone, Closed, Refused, Memory}
+use Rattle.session_core.specs.Refusals.{refusal_index, refusal_text}
 use Rattle.session_core.specs.declared.refusal.Refusal.{Refusal}
-
-abbrev pub refusal_name : ℕ → List ℕ
-refusal_name number =
-    if number == 10 then codes "NoStage" else
-    if number == 11 then codes "NameTaken" else
-    if number == 12 then codes "BadName" else
-    if number == 13 then codes "Arity" else
-    if number == 14 then codes "NoSource" else
-    if number == 15 then codes "Limit" else
-    if number == 16 then codes "EndBeforeCreated" else
-    if number == 17 then codes "NoAction" else
-    if number == 18 then codes "InUse" else
-    if number == 19 then codes "Cycle" else
-    if number == 20 then codes "Expr" else
-    if number == 50 then codes "SessionOpen" else
-    if number == 51 then codes "NoSession" else
-    if number == 52 then codes "NoVersion" else
-    if number == 53 then codes "Moved" else
-    if number == 54 then codes "AtBottom" else
-    if number == 55 then codes "Full" else
-    if number == 56 then codes "Foreign" else
-    if number == 57 then codes "BadSession" else
-    if number == 58 then codes "TooManySessions" else
-    codes "Memory"
+use Rattle.session_core.specs.declared.refusal.Refusal.TheVariants.{Edits, Moved, Foreign}
 
 -- ---- the stage that stands in the way of a removal
 
@@ -63,22 +43,27 @@ user_name base others place = []
 
 -- ---- lines
 
--- the dependent of a stage in use, the session's head, or the number of another graph's version
+-- the name of the stage that depends on a removed one
+abbrev pub dependent_text : Option PlainVersion → Event → EditRefusal → List ℕ
+dependent_text base event (InUse dependent) = codes " " ++ user_name base event dependent
+dependent_text base event others = []
+
+-- the dependent of a removed stage, the session's head, or the number of another graph's version
 abbrev pub detail_text : Option PlainVersion → Event → Refusal → List ℕ
-detail_text base event refusal =
-    if refusal.number == 18 then codes " " ++ user_name base event refusal.detail else
-    if (refusal.number == 53) || (refusal.number == 56) then codes " " ++ decimal refusal.detail else []
+detail_text base event (Edits refused) = dependent_text base event refused.refusal
+detail_text base event (Moved head) = codes " " ++ decimal head
+detail_text base event (Foreign version) = codes " " ++ decimal version
+detail_text base event others = []
 
 -- the index of the refused edit, where the edits came as a list
 abbrev pub index_text : Bool → Option ℕ → List ℕ
 index_text true (Some index) = codes " in " ++ decimal index
 index_text true None = []
-index_text false place = []
+index_text false index = []
 
 -- refused NUMBER NAME DETAIL in INDEX
-abbrev pub refusal_text : Option PlainVersion → Event → Bool → Refusal → List ℕ
-refusal_text base event listed refusal = codes "refused " ++ decimal refusal.number ++ codes " " ++ refusal_name refusal.number
-    ++ detail_text base event refusal ++ index_text listed refusal.place ++ line_end
+abbrev pub refused_line : Option PlainVersion → Event → Bool → Refusal → List ℕ
+refused_line base event listed refusal = codes "refused " ++ refusal_text refusal ++ detail_text base event refusal ++ index_text listed (refusal_index refusal) ++ line_end
 
 -- the line of the reply to an event, which is of this base if it is a commit
 abbrev pub reply_line : Option PlainVersion → Event → Bool → Reply → List ℕ
@@ -87,7 +72,8 @@ reply_line base event listed (At version) = codes "head " ++ decimal version ++ 
 reply_line base event listed (Committed version) = codes "committed " ++ decimal version ++ line_end
 reply_line base event listed (Undone version) = codes "undone " ++ decimal version ++ line_end
 reply_line base event listed Closed = codes "closed " ++ decimal (session_of event) ++ line_end
-reply_line base event listed (Refused refusal) = refusal_text base event listed refusal
+reply_line base event listed (Refused refusal) = refused_line base event listed refusal
+reply_line base event listed Memory = codes "refused 90 Memory" ++ line_end
 
 -- ---- bases
 

@@ -2,7 +2,7 @@
 ghost use Rattle.std.specs.Prelude.{◌≡◌, ◌++◌, [], OnOk, string_bytes, option_copied, slice_index_or};
 ghost use Rattle.std.specs.List.{filter_map};
 ghost use Rattle.session_core.specs.Headline.{session_of};
-ghost use Rattle.serve_script.specs.Replies.{added_in, base_in, detail_text, index_text, name_of_user, refusal_name, refusal_text, reply_line, user_name};
+ghost use Rattle.serve_script.specs.Replies.{added_in, base_in, dependent_text, detail_text, index_text, name_of_user, refused_line, reply_line, user_name};
 
 use session_core::{Event, Refusal, Reply, Table};
 use stage_graph::{Edit, Graph, Name};
@@ -29,6 +29,7 @@ pub fn push_reply<R: StateRepresentation>(
         Reply::Undone(version) => writeln!(line, "undone {version}"),
         Reply::Closed => writeln!(line, "closed {session}"),
         Reply::Refused(refusal) => push_refusal(line, base, event, listed, refusal),
+        Reply::Memory => line.push_str("refused 90 Memory\n"),
     }
 }
 
@@ -65,46 +66,15 @@ fn push_refusal<R: StateRepresentation>(
     listed: bool,
     refusal: Refusal,
 ) -> Result<(), AllocError>
-    ensures { OnOk result (string_bytes line.new ≡ string_bytes line.old ++ refusal_text (option_copied base.entry) event.now listed refusal) }
+    ensures { OnOk result (string_bytes line.new ≡ string_bytes line.old ++ refused_line (option_copied base.entry) event.now listed refusal) }
 {
-    let number = refusal.number;
-    let name = refusal_name(number);
-    write!(line, "refused {number} {name}")?;
+    write!(line, "refused {refusal}")?;
     push_detail(line, base, event, refusal)?;
-    push_index(line, listed, refusal.place)?;
+    push_index(line, listed, refusal.place())?;
     line.push_str("\n")
 }
 
-/// The name by which a refusal is printed.
-fn refusal_name(number: u32) -> &'static str
-    ensures { result.now ≡ refusal_name number }
-{
-    match number {
-        10 => "NoStage",
-        11 => "NameTaken",
-        12 => "BadName",
-        13 => "Arity",
-        14 => "NoSource",
-        15 => "Limit",
-        16 => "EndBeforeCreated",
-        17 => "NoAction",
-        18 => "InUse",
-        19 => "Cycle",
-        20 => "Expr",
-        50 => "SessionOpen",
-        51 => "NoSession",
-        52 => "NoVersion",
-        53 => "Moved",
-        54 => "AtBottom",
-        55 => "Full",
-        56 => "Foreign",
-        57 => "BadSession",
-        58 => "TooManySessions",
-        _ => "Memory",
-    }
-}
-
-// The dependent of a stage in use, by its name, and the number of a head or of a version.
+// The dependent of a removed stage, by its name, and the number of a head or of a version.
 fn push_detail<R: StateRepresentation>(
     line: &mut String,
     base: Option<&Version<R>>,
@@ -113,18 +83,31 @@ fn push_detail<R: StateRepresentation>(
 ) -> Result<(), AllocError>
     ensures { OnOk result (string_bytes line.new ≡ string_bytes line.old ++ detail_text (option_copied base.entry) event.now refusal) }
 {
-    let detail = refusal.detail;
-    match refusal.number {
-        18 => {
-            let name = user_name(base, event, detail);
-            write!(line, " {name}")
-        }
-        53 | 56 => write!(line, " {detail}"),
+    match refusal {
+        Refusal::Edits(refused) => push_dependent(line, base, event, refused.refusal),
+        Refusal::Moved(number) | Refusal::Foreign(number) => write!(line, " {number}"),
         _ => Ok(()),
     }
 }
 
-fn push_index(line: &mut String, listed: bool, place: Option<u32>) -> Result<(), AllocError>
+fn push_dependent<R: StateRepresentation>(
+    line: &mut String,
+    base: Option<&Version<R>>,
+    event: &Event,
+    refusal: stage_graph::Refusal,
+) -> Result<(), AllocError>
+    ensures { OnOk result (string_bytes line.new ≡ string_bytes line.old ++ dependent_text (option_copied base.entry) event.now refusal) }
+{
+    match refusal {
+        stage_graph::Refusal::InUse(place) => {
+            let name = user_name(base, event, place);
+            write!(line, " {name}")
+        }
+        _ => Ok(()),
+    }
+}
+
+fn push_index(line: &mut String, listed: bool, place: Option<usize>) -> Result<(), AllocError>
     ensures { OnOk result (string_bytes line.new ≡ string_bytes line.old ++ index_text listed place) }
 {
     match place {

@@ -17,21 +17,17 @@ use crate::reply::{base_of, push_reply};
 use level_pool::Runner;
 use recording::{Asked, Fault, Step, Subject, read_step};
 use script_lines::{AnswerFault, Line};
-use session_core::{Event, Reply, Table, run};
+use session_core::{Event, Reply, Table};
 use share_tree::Held;
 use stage_graph::{Edits, Graph};
 use std::alloc::{AllocError, Global};
 use std::fmt::Write;
 use std::marker::Model;
-use std::slice;
 use text_io::Sink;
 use version_store::{StateRepresentation, Version};
 
 /// The most versions of a table.
 const MOST_VERSIONS: u32 = 65_536;
-
-/// The number by which want of memory is refused.
-const MEMORY: u32 = 90;
 
 /// Versions and sessions, and the lines that ask for them, answered. Contracts see the state of the versions and sessions.
 #[derive(Drop)]
@@ -39,7 +35,6 @@ pub(crate) struct Server<'a, R: StateRepresentation, W> {
     alloc: Global,
     runner: &'a W,
     table: Table<R>,
-    replies: Vec<Reply>,
     line: String,
 }
 
@@ -70,7 +65,6 @@ impl<'a, R: StateRepresentation, W: Runner> Server<'a, R, W> {
             alloc,
             runner,
             table: Table::new(alloc, version, MOST_VERSIONS)?,
-            replies: Vec::new(alloc),
             line: String::new(alloc),
         })
     }
@@ -79,18 +73,9 @@ impl<'a, R: StateRepresentation, W: Runner> Server<'a, R, W> {
     fn take(&mut self, event: &Event) -> Result<Reply, AllocError>
         ensures { IfOk result (λ reply. step self.old event.now ≡ Some (reply, self.new)) }
     {
-        self.replies.clear();
-        run(
-            self.alloc,
-            &mut self.table,
-            slice::from_ref(event),
-            self.runner,
-            &mut self.replies,
-        )?;
-        match self.replies.pop() {
-            Some(Reply::Refused(refusal)) if refusal.number == MEMORY => Err(AllocError),
-            Some(reply) => Ok(reply),
-            None => unreachable!(),
+        match self.table.take(self.alloc, event, self.runner) {
+            Reply::Memory => Err(AllocError),
+            reply => Ok(reply),
         }
     }
 

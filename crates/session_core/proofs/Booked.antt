@@ -11,7 +11,7 @@ use Rattle.stage_graph.specs.declared.edit.Edit.{Edit}
 use Rattle.version_store.specs.Plain.{PlainVersion}
 use Rattle.session_core.specs.declared.machine.Span.{Span}
 use Rattle.session_core.specs.declared.event.Reply.TheVariants.{Opened, At, Undone, Closed, Refused}
-use Rattle.session_core.specs.Refusals.{session_open, no_session, no_version, moved, at_bottom, full, too_many_sessions}
+use Rattle.session_core.specs.declared.refusal.Refusal.TheVariants.{SessionOpen, NoSession, NoVersion, Moved, AtBottom, Full, TooManySessions}
 use Rattle.session_core.specs.Machine.{State, Numbers, numbers_at, alone, put, refuse, in_session, at_version, without_head, book_open, book_head, book_commit, commit_at, book_undo, book_close}
 use Rattle.session_core.specs.Adding.{IsAtBase}
 use Rattle.session_core.specs.Standing.{parent_at, numbers_of}
@@ -21,10 +21,10 @@ use Rattle.session_core.proofs.Spans.{span_at, with_spans, numbers, same_spans, 
 
 -- ---- close
 
-pub close_none : (m : Parts) (x : List (ℕ × Span)) (session : ℕ) → span_at m session ≡ None → x ≡ m.spans → book_close (state_of m) session ≡ Some (Refused no_session, state_of (with_spans m x))
+pub close_none : (m : Parts) (x : List (ℕ × Span)) (session : ℕ) → span_at m session ≡ None → x ≡ m.spans → book_close (state_of m) session ≡ Some (Refused NoSession, state_of (with_spans m x))
 close_none m x session is e =
     ap (λ (o : Option Numbers). in_session o (state_of m) (λ _. Some (Closed, record (state_of m) { sessions = remove_entry (is_at (nat_cmp session)) (state_of m).sessions }))) (numbers m session None is)
-    ∙ ap (λ (t : State). Some (Refused no_session, t)) (sym (same_spans m x e))
+    ∙ ap (λ (t : State). Some (Refused NoSession, t)) (sym (same_spans m x e))
 
 pub close_some : (m : Parts) (x : List (ℕ × Span)) (session : ℕ) (at : Span) → span_at m session ≡ Some at → x ≡ remove_entry (is_at (nat_cmp session)) m.spans → book_close (state_of m) session ≡ Some (Closed, state_of (with_spans m x))
 close_some m x session at is e =
@@ -33,7 +33,7 @@ close_some m x session at is e =
 
 -- ---- head
 
-pub head_none : (m : Parts) (session : ℕ) → span_at m session ≡ None → book_head (state_of m) session ≡ Some (Refused no_session, state_of m)
+pub head_none : (m : Parts) (session : ℕ) → span_at m session ≡ None → book_head (state_of m) session ≡ Some (Refused NoSession, state_of m)
 head_none m session is = ap (λ (o : Option Numbers). in_session o (state_of m) (λ n. Some (At n.head, state_of m))) (numbers m session None is)
 
 pub head_some : (m : Parts) (session : ℕ) (at : Span) (v : PlainVersion) → IsSound m → span_at m session ≡ Some at → slice_get m.versions at.head ≡ Some v
@@ -46,17 +46,17 @@ head_some m session at v sound is found =
 
 -- ---- undo
 
-pub undo_none : (m : Parts) (session : ℕ) → span_at m session ≡ None → book_undo (state_of m) session ≡ Some (Refused no_session, state_of m)
+pub undo_none : (m : Parts) (session : ℕ) → span_at m session ≡ None → book_undo (state_of m) session ≡ Some (Refused NoSession, state_of m)
 undo_none m session is = ap (λ (o : Option Numbers). in_session o (state_of m) (λ n. without_head (state_of m) session n.below)) (numbers m session None is)
 
 undo_some : (m : Parts) (session : ℕ) (at : Span) (below : List ℕ) → span_at m session ≡ Some at → (numbers_of m.versions at).below ≡ below → book_undo (state_of m) session ≡ without_head (state_of m) session below
 undo_some m session at below is e =
     ap (λ (o : Option Numbers). in_session o (state_of m) (λ n. without_head (state_of m) session n.below)) (numbers m session (Some at) is) ∙ ap (without_head (state_of m) session) e
 
-pub undo_bottom : (m : Parts) (session : ℕ) (at : Span) → span_at m session ≡ Some at → at.head ≡ at.bottom → book_undo (state_of m) session ≡ Some (Refused at_bottom, state_of m)
+pub undo_bottom : (m : Parts) (session : ℕ) (at : Span) → span_at m session ≡ Some at → at.head ≡ at.bottom → book_undo (state_of m) session ≡ Some (Refused AtBottom, state_of m)
 undo_bottom m session at is e = undo_some m session at [] is (numbers_of-bottom m.versions at e)
 
-pub undo_orphan : (m : Parts) (session : ℕ) (at : Span) → span_at m session ≡ Some at → parent_at m.versions at.head ≡ None → book_undo (state_of m) session ≡ Some (Refused at_bottom, state_of m)
+pub undo_orphan : (m : Parts) (session : ℕ) (at : Span) → span_at m session ≡ Some at → parent_at m.versions at.head ≡ None → book_undo (state_of m) session ≡ Some (Refused AtBottom, state_of m)
 undo_orphan m session at is e = undo_some m session at [] is (numbers_of-orphan m.versions at e)
 
 pub undo_parent : (m : Parts) (x : List (ℕ × Span)) (session : ℕ) (at : Span) (parent : ℕ) → IsSound m → span_at m session ≡ Some at → (at.head == at.bottom) ≡ false → parent_at m.versions at.head ≡ Some parent
@@ -91,18 +91,18 @@ in_range session a b =
     ap (λ (x : Bool). not (x && nat_lt session (2 ^ 16))) p ∙ ap not q
 
 module _ (m : Parts) (session version : ℕ) (least : 1 ≤ session) (small : session < 2 ^ 16) where
-  pub open_open : is_some (span_at m session) ≡ true → book_open (state_of m) session version ≡ Some (Refused session_open, state_of m)
+  pub open_open : is_some (span_at m session) ≡ true → book_open (state_of m) session version ≡ Some (Refused SessionOpen, state_of m)
   open_open is =
       if_false (not (nat_le 1 session && nat_lt session (2 ^ 16))) _ _ (in_range session least small)
       ∙ if_true (is_some (numbers_at (state_of m) session)) _ _ (is_some-numbers m session (span_at m session) refl ∙ is)
 
   module _ (free : is_some (span_at m session) ≡ false) where
-    past : book_open (state_of m) session version ≡ (if nat_le 1024 (length (state_of m).sessions) then refuse too_many_sessions (state_of m) else if nat_le (length m.versions) version then refuse no_version (state_of m) else Some (Opened version, put (state_of m) session (alone version)))
+    past : book_open (state_of m) session version ≡ (if nat_le 1024 (length (state_of m).sessions) then refuse TooManySessions (state_of m) else if nat_le (length m.versions) version then refuse NoVersion (state_of m) else Some (Opened version, put (state_of m) session (alone version)))
     past =
         if_false (not (nat_le 1 session && nat_lt session (2 ^ 16))) _ _ (in_range session least small)
         ∙ if_false (is_some (numbers_at (state_of m) session)) _ _ (is_some-numbers m session (span_at m session) refl ∙ free)
 
-    pub open_many : 1024 ≤ length m.spans → book_open (state_of m) session version ≡ Some (Refused too_many_sessions, state_of m)
+    pub open_many : 1024 ≤ length m.spans → book_open (state_of m) session version ≡ Some (Refused TooManySessions, state_of m)
     open_many many =
         let same = length-sessions m in
         let test : nat_le 1024 (length (state_of m).sessions) ≡ true = grind (arith, nat_tests) in
@@ -112,7 +112,7 @@ module _ (m : Parts) (session version : ℕ) (least : 1 ≤ session) (small : se
       not_many : nat_le 1024 (length (state_of m).sessions) ≡ false
       not_many = let same = length-sessions m in grind (arith, nat_tests)
 
-      pub open_nowhere : length m.versions ≤ version → book_open (state_of m) session version ≡ Some (Refused no_version, state_of m)
+      pub open_nowhere : length m.versions ≤ version → book_open (state_of m) session version ≡ Some (Refused NoVersion, state_of m)
       open_nowhere high =
           let test : nat_le (length m.versions) version ≡ true = grind (arith, nat_tests) in
           past ∙ if_false (nat_le 1024 (length (state_of m).sessions)) _ _ not_many ∙ if_true (nat_le (length m.versions) version) _ _ test
@@ -133,10 +133,10 @@ in_commit : (m : Parts) (session base : ℕ) (edits : List Edit) (o : Option Spa
     → book_commit (state_of m) session base edits ≡ in_session (option_map (numbers_of m.versions) o) (state_of m) (λ n. at_version (slice_get m.versions base) (state_of m) (λ v. commit_at (state_of m) session n base edits v))
 in_commit m session base edits o is = ap (λ (x : Option Numbers). in_session x (state_of m) (λ n. at_version (slice_get m.versions base) (state_of m) (λ v. commit_at (state_of m) session n base edits v))) (numbers m session o is)
 
-pub commit_none : (m : Parts) (session base : ℕ) (edits : List Edit) → span_at m session ≡ None → book_commit (state_of m) session base edits ≡ Some (Refused no_session, state_of m)
+pub commit_none : (m : Parts) (session base : ℕ) (edits : List Edit) → span_at m session ≡ None → book_commit (state_of m) session base edits ≡ Some (Refused NoSession, state_of m)
 commit_none m session base edits is = in_commit m session base edits None is
 
-pub commit_nowhere : (m : Parts) (session base : ℕ) (edits : List Edit) (at : Span) → span_at m session ≡ Some at → length m.versions ≤ base → book_commit (state_of m) session base edits ≡ Some (Refused no_version, state_of m)
+pub commit_nowhere : (m : Parts) (session base : ℕ) (edits : List Edit) (at : Span) → span_at m session ≡ Some at → length m.versions ≤ base → book_commit (state_of m) session base edits ≡ Some (Refused NoVersion, state_of m)
 commit_nowhere m session base edits at is high =
     in_commit m session base edits (Some at) is
     ∙ ap (λ (x : Option PlainVersion). at_version x (state_of m) (λ v. commit_at (state_of m) session (numbers_of m.versions at) base edits v)) (slice_get_past m.versions base high)
@@ -154,10 +154,10 @@ module _ (m : Parts) (session base : ℕ) (edits : List Edit) (at : Span) (is : 
   in_there = in_commit m session base edits (Some at) is
       ∙ ap (λ (x : Option PlainVersion). at_version x (state_of m) (λ v. commit_at (state_of m) session (numbers_of m.versions at) base edits v)) there.1
 
-  pub commit_moved : (at.head == base) ≡ false → book_commit (state_of m) session base edits ≡ Some (Refused (moved at.head), state_of m)
+  pub commit_moved : (at.head == base) ≡ false → book_commit (state_of m) session base edits ≡ Some (Refused (Moved at.head), state_of m)
   commit_moved apart = in_there ∙ if_true (not (at.head == base)) _ _ (ap not apart)
 
-  pub commit_full : (at.head == base) ≡ true → m.most ≤ length m.versions → book_commit (state_of m) session base edits ≡ Some (Refused full, state_of m)
+  pub commit_full : (at.head == base) ≡ true → m.most ≤ length m.versions → book_commit (state_of m) session base edits ≡ Some (Refused Full, state_of m)
   commit_full here many =
       let test : nat_le m.most (length m.versions) ≡ true = grind (arith, nat_tests) in
       in_there ∙ if_false (not (at.head == base)) _ _ (ap not here) ∙ if_true (nat_le m.most (length m.versions)) _ _ test

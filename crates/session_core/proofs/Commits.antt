@@ -9,7 +9,7 @@ use Rattle.version_store.specs.Drafts.{IsMadeBy}
 use Rattle.session_core.specs.declared.event.Reply.TheVariants.{Committed, Refused}
 use Rattle.session_core.specs.declared.event.Reply.{Reply}
 use Rattle.session_core.specs.declared.event.Event.TheVariants.{Commit}
-use Rattle.session_core.specs.Refusals.{foreign}
+use Rattle.session_core.specs.declared.refusal.Refusal.TheVariants.{Foreign}
 use Rattle.session_core.specs.Applied.{applied}
 use Rattle.session_core.specs.Adding.{IsAtBase, IsOfState}
 use Rattle.session_core.specs.Ready.{PlainReady, IsReady}
@@ -68,6 +68,6 @@ pub opening-added : (s : State) (session : ℕ) (numbers : Numbers) (v : PlainVe
 opening-added s session numbers v some = ap (opened s.most) (take_one s.versions v some)
 
 -- a commit answered "of another graph"
-pub enters_foreign : (s : State) (who session base : ℕ) (edits : List Edit) (reply : Reply) (draft : PlainDraft) → IsForeignDraft s session draft → base ≡ draft.origin.number → reply ≡ Refused (foreign base) → Enters s (entry who (Commit session base edits) reply) s
+pub enters_foreign : (s : State) (who session base : ℕ) (edits : List Edit) (reply : Reply) (draft : PlainDraft) → IsForeignDraft s session draft → base ≡ draft.origin.number → reply ≡ Refused (Foreign base) → Enters s (entry who (Commit session base edits) reply) s
 enters_foreign s who session base edits reply draft f same is =
     inr ((f.0, subst (λ k. k < length s.versions) (sym same) (slice_get_within s.versions draft.origin.number f.1 f.2), is), refl)

@@ -16,7 +16,7 @@ use Rattle.stage_graph.specs.Order.{IsClosedWalk}
 use Rattle.stage_graph.proofs.Ranked.{live_from_feed, not_ranked_from_closed_walk}
 use Rattle.stage_graph.proofs.Placing.{place_from_live}
 use Rattle.session_core.specs.declared.refusal.Refusal.{Refusal}
-use Rattle.session_core.specs.Refusals.{cycle, of_edit}
+use Rattle.session_core.specs.declared.refusal.Refusal.TheVariants.{Cycle, Edits}
 use Rattle.session_core.specs.Applied.{has_walk, has_cycle, settled, applied}
 
 module _ {A : Type 0} (p : A → Bool) where
@@ -80,19 +80,19 @@ module _ (places : List (Option Stage)) where
       by_test true e = e
       by_test false e = absurd (not_ranked_from_closed_walk places path closed (ranked_from_test e))
 
-unless_cycle : (graph : PlainGraph) (b : Bool) → has_cycle graph.places ≡ b → settled (Ok graph) ≡ (if b then Err cycle else Ok graph)
-unless_cycle graph b e = let both : Bool → Result PlainGraph Refusal = λ b. if b then Err cycle else Ok graph in ap both e
+unless_cycle : (graph : PlainGraph) (b : Bool) → has_cycle graph.places ≡ b → settled (Ok graph) ≡ (if b then Err Cycle else Ok graph)
+unless_cycle graph b e = let both : Bool → Result PlainGraph Refusal = λ b. if b then Err Cycle else Ok graph in ap both e
 
 -- what the edits make, where they make a graph without a cycle
 pub applied_ok : (edits : List Edit) (graph made : PlainGraph) → changed edits graph ≡ Ok made → IsRanked made.places → applied edits graph ≡ Ok made
 applied_ok edits graph made is ranked = ap settled is ∙ unless_cycle made false (test_from_ranked made.places ranked)
 
 -- the refusal of an edit
-pub applied_refused : (edits : List Edit) (graph : PlainGraph) (refused : Refused) → changed edits graph ≡ Err refused → applied edits graph ≡ Err (of_edit refused)
+pub applied_refused : (edits : List Edit) (graph : PlainGraph) (refused : Refused) → changed edits graph ≡ Err refused → applied edits graph ≡ Err (Edits refused)
 applied_refused edits graph refused is = ap settled is
 
 -- the refusal of a cycle
-pub applied_cycle : (edits : List Edit) (graph made : PlainGraph) (path : List ℕ) → changed edits graph ≡ Ok made → IsClosedWalk made.places path → applied edits graph ≡ Err cycle
+pub applied_cycle : (edits : List Edit) (graph made : PlainGraph) (path : List ℕ) → changed edits graph ≡ Ok made → IsClosedWalk made.places path → applied edits graph ≡ Err Cycle
 applied_cycle edits graph made path is closed = ap settled is ∙ unless_cycle made true (test_from_closed_walk made.places path closed)
 
 same_ok : (x y : PlainGraph) (r : Result PlainGraph Refusal) → r ≡ Ok x → r ≡ Ok y → x ≡ y
@@ -102,33 +102,14 @@ not_both : (x : Refusal) (y : PlainGraph) (r : Result PlainGraph Refusal) → r 
 not_both x y r a b = cc
 
 ranked_when_settled : (graph made : PlainGraph) (b : Bool) → has_cycle graph.places ≡ b → settled (Ok graph) ≡ Ok made → IsRanked made.places
-ranked_when_settled graph made true test is = absurd (not_both cycle made (settled (Ok graph)) (unless_cycle graph true test) is)
+ranked_when_settled graph made true test is = absurd (not_both Cycle made (settled (Ok graph)) (unless_cycle graph true test) is)
 ranked_when_settled graph made false test is =
     subst (λ (g : PlainGraph). IsRanked g.places) (same_ok graph made (settled (Ok graph)) (unless_cycle graph false test) is) (ranked_from_test graph.places test)
 
 ranked_by : (r : Result PlainGraph Refused) (made : PlainGraph) → settled r ≡ Ok made → IsRanked made.places
 ranked_by (Ok graph) made is = ranked_when_settled graph made (has_cycle graph.places) refl is
-ranked_by (Err refused) made is = absurd (not_both (of_edit refused) made (settled (Err refused)) refl is)
+ranked_by (Err refused) made is = absurd (not_both (Edits refused) made (settled (Err refused)) refl is)
 
 -- a graph that the edits make has no cycle
 pub ranked_from_applied : (edits : List Edit) (graph made : PlainGraph) → applied edits graph ≡ Ok made → IsRanked made.places
 ranked_from_applied edits graph made is = ranked_by (changed edits graph) made is
-
--- the index of a refused edit is one of the list's
-same_index : (r : Result PlainGraph Refused) (a b : Refused) → r ≡ Err a → r ≡ Err b → a.at ≡ b.at
-same_index r a b p q = let same : a ≡ b = cc in ap (λ (x : Refused). x.at) same
-
-index_then : (index : ℕ) (edits : List Edit) (r : Result PlainGraph EditRefusal) (refused : Refused) → then_on index r (changed_from (index + 1) edits) ≡ Err refused
-    → ((next : PlainGraph) → changed_from (index + 1) edits next ≡ Err refused → refused.at < index + 1 + length edits) → refused.at < index + suc (length edits)
-index_then index edits (Ok next) refused is later = let low = later next is in omega (arith, low)
-index_then index edits (Err refusal) refused is later =
-    let at : index ≡ refused.at = same_index (Err (record { at = index; refusal = refusal })) (record { at = index; refusal = refusal }) refused refl is in
-    omega (arith, at)
-
-index_from : (index : ℕ) (edits : List Edit) (graph : PlainGraph) (refused : Refused) → changed_from index edits graph ≡ Err refused → refused.at < index + length edits
-index_from index [] graph refused is = absurd (cc is)
-index_from index (edit ∷ edits) graph refused is = index_then index edits (edited edit graph) refused is (λ next later. index_from (index + 1) edits next refused later)
-
-pub index_within : (edits : List Edit) (graph : PlainGraph) (refused : Refused) → changed edits graph ≡ Err refused → refused.at < length edits
-unfolding changed
-index_within edits graph refused is = let low = index_from 0 edits graph refused is in omega (arith, low)

@@ -6,16 +6,11 @@ use Rattle.stage_graph.specs.declared.fault.Fault.TheVariants.{Refused, Cycle, M
 use Rattle.stage_graph.specs.Changes.{changed}
 use Rattle.version_store.specs.Plain.{Origin, PlainVersion, PlainDraft}
 use Rattle.version_store.specs.Drafts.{IsDraftOf, Drafts}
-use Rattle.session_core.specs.Refusals.{IsBelow, of_fault}
+use Rattle.session_core.specs.Refusals.{of_fault}
 use Rattle.session_core.specs.Applied.{IsDrafted, DraftsOrRefuses}
-use Rattle.session_core.proofs.Cycles.{applied_ok, applied_refused, applied_cycle, index_within}
+use Rattle.session_core.proofs.Cycles.{applied_ok, applied_refused, applied_cycle}
 
 module _ (version : PlainVersion) (edits : List Edit) where
-  pub is_below : (fault : Fault) → length edits ≤ 64 → Drafts version edits (Err fault) → IsBelow (2 ^ 32) fault
-  is_below (Refused refused) few is = let low = index_within edits version.graph refused is in omega (arith, low, few)
-  is_below (Cycle path) few is = tt
-  is_below Memory few is = tt
-
   pub refuses : (fault : Fault) → Drafts version edits (Err fault) → DraftsOrRefuses version edits (Err (of_fault fault))
   refuses (Refused refused) is = applied_refused edits version.graph refused is
   refuses (Cycle path) is = applied_cycle edits version.graph is.0 path is.1 is.2.0

@@ -22,9 +22,8 @@ use Rattle.version_store.specs.Plain.{PlainVersion, opening_version}
 use Rattle.session_core.specs.declared.event.Event.{Event}
 use Rattle.session_core.specs.declared.event.Event.TheVariants.{Open, Head, Commit, Undo, Close}
 use Rattle.session_core.specs.declared.event.Reply.{Reply}
-use Rattle.session_core.specs.declared.event.Reply.TheVariants.{At, Committed, Refused}
+use Rattle.session_core.specs.declared.event.Reply.TheVariants.{At, Committed, Refused, Memory}
 use Rattle.session_core.specs.declared.refusal.Refusal.{Refusal}
-use Rattle.session_core.specs.Refusals.{memory}
 use Rattle.session_core.specs.Applied.{applied}
 use Rattle.session_core.specs.Machine.{State, Numbers, Booked, numbers_at, alone, with_head, opening, in_session, at_version, without_head, commit_applied, from_base, next, book_open, book_head, book_commit, book_undo, book_close, book, rejection, unless_rejected, step}
 use Rattle.session_core.specs.TableView.{TableView}
@@ -174,9 +173,9 @@ books s (Close session) sorted = closes s session sorted
 steps : (s : State) (event : Event) → Sorted s.sessions → Steps s (session_of event) (step s event)
 steps s event sorted = rejects s (session_of event) sorted (rejection s event) (book s event) (books s event sorted)
 
-one_step : (s : State) (event : Event) (reply : Reply) (t : State) → Sorted s.sessions → (step s event ≡ Some (reply, t)) ⊎ ((reply ≡ Refused memory) × (t ≡ s)) → Step s (session_of event) reply t
+one_step : (s : State) (event : Event) (reply : Reply) (t : State) → Sorted s.sessions → (step s event ≡ Some (reply, t)) ⊎ ((reply ≡ Memory) × (t ≡ s)) → Step s (session_of event) reply t
 one_step s event reply t sorted (inl is) = subst (Steps s (session_of event)) is (steps s event sorted)
-one_step s event reply t sorted (inr is) = subst (λ r. Step s (session_of event) r t) (sym is.0) (subst (Step s (session_of event) (Refused memory)) (sym is.1) (refuses s (session_of event) sorted memory))
+one_step s event reply t sorted (inr is) = subst (λ r. Step s (session_of event) r t) (sym is.0) (subst (Step s (session_of event) Memory) (sym is.1) (stays s (session_of event) sorted Memory (λ list. refl)))
 
 record Led (s : State) (events : List Event) (replies : List Reply) (t : State) : Type 0 where
   sessions : (session : ℕ) → numbers_at t session ≡ led_to session events replies (numbers_at s session)

@@ -8,9 +8,9 @@ use Rattle.version_store.specs.Plain.{PlainVersion}
 use Rattle.session_core.specs.declared.event.Event.{Event}
 use Rattle.session_core.specs.declared.event.Event.TheVariants.{Open, Head, Commit, Undo, Close}
 use Rattle.session_core.specs.declared.event.Reply.{Reply}
-use Rattle.session_core.specs.declared.event.Reply.TheVariants.{Opened, At, Committed, Undone, Closed, Refused}
+use Rattle.session_core.specs.declared.event.Reply.TheVariants.{Opened, At, Committed, Undone, Closed, Refused, Memory}
 use Rattle.session_core.specs.declared.refusal.Refusal.{Refusal}
-use Rattle.session_core.specs.Refusals.{memory, moved}
+use Rattle.session_core.specs.declared.refusal.Refusal.TheVariants.{Moved}
 use Rattle.session_core.specs.Applied.{applied}
 use Rattle.session_core.specs.Machine.{State, Numbers, Booked, numbers_at, refuse, in_session, at_version, without_head, commit_applied, from_base, book, book_open, book_head, book_commit, book_undo, book_close, rejection, unless_rejected, step}
 use Rattle.session_core.specs.Headline.{IsMade, made}
@@ -36,6 +36,7 @@ Tells s event (At number) t = length t.versions ≡ length s.versions
 Tells s event (Undone number) t = length t.versions ≡ length s.versions
 Tells s event Closed t = length t.versions ≡ length s.versions
 Tells s event (Refused refusal) t = length t.versions ≡ length s.versions
+Tells s event Memory t = length t.versions ≡ length s.versions
 
 abbrev Makes : State → Event → Booked → Type 0
 Makes s event None = Unit {0}
@@ -104,7 +105,7 @@ module _ (s : State) (session base : ℕ) (edits : List Edit) where
 
   -- past the test of the head, the base is the head
   on_head : (list : Numbers) (b : Bool) (y : Booked) → (list.head == base) ≡ b → (list.head ≡ base → Makes s (Commit session base edits) y)
-      → Makes s (Commit session base edits) (if not b then refuse (moved list.head) s else y)
+      → Makes s (Commit session base edits) (if not b then refuse (Moved list.head) s else y)
   on_head list true y e each = each (grind (arith, nat_tests))
   on_head list false y e each = refl
 
@@ -119,7 +120,7 @@ book_makes s (Commit session base edits) = commits s session base edits
 book_makes s (Undo session) = undoes s (Undo session) session
 book_makes s (Close session) = closes s (Close session) session
 
-tells : (s : State) (event : Event) (reply : Reply) (t : State) → (step s event ≡ Some (reply, t)) ⊎ ((reply ≡ Refused memory) × (t ≡ s)) → Tells s event reply t
+tells : (s : State) (event : Event) (reply : Reply) (t : State) → (step s event ≡ Some (reply, t)) ⊎ ((reply ≡ Memory) × (t ≡ s)) → Tells s event reply t
 tells s event reply t (inl is) = subst (Makes s event) is (rejects s event (rejection s event) (book s event) (book_makes s event))
 tells s event reply t (inr is) = subst (λ r. Tells s event r t) (sym is.0) (ap (λ (x : State). length x.versions) is.1)
 
@@ -130,6 +131,7 @@ counted s event (At number) t h = omega (arith, h)
 counted s event (Undone number) t h = omega (arith, h)
 counted s event Closed t h = omega (arith, h)
 counted s event (Refused refusal) t h = omega (arith, h)
+counted s event Memory t h = omega (arith, h)
 
 -- what one step does to the number of versions, and what a commit makes
 pub record Making (s : State) (event : Event) (reply : Reply) (t : State) : Type 0 where
@@ -137,7 +139,7 @@ pub record Making (s : State) (event : Event) (reply : Reply) (t : State) : Type
   pub number : (number : ℕ) → reply ≡ Committed number → number ≡ length s.versions
   pub count : length t.versions ≡ length s.versions + made reply
 
-pub one_making : (s : State) (event : Event) (reply : Reply) (t : State) → (step s event ≡ Some (reply, t)) ⊎ ((reply ≡ Refused memory) × (t ≡ s)) → Making s event reply t
+pub one_making : (s : State) (event : Event) (reply : Reply) (t : State) → (step s event ≡ Some (reply, t)) ⊎ ((reply ≡ Memory) × (t ≡ s)) → Making s event reply t
 one_making s event reply t is =
     let told : Tells s event reply t = tells s event reply t is in
     record {

@@ -1,11 +1,10 @@
 -- Runs, one step longer, and what a step of a run is to the machine.
-use Rattle.std.proofs.Common.{◌≡◌, ◌⊎◌, inl, inr, List, [], ◌∷◌, ◌++◌, Option, Some, None, refl, ap, sym, subst, ◌∙◌}
+use Rattle.std.proofs.Common.{◌≡◌, ◌≢◌, ◌⊎◌, inl, inr, List, [], ◌∷◌, ◌++◌, Option, Some, None, refl, ap, sym, subst, ◌∙◌}
 use Rattle.session_core.specs.declared.event.Event.{Event}
 use Rattle.session_core.specs.declared.event.Reply.{Reply}
-use Rattle.session_core.specs.declared.event.Reply.TheVariants.{Refused}
+use Rattle.session_core.specs.declared.event.Reply.TheVariants.{Memory}
 use Rattle.session_core.specs.declared.event.Entry.{Entry}
 use Rattle.session_core.specs.declared.refusal.Refusal.{Refusal}
-use Rattle.session_core.specs.Refusals.{memory}
 use Rattle.session_core.specs.Machine.{State, rejection, unless_rejected, book, step}
 use Rattle.session_core.specs.TableView.{TableView, IsSame}
 use Rattle.session_core.specs.Runs.{Takes, Replies, Runs}
@@ -32,6 +31,15 @@ takes_step (Some refusal) t event reply u takes = ap (λ (x : Reply). Some (x, t
 takes_step None t event reply u takes = takes.0
 
 -- the reply is the machine's, or memory was wanting and the state stays
-pub replies_step : (t : TableView) (event : Event) (reply : Reply) (u : TableView) → Replies t event reply u → (step t.state event ≡ Some (reply, u.state)) ⊎ ((reply ≡ Refused memory) × (u.state ≡ t.state))
+pub replies_step : (t : TableView) (event : Event) (reply : Reply) (u : TableView) → Replies t event reply u → (step t.state event ≡ Some (reply, u.state)) ⊎ ((reply ≡ Memory) × (u.state ≡ t.state))
 replies_step t event reply u (inl takes) = inl (takes_step (rejection t.state event) t event reply u takes)
 replies_step t event reply u (inr none) = inr (none.0, none.1.0)
+
+step_taken : (t : TableView) (event : Event) (reply : Reply) (u : TableView) → (step t.state event ≡ Some (reply, u.state)) ⊎ ((reply ≡ Memory) × (u.state ≡ t.state)) → reply ≢ Memory
+    → step t.state event ≡ Some (reply, u.state)
+step_taken t event reply u (inl is) apart = is
+step_taken t event reply u (inr none) apart = absurd (apart none.0)
+
+-- a reply that is not `Memory` is the machine's
+pub steps_where_taken : (t : TableView) (event : Event) (reply : Reply) (u : TableView) → Replies t event reply u → reply ≢ Memory → step t.state event ≡ Some (reply, u.state)
+steps_where_taken t event reply u is apart = step_taken t event reply u (replies_step t event reply u is) apart

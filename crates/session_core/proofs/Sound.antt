@@ -22,7 +22,7 @@ use Rattle.stage_graph.proofs.Keeping.{stage_edit_changed, allowed_ok, known_liv
 use Rattle.stage_graph.proofs.Making.{within_places, lawful_stage, not_found}
 use Rattle.stage_graph.proofs.Vacating.{sound_after_append, sound_after_vacate}
 use Rattle.session_core.specs.declared.refusal.Refusal.{Refusal}
-use Rattle.session_core.specs.Refusals.{cycle}
+use Rattle.session_core.specs.declared.refusal.Refusal.TheVariants.{Cycle}
 use Rattle.session_core.specs.Applied.{has_cycle, settled, applied}
 
 stands_ok : (graph : PlainGraph) (answer : Result Stage EditRefusal) (new : PlainGraph) → standing graph answer ≡ Ok new
@@ -93,7 +93,7 @@ unfolding changed
 changed_sound edits graph made sound is = by_edits 0 edits graph made sound is
 
 abbrev unless_cyclic : PlainGraph → Bool → Result PlainGraph Refusal
-unless_cyclic graph b = if b then Err cycle else Ok graph
+unless_cyclic graph b = if b then Err Cycle else Ok graph
 
 unless_test : (graph made : PlainGraph) (b : Bool) → unless_cyclic graph b ≡ Ok made → graph ≡ made
 unless_test graph made true is = absurd (cc is)

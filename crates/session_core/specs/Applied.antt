@@ -8,7 +8,7 @@ use Rattle.stage_graph.specs.Plain.{PlainGraph, feeds_at, all_places}
 use Rattle.stage_graph.specs.Changes.{changed}
 use Rattle.version_store.specs.Plain.{PlainVersion, PlainDraft}
 use Rattle.version_store.specs.Drafts.{origin_at}
-use Rattle.session_core.specs.Refusals.{cycle, of_edit}
+use Rattle.session_core.specs.declared.refusal.Refusal.TheVariants.{Cycle, Edits}
 use Rattle.session_core.specs.declared.refusal.Refusal.{Refusal}
 use Rattle.session_core.specs.declared.refusal.TableFault.{TableFault}
 use Rattle.session_core.specs.declared.refusal.TableFault.TheVariants as table
@@ -24,8 +24,8 @@ has_cycle places = list_any (has_walk places (length places)) (all_places places
 
 -- the check for cycles, which comes last
 abbrev pub settled : Result PlainGraph Refused → Result PlainGraph Refusal
-settled (Ok graph) = if has_cycle graph.places then Err cycle else Ok graph
-settled (Err refused) = Err (of_edit refused)
+settled (Ok graph) = if has_cycle graph.places then Err Cycle else Ok graph
+settled (Err refused) = Err (Edits refused)
 
 -- the graph that the edits make, or the refusal of the first edit that is refused, or else that of a cycle
 abbrev pub applied : List Edit → PlainGraph → Result PlainGraph Refusal

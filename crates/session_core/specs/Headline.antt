@@ -20,7 +20,7 @@ use Rattle.session_core.specs.TableView.{TableView}
 use Rattle.session_core.specs.declared.event.Event.{Event}
 use Rattle.session_core.specs.declared.event.Event.TheVariants.{Open, Head, Commit, Undo, Close}
 use Rattle.session_core.specs.declared.event.Reply.{Reply}
-use Rattle.session_core.specs.declared.event.Reply.TheVariants.{Opened, At, Committed, Undone, Closed, Refused}
+use Rattle.session_core.specs.declared.event.Reply.TheVariants.{Opened, At, Committed, Undone, Closed, Refused, Memory}
 
 abbrev pub session_of : Event → ℕ
 session_of (Open session version) = session
@@ -45,6 +45,7 @@ after (Undone number) list = option_map without list
 after Closed list = None
 after (At number) list = list
 after (Refused refusal) list = list
+after Memory list = list
 
 -- only its own session's list is changed by a step
 abbrev pub after_step : ℕ → Event → Reply → Option Numbers → Option Numbers
@@ -100,6 +101,7 @@ made (At number) = 0
 made (Undone number) = 0
 made Closed = 0
 made (Refused refusal) = 0
+made Memory = 0
 
 -- how many versions the replies tell of
 abbrev pub all_made : List Reply → ℕ

@@ -1,7 +1,7 @@
 -- Logs: what was asked, by whom, and what was answered.
 use Rattle.std.specs.Prelude.{◌≡◌, ℕ, ◌<◌, ◌⊎◌, List, [], ◌∷◌, length, take, Some, IsSome}
 use Rattle.session_core.specs.Machine.{State, book, numbers_at}
-use Rattle.session_core.specs.Refusals.{foreign}
+use Rattle.session_core.specs.declared.refusal.Refusal.TheVariants.{Foreign}
 use Rattle.session_core.specs.declared.event.Event.{Event}
 use Rattle.session_core.specs.declared.event.Event.TheVariants.{Commit}
 use Rattle.session_core.specs.declared.event.Reply.{Reply}
@@ -13,7 +13,7 @@ entry who event reply = record { who = who; event = event; reply = reply }
 
 -- a commit of an open session on a version of the machine, answered "of another graph"
 abbrev pub IsForeign : State → Event → Reply → Type 0
-IsForeign s (Commit session base edits) reply = IsSome (numbers_at s session) × (base < length s.versions) × (reply ≡ Refused (foreign base))
+IsForeign s (Commit session base edits) reply = IsSome (numbers_at s session) × (base < length s.versions) × (reply ≡ Refused (Foreign base))
 IsForeign s event reply = ⊥
 
 -- the reply is the machine's, and leads from s to t; or it is "of another graph", and keeps the state

@@ -7,7 +7,7 @@ use Rattle.stage_graph.specs.declared.edit.Edit.{Edit}
 use Rattle.stage_graph.specs.Plain.{PlainGraph}
 use Rattle.version_store.specs.Plain.{Origin, PlainVersion}
 use Rattle.session_core.specs.Applied.{applied}
-use Rattle.session_core.specs.Refusals.{session_open, no_session, no_version, moved, at_bottom, full, bad_session, too_many_sessions}
+use Rattle.session_core.specs.declared.refusal.Refusal.TheVariants.{SessionOpen, NoSession, NoVersion, Moved, AtBottom, Full, BadSession, TooManySessions}
 use Rattle.session_core.specs.declared.refusal.Refusal.{Refusal}
 use Rattle.session_core.specs.declared.event.Reply.{Reply}
 use Rattle.session_core.specs.declared.event.Reply.TheVariants.{Opened, At, Committed, Undone, Closed, Refused}
@@ -54,19 +54,19 @@ abbrev pub refuse : Refusal → State → Booked
 refuse refusal s = Some (Refused refusal, s)
 
 abbrev pub in_session : Option Numbers → State → (Numbers → Booked) → Booked
-in_session None s go = refuse no_session s
+in_session None s go = refuse NoSession s
 in_session (Some numbers) s go = go numbers
 
 abbrev pub at_version : Option PlainVersion → State → (PlainVersion → Booked) → Booked
-at_version None s go = refuse no_version s
+at_version None s go = refuse NoVersion s
 at_version (Some version) s go = go version
 
 abbrev pub book_open : State → ℕ → ℕ → Booked
 book_open s session version =
-    if not (nat_le 1 session && nat_lt session (2 ^ 16)) then refuse bad_session s else
-    if is_some (numbers_at s session) then refuse session_open s else
-    if nat_le 1024 (length s.sessions) then refuse too_many_sessions s else
-    if nat_le (length s.versions) version then refuse no_version s else
+    if not (nat_le 1 session && nat_lt session (2 ^ 16)) then refuse BadSession s else
+    if is_some (numbers_at s session) then refuse SessionOpen s else
+    if nat_le 1024 (length s.sessions) then refuse TooManySessions s else
+    if nat_le (length s.versions) version then refuse NoVersion s else
     Some (Opened version, put s session (alone version))
 
 abbrev pub book_head : State → ℕ → Booked
@@ -91,8 +91,8 @@ commit_applied s session numbers origin (Err refusal) = None
 
 abbrev pub commit_at : State → ℕ → Numbers → ℕ → List Edit → PlainVersion → Booked
 commit_at s session numbers base edits version =
-    if not (numbers.head == base) then refuse (moved numbers.head) s else
-    if nat_le s.most (length s.versions) then refuse full s else
+    if not (numbers.head == base) then refuse (Moved numbers.head) s else
+    if nat_le s.most (length s.versions) then refuse Full s else
     commit_applied s session numbers (from_base base version.graph edits) (applied edits version.graph)
 
 abbrev pub book_commit : State → ℕ → ℕ → List Edit → Booked
@@ -100,7 +100,7 @@ book_commit s session base edits = in_session (numbers_at s session) s (λ numbe
 
 -- the numbers below stand without the head; the last one of a list stays
 abbrev pub without_head : State → ℕ → List ℕ → Booked
-without_head s session [] = refuse at_bottom s
+without_head s session [] = refuse AtBottom s
 without_head s session (number ∷ below) = Some (Undone number, put s session (record { head = number; below = below }))
 
 abbrev pub book_undo : State → ℕ → Booked
@@ -123,7 +123,7 @@ refusal_in (Ok graph) = None
 refusal_in (Err refusal) = Some refusal
 
 abbrev pub rejected_at : Option PlainVersion → List Edit → Option Refusal
-rejected_at None edits = Some no_version
+rejected_at None edits = Some NoVersion
 rejected_at (Some version) edits = refusal_in (applied edits version.graph)
 
 -- why a run doesn't hand a commit to the table: there is no such base, or its graph refuses the edits

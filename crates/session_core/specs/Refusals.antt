@@ -1,83 +1,75 @@
--- The refusals, by their names.
-use Rattle.std.specs.Prelude.{ℕ, ◌<◌, Some, None}
+-- The refusals of a table: their numbers, their texts and what they carry.
+use Rattle.std.specs.Prelude.{ℕ, List, codes, Option, Some, None}
+use Rattle.session_core.specs.declared.event.Reply.{Reply}
+use Rattle.session_core.specs.declared.event.Reply.TheVariants as replied
 use Rattle.session_core.specs.declared.refusal.Refusal.{Refusal}
+use Rattle.session_core.specs.declared.refusal.Refusal.TheVariants.{Edits, Cycle, SessionOpen, NoSession, NoVersion, Moved, AtBottom, Full, Foreign, BadSession, TooManySessions}
 use Rattle.session_core.specs.declared.refusal.TableFault.{TableFault}
 use Rattle.session_core.specs.declared.refusal.TableFault.TheVariants.{Refused, Memory}
+use Rattle.stage_graph.specs.Numbers.{refusal_number as edit_number}
+use Rattle.stage_graph.specs.Texts.{refusal_text as edit_text}
 use Rattle.stage_graph.specs.declared.fault.Refusal.{Refusal as EditRefusal}
 use Rattle.stage_graph.specs.declared.fault.Refusal.TheVariants.{InUse}
-use Rattle.stage_graph.specs.declared.fault.Refused.{Refused as RefusedEdit}
 use Rattle.stage_graph.specs.declared.fault.Fault.{Fault}
 use Rattle.stage_graph.specs.declared.fault.Fault.TheVariants as edits
-use Rattle.stage_graph.specs.Numbers.{refusal_number}
 
-abbrev pub refusal : ℕ → ℕ → Refusal
-refusal number detail = record { number = number; detail = detail; place = None }
+abbrev pub refusal_number : Refusal → ℕ
+refusal_number (Edits refused) = edit_number refused.refusal
+refusal_number Cycle = 19
+refusal_number SessionOpen = 50
+refusal_number NoSession = 51
+refusal_number NoVersion = 52
+refusal_number (Moved head) = 53
+refusal_number AtBottom = 54
+refusal_number Full = 55
+refusal_number (Foreign version) = 56
+refusal_number BadSession = 57
+refusal_number TooManySessions = 58
 
--- ---- the edits' refusals
+-- the number and the name of a refusal
+abbrev pub refusal_text : Refusal → List ℕ
+refusal_text (Edits refused) = edit_text refused.refusal
+refusal_text Cycle = codes "19 Cycle"
+refusal_text SessionOpen = codes "50 SessionOpen"
+refusal_text NoSession = codes "51 NoSession"
+refusal_text NoVersion = codes "52 NoVersion"
+refusal_text (Moved head) = codes "53 Moved"
+refusal_text AtBottom = codes "54 AtBottom"
+refusal_text Full = codes "55 Full"
+refusal_text (Foreign version) = codes "56 Foreign"
+refusal_text BadSession = codes "57 BadSession"
+refusal_text TooManySessions = codes "58 TooManySessions"
 
--- the dependent that stands in the way of a removal; of other refusals 0
-abbrev pub detail_of : EditRefusal → ℕ
-detail_of (InUse user) = user
-detail_of others = 0
+-- the stage that depends on a removed one
+abbrev pub dependent_of : EditRefusal → Option ℕ
+dependent_of (InUse dependent) = Some dependent
+dependent_of others = None
 
--- the refusal of an edit, with its index
-abbrev pub of_edit : RefusedEdit → Refusal
-of_edit refused = record { number = refusal_number refused.refusal; detail = detail_of refused.refusal; place = Some refused.at }
+-- the dependent of a removed stage, the session's head, or the number of another graph's version
+abbrev pub refusal_detail : Refusal → Option ℕ
+refusal_detail (Edits refused) = dependent_of refused.refusal
+refusal_detail (Moved head) = Some head
+refusal_detail (Foreign version) = Some version
+refusal_detail others = None
 
--- the edits close a cycle
-abbrev pub cycle : Refusal
-cycle = refusal 19 0
-
--- ---- the sessions' refusals
-
-abbrev pub session_open : Refusal
-session_open = refusal 50 0
-
-abbrev pub no_session : Refusal
-no_session = refusal 51 0
-
-abbrev pub no_version : Refusal
-no_version = refusal 52 0
-
--- the session stands at this head, and not at the base
-abbrev pub moved : ℕ → Refusal
-moved head = refusal 53 head
-
-abbrev pub at_bottom : Refusal
-at_bottom = refusal 54 0
-
-abbrev pub full : Refusal
-full = refusal 55 0
-
--- the version of this number has another graph
-abbrev pub foreign : ℕ → Refusal
-foreign number = refusal 56 number
-
-abbrev pub bad_session : Refusal
-bad_session = refusal 57 0
-
-abbrev pub too_many_sessions : Refusal
-too_many_sessions = refusal 58 0
-
--- memory was wanting
-abbrev pub memory : Refusal
-memory = refusal 90 0
+-- the index of a refused edit
+abbrev pub refusal_index : Refusal → Option ℕ
+refusal_index (Edits refused) = Some refused.at
+refusal_index others = None
 
 -- ---- faults
 
--- the index of a refused edit is below this
-abbrev pub IsBelow : ℕ → Fault → Type 0
-IsBelow count (edits.Refused refused) = refused.at < count
-IsBelow count (edits.Cycle path) = Unit {0}
-IsBelow count edits.Memory = Unit {0}
-
 -- why there is no draft
 abbrev pub of_fault : Fault → TableFault
-of_fault (edits.Refused refused) = Refused (of_edit refused)
-of_fault (edits.Cycle path) = Refused cycle
+of_fault (edits.Refused refused) = Refused (Edits refused)
+of_fault (edits.Cycle path) = Refused Cycle
 of_fault edits.Memory = Memory
 
--- a fault of the table as a refusal
-abbrev pub refusal_of : TableFault → Refusal
-refusal_of (Refused refusal) = refusal
-refusal_of Memory = memory
+abbrev pub fault_number : TableFault → ℕ
+fault_number (Refused refusal) = refusal_number refusal
+fault_number Memory = 90
+
+-- the reply where there is a fault
+abbrev pub reply_to : TableFault → Reply
+reply_to (Refused refusal) = replied.Refused refusal
+reply_to Memory = replied.Memory

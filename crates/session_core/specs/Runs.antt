@@ -1,11 +1,10 @@
 -- Runs over lists of events.
 use Rattle.std.specs.Prelude.{◌≡◌, ◌⊎◌, List, [], ◌∷◌, Option, Some, None, MatchOption}
 use Rattle.session_core.specs.Machine.{rejection}
-use Rattle.session_core.specs.Refusals.{memory}
 use Rattle.session_core.specs.TableView.{TableView, IsSame, Books}
 use Rattle.session_core.specs.declared.event.Event.{Event}
 use Rattle.session_core.specs.declared.event.Reply.{Reply}
-use Rattle.session_core.specs.declared.event.Reply.TheVariants.{Refused}
+use Rattle.session_core.specs.declared.event.Reply.TheVariants.{Refused, Memory}
 use Rattle.session_core.specs.declared.refusal.Refusal.{Refusal}
 
 -- the event is rejected with this reply, and nothing changed; or else it is booked, as asked by client 0
@@ -15,7 +14,7 @@ Takes None t event reply u = Books t 0 event reply u
 
 -- the event is taken with this reply; or memory was wanting, and nothing changed
 abbrev pub Replies : TableView → Event → Reply → TableView → Type 0
-Replies t event reply u = Takes (rejection t.state event) t event reply u ⊎ ((reply ≡ Refused memory) × IsSame t u)
+Replies t event reply u = Takes (rejection t.state event) t event reply u ⊎ ((reply ≡ Memory) × IsSame t u)
 
 -- the replies to the events, in order, lead from one table to the other
 abbrev pub Runs : TableView → List Event → List Reply → TableView → Type 0

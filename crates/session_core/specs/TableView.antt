@@ -3,7 +3,7 @@ use Rattle.std.specs.Prelude.{◌≡◌, ◌≢◌, ℕ, ◌⊎◌, List, [], �
 use Rattle.version_store.specs.Plain.{PlainVersion, PlainDraft}
 use Rattle.session_core.specs.Machine.{State, book, numbers_at}
 use Rattle.session_core.specs.Log.{entry}
-use Rattle.session_core.specs.Refusals.{foreign}
+use Rattle.session_core.specs.declared.refusal.Refusal.TheVariants.{Foreign}
 use Rattle.session_core.specs.declared.event.Entry.{Entry}
 use Rattle.session_core.specs.declared.event.Event.{Event}
 use Rattle.session_core.specs.declared.event.Event.TheVariants.{Commit}
@@ -46,7 +46,7 @@ commit_of session draft = Commit session draft.origin.number draft.origin.edits
 -- the draft is foreign, which the reply says and the history has, and the state stays
 abbrev pub RefusesForeign : TableView → ℕ → ℕ → PlainDraft → Reply → TableView → Type 0
 RefusesForeign t who session draft reply u =
-    (reply ≡ replied.Refused (foreign draft.origin.number)) × (u.state ≡ t.state) × (u.history ≡ t.history ++ entry who (commit_of session draft) reply ∷ [])
+    (reply ≡ replied.Refused (Foreign draft.origin.number)) × (u.state ≡ t.state) × (u.history ≡ t.history ++ entry who (commit_of session draft) reply ∷ [])
 
 -- a foreign draft is refused, and any other one is booked
 abbrev pub BooksDraft : TableView → ℕ → ℕ → PlainDraft → Reply → TableView → Type 0

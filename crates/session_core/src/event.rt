@@ -46,6 +46,8 @@ pub enum Reply {
     Undone(u32),
     Closed,
     Refused(Refusal),
+    /// 90: memory was wanting, and nothing was done.
+    Memory,
 }
 
 /// One event of the history: who asked, for what, and the reply.
@@ -94,15 +96,7 @@ impl Reply {
     pub fn same(self, other: Reply) -> bool
         ensures { IsTrue result ↔ (self ≡ other) }
     {
-        match (self, other) {
-            (Reply::Opened(version), Reply::Opened(other)) => version == other,
-            (Reply::At(version), Reply::At(other)) => version == other,
-            (Reply::Committed(version), Reply::Committed(other)) => version == other,
-            (Reply::Undone(version), Reply::Undone(other)) => version == other,
-            (Reply::Closed, Reply::Closed) => true,
-            (Reply::Refused(refusal), Reply::Refused(other)) => refusal.same(other),
-            _ => false,
-        }
+        self == other
     }
 }
 

@@ -10,9 +10,7 @@ ghost use Rattle.session_core.specs.TableView.{IsForeignDraft, IsVersionOf, comm
 ghost use Rattle.session_core.specs.declared.event.Event.TheVariants.{Open, Head, Undo, Close};
 ghost use Rattle.session_core.specs.declared.event.Reply.TheVariants.{Opened, At, Undone, Closed, Refused};
 
-use crate::refusal::{
-    AT_BOTTOM, BAD_SESSION, FULL, NO_SESSION, NO_VERSION, Refusal, SESSION_OPEN, TOO_MANY_SESSIONS,
-};
+use crate::refusal::Refusal;
 use std::alloc::{AllocError, Global};
 use std::collections::BTreeMap;
 use std::marker::Model;
@@ -113,16 +111,16 @@ impl<R: StateRepresentation> Machine<R> {
         ensures kept { (self.new.state.versions ≡ self.old.state.versions) × (self.new.state.most ≡ self.old.state.most) }
     {
         if session == 0 || session >= 1 << 16 {
-            return Ok(Err(Refusal::plain(BAD_SESSION)));
+            return Ok(Err(Refusal::BadSession));
         }
         if self.sessions.contains_key(&session) {
-            return Ok(Err(Refusal::plain(SESSION_OPEN)));
+            return Ok(Err(Refusal::SessionOpen));
         }
         if self.sessions.len() >= 1024 {
-            return Ok(Err(Refusal::plain(TOO_MANY_SESSIONS)));
+            return Ok(Err(Refusal::TooManySessions));
         }
         if version as usize >= self.versions.len() {
-            return Ok(Err(Refusal::plain(NO_VERSION)));
+            return Ok(Err(Refusal::NoVersion));
         }
         let span = Span {
             bottom: version,
@@ -139,7 +137,7 @@ impl<R: StateRepresentation> Machine<R> {
     {
         match self.sessions.get(&session) {
             Some(span) => Ok(&self.versions[span.head as usize]),
-            None => Err(Refusal::plain(NO_SESSION)),
+            None => Err(Refusal::NoSession),
         }
     }
 
@@ -164,16 +162,16 @@ impl<R: StateRepresentation> Machine<R> {
             (λ refusal. book self.now.state (commit_of session draft.now) ≡ Some (Refused refusal, self.now.state)) }
     {
         let Some(span) = self.sessions.get(&session) else {
-            return Err(Refusal::plain(NO_SESSION));
+            return Err(Refusal::NoSession);
         };
         if draft.base() as usize >= self.versions.len() {
-            return Err(Refusal::plain(NO_VERSION));
+            return Err(Refusal::NoVersion);
         }
         if span.head != draft.base() {
-            return Err(Refusal::moved(span.head));
+            return Err(Refusal::Moved(span.head));
         }
         if self.versions.len() >= self.most as usize {
-            return Err(Refusal::plain(FULL));
+            return Err(Refusal::Full);
         }
         Ok(())
     }
@@ -200,13 +198,13 @@ impl<R: StateRepresentation> Machine<R> {
         ensures kept { (self.new.state.versions ≡ self.old.state.versions) × (self.new.state.most ≡ self.old.state.most) }
     {
         let Some(&span) = self.sessions.get(&session) else {
-            return Err(Refusal::plain(NO_SESSION));
+            return Err(Refusal::NoSession);
         };
         if span.head == span.bottom {
-            return Err(Refusal::plain(AT_BOTTOM));
+            return Err(Refusal::AtBottom);
         }
         let Some(parent) = self.versions[span.head as usize].parent() else {
-            return Err(Refusal::plain(AT_BOTTOM));
+            return Err(Refusal::AtBottom);
         };
         let span = Span {
             bottom: span.bottom,
@@ -223,7 +221,7 @@ impl<R: StateRepresentation> Machine<R> {
         ensures kept { (self.new.state.versions ≡ self.old.state.versions) × (self.new.state.most ≡ self.old.state.most) }
     {
         let Some(_) = self.sessions.remove(&session) else {
-            return Err(Refusal::plain(NO_SESSION));
+            return Err(Refusal::NoSession);
         };
         Ok(())
     }

@@ -1,102 +1,121 @@
 //! Why a table refuses.
-ghost use Rattle.std.specs.Prelude.{◌≡◌, ◌<◌, ◌^◌, ◌↔◌, IsTrue};
-ghost use Rattle.session_core.specs.Refusals.{refusal, moved, foreign, detail_of, of_edit, of_fault, IsBelow, refusal_of};
+ghost use Rattle.std.specs.Prelude.{◌≡◌, ◌↔◌, IsTrue};
+ghost use Rattle.session_core.specs.Refusals.{dependent_of, refusal_detail, refusal_index, refusal_number, refusal_text, fault_number, of_fault, reply_to};
 ghost use Rattle.session_core.specs.declared.refusal.TableFault.TheVariants.{Refused, Memory};
 
+use crate::event::Reply;
 use stage_graph::{Fault, Refused};
 use std::alloc::AllocError;
+use std::fmt;
 use thiserror::Error;
-
-pub(crate) const CYCLE: u32 = 19;
-
-pub(crate) const SESSION_OPEN: u32 = 50;
-
-pub(crate) const NO_SESSION: u32 = 51;
-
-pub(crate) const NO_VERSION: u32 = 52;
-
-pub(crate) const AT_BOTTOM: u32 = 54;
-
-pub(crate) const FULL: u32 = 55;
-
-pub(crate) const BAD_SESSION: u32 = 57;
-
-pub(crate) const TOO_MANY_SESSIONS: u32 = 58;
-
-pub(crate) const MEMORY: u32 = 90;
 
 /// Why nothing was done.
 #[derive(Clone, Copy, PartialEq, Eq, Debug, Error)]
-#[error("refusal {number}")]
-pub struct Refusal {
-    pub number: u32,
-    /// The dependent of 18, the head of 53, the number of 56, else 0.
-    pub detail: u32,
-    /// The edit's index for 10 to 18 and 20.
-    pub place: Option<u32>,
-}
-
-/// The dependent that stands in the way of a removal, and 0 of other refusals.
-fn detail_of(refusal: stage_graph::Refusal) -> u32
-    ensures { result ≡ detail_of refusal }
-{
-    match refusal {
-        stage_graph::Refusal::InUse(user) => user,
-        _ => 0,
-    }
+pub enum Refusal {
+    /// 10 to 18 and 20: an edit is refused.
+    Edits(Refused),
+    /// 19: the edits close a cycle.
+    Cycle,
+    /// 50: a session of this number is open.
+    SessionOpen,
+    /// 51: no session of this number is open.
+    NoSession,
+    /// 52: there is no version of this number.
+    NoVersion,
+    /// 53: the session stands at this version, and not at the base.
+    Moved(u32),
+    /// 54: the session stands at the version at which it was opened.
+    AtBottom,
+    /// 55: there are as many versions as the table holds.
+    Full,
+    /// 56: the version of this number has another graph.
+    Foreign(u32),
+    /// 57: a session's number is from 1 to 65,535.
+    BadSession,
+    /// 58: 1,024 sessions are open.
+    TooManySessions,
 }
 
 impl Refusal {
-    /// The refusal that carries nothing.
-    pub(crate) fn plain(number: u32) -> Refusal
-        ensures { result ≡ refusal number 0 }
+    /// The number by which the refusal is printed.
+    pub fn number(self) -> u32
+        ensures { result ≡ refusal_number self }
     {
-        Refusal {
-            number,
-            detail: 0,
-            place: None,
+        match self {
+            Refusal::Edits(refused) => refused.refusal.number(),
+            Refusal::Cycle => 19,
+            Refusal::SessionOpen => 50,
+            Refusal::NoSession => 51,
+            Refusal::NoVersion => 52,
+            Refusal::Moved(_) => 53,
+            Refusal::AtBottom => 54,
+            Refusal::Full => 55,
+            Refusal::Foreign(_) => 56,
+            Refusal::BadSession => 57,
+            Refusal::TooManySessions => 58,
         }
     }
 
-    /// The session stands at this head, and not at the base.
-    pub(crate) fn moved(head: u32) -> Refusal
-        ensures { result ≡ moved head }
+    /// The number and the name by which the refusal is printed.
+    pub fn text(&self) -> &'static str
+        ensures { result.now ≡ refusal_text self.now }
     {
-        Refusal {
-            number: 53,
-            detail: head,
-            place: None,
+        match self {
+            Refusal::Edits(refused) => refused.refusal.text(),
+            Refusal::Cycle => "19 Cycle",
+            Refusal::SessionOpen => "50 SessionOpen",
+            Refusal::NoSession => "51 NoSession",
+            Refusal::NoVersion => "52 NoVersion",
+            Refusal::Moved(_) => "53 Moved",
+            Refusal::AtBottom => "54 AtBottom",
+            Refusal::Full => "55 Full",
+            Refusal::Foreign(_) => "56 Foreign",
+            Refusal::BadSession => "57 BadSession",
+            Refusal::TooManySessions => "58 TooManySessions",
         }
     }
 
-    /// The version of this number has another graph.
-    pub(crate) fn foreign(number: u32) -> Refusal
-        ensures { result ≡ foreign number }
+    /// The place of the stage that depends on a removed one, the version at which a session stands, or the version that
+    /// has another graph; of other refusals none.
+    pub fn detail(self) -> Option<u32>
+        ensures { result ≡ refusal_detail self }
     {
-        Refusal {
-            number: 56,
-            detail: number,
-            place: None,
+        match self {
+            Refusal::Edits(refused) => dependent_of(refused.refusal),
+            Refusal::Moved(number) | Refusal::Foreign(number) => Some(number),
+            _ => None,
         }
     }
 
-    /// Whether two refusals are the same.
-    pub fn same(self, other: Refusal) -> bool
-        ensures { IsTrue result ↔ (self ≡ other) }
+    /// The index of a refused edit in its list.
+    pub fn place(self) -> Option<usize>
+        ensures { result ≡ refusal_index self }
     {
-        self.number == other.number && self.detail == other.detail && self.place == other.place
-    }
-
-    /// The refusal of an edit.
-    pub(crate) fn of_edit(refused: &Refused) -> Refusal
-        requires { refused.now.at < 2 ^ 32 }
-        ensures { result ≡ of_edit refused.now }
-    {
-        Refusal {
-            number: refused.refusal.number(),
-            detail: detail_of(refused.refusal),
-            place: Some(refused.at as u32),
+        match self {
+            Refusal::Edits(refused) => Some(refused.at),
+            _ => None,
         }
+    }
+}
+
+/// The stage that depends on a removed one.
+fn dependent_of(refusal: stage_graph::Refusal) -> Option<u32>
+    ensures { result ≡ dependent_of refusal }
+{
+    match refusal {
+        stage_graph::Refusal::InUse(dependent) => Some(dependent),
+        _ => None,
+    }
+}
+
+impl fmt::Display for Refusal {
+    ghost use Rattle.std.specs.Prelude.{Some};
+    ghost use Rattle.session_core.specs.Refusals.{refusal_text};
+
+    ghost output = { λ refusal. Some (refusal_text refusal) };
+
+    fn fmt<W: fmt::Write>(&self, f: &mut fmt::Formatter<W>) -> fmt::Result {
+        f.write_str(self.text())
     }
 }
 
@@ -105,37 +124,39 @@ impl Refusal {
 pub enum TableFault {
     #[error("{0}")]
     Refused(Refusal),
-    #[error("out of memory")]
+    #[error("90 Memory")]
     Memory,
 }
 
 impl TableFault {
-    /// The fault as a refusal, whose number is 90 where memory was wanting.
-    pub fn refusal(self) -> Refusal
-        ensures { result ≡ refusal_of self }
+    /// The reply that says so.
+    pub fn reply(self) -> Reply
+        ensures { result ≡ reply_to self }
     {
         match self {
-            TableFault::Refused(refusal) => refusal,
-            TableFault::Memory => Refusal::plain(MEMORY),
+            TableFault::Refused(refusal) => Reply::Refused(refusal),
+            TableFault::Memory => Reply::Memory,
         }
     }
 
     /// The number by which the fault is printed.
     pub fn number(self) -> u32
-        ensures { result ≡ (refusal_of self).number }
+        ensures { result ≡ fault_number self }
     {
-        self.refusal().number
+        match self {
+            TableFault::Refused(refusal) => refusal.number(),
+            TableFault::Memory => 90,
+        }
     }
 }
 
 /// Why edits have no draft, as the table says it.
 pub(crate) fn of_fault(fault: &Fault) -> TableFault
-    requires { IsBelow (2 ^ 32) fault.now }
     ensures { result ≡ of_fault fault.now }
 {
     match fault {
-        Fault::Refused(refused) => TableFault::Refused(Refusal::of_edit(refused)),
-        Fault::Cycle(_) => TableFault::Refused(Refusal::plain(CYCLE)),
+        Fault::Refused(refused) => TableFault::Refused(Refusal::Edits(*refused)),
+        Fault::Cycle(_) => TableFault::Refused(Refusal::Cycle),
         Fault::Memory => TableFault::Memory,
     }
 }

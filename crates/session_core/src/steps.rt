@@ -1,10 +1,11 @@
 //! A list of events, taken one after the other.
-ghost use Rattle.std.specs.Prelude.{◌≡◌, ◌++◌, List, IfOk, OnErr};
+ghost use Rattle.std.specs.Prelude.{◌≡◌, ◌≢◌, ◌++◌, List, Some, IfOk, OnErr};
 ghost use Rattle.session_core.specs.declared.event.Event.TheVariants.{Commit};
-ghost use Rattle.session_core.specs.declared.event.Reply.TheVariants.{Committed};
+ghost use Rattle.session_core.specs.declared.event.Reply.TheVariants.{Committed, Memory};
 ghost use Rattle.session_core.specs.declared.event.Reply.{Reply};
 ghost use Rattle.session_core.specs.Applied.{DraftsOrRefuses};
 ghost use Rattle.session_core.specs.Headline.{LeadsFromOpening};
+ghost use Rattle.session_core.specs.Machine.{step};
 ghost use Rattle.session_core.specs.Runs.{Replies, Runs, TakesOrStays};
 ghost use Rattle.session_core.specs.TableView.{IsSame, reply_of};
 
@@ -24,7 +25,7 @@ struct OneCommit;
 
 /// Takes the events one after the other, as client 0, and adds the replies to the list. A commit is drafted on its base
 /// first, so that 52 and the refusals of the edits come before 51, 53 and 55, and have no entry in the history. Where
-/// memory is wanting for an event, its reply is refused by 90, and the others are taken all the same. An error comes
+/// memory is wanting for an event, its reply is `Memory`, and the others are taken all the same. An error comes
 /// before the first event.
 ///
 /// From a table at its opening state they lead to what [`crate::every_list_of_steps`] says.
@@ -57,7 +58,6 @@ pub fn draft_of<R: StateRepresentation, W: Runner>(
 ) -> Result<Draft<R>, TableFault>
     ensures { DraftsOrRefuses version.now edit.now result }
 {
-    let _ = edit.as_slice();
     let mut meter = Meter::new(OneCommit);
     match version.draft(alloc, edit, runner, &mut meter) {
         Ok(draft) => Ok(draft),
@@ -66,18 +66,26 @@ pub fn draft_of<R: StateRepresentation, W: Runner>(
 }
 
 impl<R: StateRepresentation> Table<R> {
-    /// Takes one event.
-    fn take<W: Runner>(&mut self, alloc: Global, event: &Event, runner: &W) -> Reply
+    /// Takes one event, as [`run`] does.
+    pub fn take<W: Runner>(&mut self, alloc: Global, event: &Event, runner: &W) -> Reply
+        ensures replies { Replies self.old event.now result self.new }
+        ensures steps { result ≢ Memory → step self.old.state event.now ≡ Some (result, self.new.state) }
+    {
+        self.reply_to(alloc, event, runner)
+    }
+
+    /// The reply to an event.
+    fn reply_to<W: Runner>(&mut self, alloc: Global, event: &Event, runner: &W) -> Reply
         ensures { Replies self.old event.now result self.new }
     {
         match event {
             Event::Open { session, version } => match self.open(0, *session, *version) {
                 Ok(()) => Reply::Opened(*version),
-                Err(fault) => Reply::Refused(fault.refusal()),
+                Err(fault) => fault.reply(),
             },
             Event::Head { session } => match self.head(0, *session) {
                 Ok(version) => Reply::At(version.number()),
-                Err(fault) => Reply::Refused(fault.refusal()),
+                Err(fault) => fault.reply(),
             },
             Event::Commit {
                 session,
@@ -85,15 +93,15 @@ impl<R: StateRepresentation> Table<R> {
                 edit,
             } => match self.edit(alloc, *session, *base, edit, runner) {
                 Ok(number) => Reply::Committed(number),
-                Err(fault) => Reply::Refused(fault.refusal()),
+                Err(fault) => fault.reply(),
             },
             Event::Undo { session } => match self.undo(0, *session) {
                 Ok(number) => Reply::Undone(number),
-                Err(fault) => Reply::Refused(fault.refusal()),
+                Err(fault) => fault.reply(),
             },
             Event::Close { session } => match self.close(0, *session) {
                 Ok(()) => Reply::Closed,
-                Err(fault) => Reply::Refused(fault.refusal()),
+                Err(fault) => fault.reply(),
             },
         }
     }

@@ -8,7 +8,7 @@ ghost use Rattle.session_core.specs.Kept.{StandAtVersions};
 ghost use Rattle.session_core.specs.Machine.{opening};
 ghost use Rattle.session_core.specs.Log.{IsLegal};
 ghost use Rattle.session_core.specs.Ready.{IsReady, Prepares};
-ghost use Rattle.session_core.specs.Refusals.{no_version};
+ghost use Rattle.session_core.specs.declared.refusal.Refusal.TheVariants.{NoVersion};
 ghost use Rattle.session_core.specs.TableView.{Answers, AnswersDraft, Books, IsVersionOf, commit_of, reply_of};
 ghost use Rattle.session_core.specs.declared.event.Event.TheVariants.{Open, Head, Commit, Undo, Close};
 ghost use Rattle.session_core.specs.declared.event.Reply.TheVariants.{Opened, At, Committed, Undone, Closed};
@@ -16,7 +16,7 @@ ghost use Rattle.session_core.specs.declared.event.Reply.TheVariants.{Opened, At
 use crate::event::{Entry, Event, Reply};
 use crate::machine::Machine;
 use crate::ready::Ready;
-use crate::refusal::{NO_VERSION, Refusal, TableFault};
+use crate::refusal::{Refusal, TableFault};
 use share_tree::Again;
 use std::alloc::{AllocError, Global};
 use std::marker::Model;
@@ -211,10 +211,11 @@ impl<R: StateRepresentation> Table<R> {
     {
         if self.machine.is_foreign(session, draft) {
             self.history.reserve(1)?;
-            let refusal = Refusal::foreign(draft.base());
+            let base = draft.base();
+            let refusal = Refusal::Foreign(base);
             let event = Event::Commit {
                 session,
-                base: draft.base(),
+                base,
                 edit: draft.edit().again()?,
             };
             let reply = Reply::Refused(refusal);
@@ -246,11 +247,11 @@ impl<R: StateRepresentation> Table<R> {
     pub fn version(&self, number: u32) -> Result<&Version<R>, Refusal>
         ensures { MatchResult result
             (λ version. (version.now.number ≡ number) × (slice_get self.now.state.versions number ≡ Some version.now))
-            (λ refusal. (refusal ≡ no_version) × (slice_get self.now.state.versions number ≡ None)) }
+            (λ refusal. (refusal ≡ NoVersion) × (slice_get self.now.state.versions number ≡ None)) }
     {
         match self.machine.version(number) {
             Some(version) => Ok(version),
-            None => Err(Refusal::plain(NO_VERSION)),
+            None => Err(Refusal::NoVersion),
         }
     }
 

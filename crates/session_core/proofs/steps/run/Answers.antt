@@ -18,7 +18,7 @@ loop-event-preserved g c =
     let low : i < length events = search rules in
     let longer : take (i + 1) events ≡ take i events ++ c.event-item.result ∷ [] =
     let one : i + 1 ≡ suc i = omega arith in ap (λ k. take k events) one ∙ take-suc events i c.event-item.result low ∙ ap (λ (e : Event). take i events ++ e ∷ []) item in
-    let runs = Runs-snoc c.args.table.now (take i events) given c.loop-event.table c.event-item.result c.take-reply.result c.take-reply.new.self c.loop-event.invariant.0.2 c.take-reply.ensures in
+    let runs = Runs-snoc c.args.table.now (take i events) given c.loop-event.table c.event-item.result c.take-reply.result c.take-reply.new.self c.loop-event.invariant.0.2 c.take-reply.ensures.replies in
     let room : vec_len c.push_reserved.new.self + (length events - (i + 1)) ≤ vec_capacity c.push_reserved.new.self = search rules in (
       (
         given ++ c.take-reply.result ∷ [],

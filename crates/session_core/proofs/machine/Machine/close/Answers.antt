@@ -17,7 +17,7 @@ invariant_of-self-2 g c =
 pub returns-in_default-clause-booked : goal.returns-in_default-clause-booked
 returns-in_default-clause-booked g c =
     let m : Parts = record { versions = c.self.inside.versions.items; most = c.self.inside.most; spans = c.self.inside.sessions.entries } in
-    rw (← c.self.view_is, c.plain.ensures) (close_none m c.remove.new.self.entries c.args.session (sym c.in_default.ensures.value) c.in_default.ensures.unchanged)
+    rw (← c.self.view_is) (close_none m c.remove.new.self.entries c.args.session (sym c.in_default.ensures.value) c.in_default.ensures.unchanged)
 
 pub invariant_of-self : goal.invariant_of-self
 invariant_of-self g c =

@@ -21,4 +21,4 @@ returns-in-Some g c =
 pub returns-in-None : goal.returns-in-None
 returns-in-None g c =
     let m : Parts = record { versions = c.self.inside.versions.items; most = c.self.inside.most; spans = c.self.inside.sessions.entries } in
-    rw (← c.self.view_is, c.plain.ensures) (head_none m c.args.session (sym c.in-None.ensures.value))
+    rw (← c.self.view_is) (head_none m c.args.session (sym c.in-None.ensures.value))

@@ -8,14 +8,14 @@ pub returns-then-contains_key-clause-booked : goal.returns-then-contains_key-cla
 returns-then-contains_key-clause-booked g c =
     let m : Parts = record { versions = c.self.inside.versions.items; most = c.self.inside.most; spans = c.self.inside.sessions.entries } in
     let some : is_some (span_at m c.args.session) ≡ true = search rules in
-    rw (← c.self.view_is, c.plain-then-contains_key.ensures)
+    rw (← c.self.view_is)
     (open_open m c.args.session c.args.version (omega (arith, c.if-session-eq0.false)) (omega (arith, c.if-session.false)) some)
 
 pub returns-then-len-ge1024-clause-booked : goal.returns-then-len-ge1024-clause-booked
 returns-then-len-ge1024-clause-booked g c =
     let m : Parts = record { versions = c.self.inside.versions.items; most = c.self.inside.most; spans = c.self.inside.sessions.entries } in
     let none : is_some (span_at m c.args.session) ≡ false = search rules in
-    rw (← c.self.view_is, c.plain-then-len-ge1024.ensures)
+    rw (← c.self.view_is)
     (open_many m c.args.session c.args.version (omega (arith, c.if-session-eq0.false)) (omega (arith, c.if-session.false)) none (omega (arith, c.if-len-ge1024.true, c.len.ensures.len)))
 
 pub returns-then-version-len-clause-booked : goal.returns-then-version-len-clause-booked
@@ -23,7 +23,7 @@ returns-then-version-len-clause-booked g c =
     let m : Parts = record { versions = c.self.inside.versions.items; most = c.self.inside.most; spans = c.self.inside.sessions.entries } in
     let none : is_some (span_at m c.args.session) ≡ false = search rules in
     let high : length m.versions ≤ c.args.version = search rules in
-    rw (← c.self.view_is, c.plain-then-version-len.ensures)
+    rw (← c.self.view_is)
     (open_nowhere m c.args.session c.args.version (omega (arith, c.if-session-eq0.false)) (omega (arith, c.if-session.false)) none (omega (arith, c.if-len-ge1024.false, c.len.ensures.len)) high)
 
 pub invariant_of-self : goal.invariant_of-self

@@ -9,12 +9,12 @@ use Rattle.session_core.proofs.machine.Machine.undo.Goals as goal
 pub returns-in_default-clause-booked : goal.returns-in_default-clause-booked
 returns-in_default-clause-booked g c =
     let m : Parts = record { versions = c.self.inside.versions.items; most = c.self.inside.most; spans = c.self.inside.sessions.entries } in
-    rw (← c.self.view_is, c.plain.ensures) (undo_none m c.args.session (sym c.in_default.ensures.value))
+    rw (← c.self.view_is) (undo_none m c.args.session (sym c.in_default.ensures.value))
 
 pub returns-then-span-clause-booked : goal.returns-then-span-clause-booked
 returns-then-span-clause-booked g c =
     let m : Parts = record { versions = c.self.inside.versions.items; most = c.self.inside.most; spans = c.self.inside.sessions.entries } in
-    rw (← c.self.view_is, c.plain-then-span.ensures) (undo_bottom m c.args.session c.in-Some.field-0.now (sym c.in-Some.ensures.value) c.if-span.true)
+    rw (← c.self.view_is) (undo_bottom m c.args.session c.in-Some.field-0.now (sym c.in-Some.ensures.value) c.if-span.true)
 
 pub index-requires : goal.index-requires
 index-requires g c =
@@ -28,7 +28,7 @@ returns-in_default-parent-clause-booked g c =
     let at = c.in-Some.field-0.now in
     let low = (span_low m c.args.session at c.self.invariant (sym c.in-Some.ensures.value)).1 in
     let found : slice_get m.versions at.head ≡ Some c.index.result.now = slice_get-get_or m.versions at.head c.index.result.now low ∙ ap Some (sym c.index.ensures) in
-    rw (← c.self.view_is, c.plain-in_default-parent.ensures)
+    rw (← c.self.view_is)
     (undo_orphan m c.args.session at (sym c.in-Some.ensures.value) (parent_is m at.head c.index.result.now found ∙ sym c.in_default-parent.ensures))
 
 pub returns-clause-booked : goal.returns-clause-booked
