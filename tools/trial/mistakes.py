@@ -302,6 +302,44 @@ STEPS = [
 ]
 
 
+# Steps that are answered: each with all that it reads, and what it answers begins so.
+READ = [
+    (step("head", session=1), b"head 0"),
+    (step("close", session=1), b"closed 1"),
+    (step("open", session=2, version=0), b"opened 2"),
+    (step("pinResult", session=1, base=0, stage="a", result={"value": 3}), b"committed 1"),
+    (step("pinResult", session=1, base=0, stage="a", result=None), b"committed 1"),
+    (step("pinMoment", session=1, base=0, stage="a", at=3), b"committed 1"),
+    (step("setTakes", session=1, base=0, stage="a", takes=3), b"committed 1"),
+    (step("setTimes", session=1, base=0, stage="a", queued=1, runs=2), b"committed 1"),
+    (step("setAction", session=1, base=0, stage="a", action=["add", 1, 2]), b"committed 1"),
+    (step("setEnds", session=1, base=0, stage="a", ends=[{"at": 1, "do": "cancel"}]), b"committed 1"),
+    (step("add", session=1, base=0, new=stage("manual", name="n")), b"committed 1"),
+    (step("remove", session=1, base=0, stage="b"), b"committed 1"),
+    (step("rewire", session=1, base=0, stage="b", sources=["a"], inner=[]), b"committed 1"),
+    (step("edits", session=1, base=0, edits=[{"do": "remove", "stage": "b"}]), b"committed 1"),
+    *((step("report", version=0, what=what), what.encode() if what in ("times", "changes", "drift") else b"version 0") for what in ("all", "times", "changes", "drift")),
+    *((step("report", version=0, what=what, against=0), what.encode()) for what in ("changes", "drift")),
+    *((step("report", session=1, what=what, stage="a"), b"") for what in ("one", "blame", "path", "sweep")),
+]
+
+
+def answered_steps():
+    """No member of these is told to be unread, in whichever order they stand; one more is, wherever it stands."""
+    for number, (text, begin) in enumerate(READ):
+        out = re.compile(rb"opened 1 at 0\n(?!refused)" + begin + rb"[^\n]*\n(.*\n)*")
+        members = list(json.loads(text).items())
+        turned = json.dumps(dict(members[1:] + members[:1]))
+        ways = [("", text), (", turned round", turned)]
+        ways += [(f", and one more at {at}", json.dumps(dict(members[:at] + [("tock", 1)] + members[at:]))) for at in (0, 1, len(members))]
+        for way, line in ways:
+            err = r"\A\Z" if "tock" not in line else r'(?m)^whatif: line 2: warning: .*nothing reads "tock"'
+            yield served(f"{json.loads(text)['do']} {number}{way}", [OPEN, line], out, err)
+    for result in ({"value": 3, "tock": 1}, {"tock": {}, "value": 3}):
+        yield served(f"a result with {list(result)}", [OPEN, step("pinResult", session=1, stage="a", result=result)], lines("opened 1 at 0", "committed 1"),
+                     begins("whatif: line 2: warning: "))
+
+
 def mistakes():
     """The cases of what people are told."""
-    return [*RECORDINGS, *ALONE_CASES, *NO_JSON_CASES, *ARCHIVES, *BYTES, *OPTIONS, *CHECKS, *STEPS]
+    return [*RECORDINGS, *ALONE_CASES, *NO_JSON_CASES, *ARCHIVES, *BYTES, *OPTIONS, *CHECKS, *STEPS, *answered_steps()]

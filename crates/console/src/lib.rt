@@ -16,6 +16,6 @@ pub use explaining::{warn, why_no_stage, with_explanation};
 pub use fault::Fault;
 pub use input::{file, graph, recording};
 pub use listening::{ListeningSink, ListeningSource, Watch};
-pub use remembering::{Remembering, flushed, with_reason};
+pub use remembering::{Output, Remembering, flushed, output, with_reason};
 pub use step_telling::StepTeller;
 pub use voice::Voice;

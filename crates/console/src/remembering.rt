@@ -1,11 +1,32 @@
 //! A writer that remembers why it failed.
-ghost use Rattle.std.specs.Prelude.{◌-◌, ◌^◌, ◌<◌};
+ghost use Rattle.std.specs.Prelude.{◌≡◌, ◌-◌, ◌^◌, ◌<◌, IfOk};
+ghost use Rattle.text_io.specs.Counted.{write_failures};
 
 use crate::fault::Fault;
 use crate::voice::Voice;
 use std::cell::Cell;
-use std::io::{self, Write};
-use text_io::Sink;
+use std::io::{self, BufWriter, Printer, Write};
+use text_io::{CountedWriter, Sink};
+
+/// Standard output, written a buffer at a time.
+pub type Output<'a> = CountedWriter<BufWriter<Remembering<'a, Printer<'a, HostRuntime>>>>;
+
+/// Standard output as a sink; the reason of its last failure is put where it is looked for.
+pub fn output<'a>(
+    rt: &'a HostRuntime,
+    reason: &'a Cell<Option<io::Error>>,
+) -> Result<Output<'a>, Fault>
+    ensures { IfOk result (λ sink. write_failures sink ≡ 0) }
+{
+    let writer = Remembering {
+        writer: io::writer(rt),
+        reason,
+    };
+    match BufWriter::new(rt.alloc(), writer) {
+        Ok(writer) => Ok(CountedWriter::new(writer)),
+        Err(_) => Err(Fault::Memory),
+    }
+}
 
 /// A writer that puts the reason of its last failure where it is looked for.
 #[derive(Drop)]

@@ -1,6 +1,8 @@
 //! What is told of the steps of a script, by line.
 use crate::voice::Voice;
-use diagnosis::{Findings, KnownStages, Refusal, examine_step, explain_step, json_fault};
+use diagnosis::{
+    Findings, KnownStages, Refusal, examine_step, explain_step, json_fault, may_step_be_unread,
+};
 use serde_json::Value;
 use std::alloc::{AllocError, Global};
 
@@ -64,8 +66,9 @@ impl<'a> StepTeller<'a> {
             Some(first) => Refusal::of_answer(first),
             None => None,
         };
+        let is_told = refusal.is_some() || may_step_be_unread(line);
         // (a line that is skipped has no answer, and nothing is told where memory is out)
-        if !answer.is_empty() && !self.voice.is_quiet() && self.told < MOST_TOLD {
+        if is_told && !answer.is_empty() && !self.voice.is_quiet() && self.told < MOST_TOLD {
             let _ = self.tell_of_step(number, without_end(line), refusal);
             if self.told == MOST_TOLD {
                 self.voice.say_of_line(

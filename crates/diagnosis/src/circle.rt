@@ -1,7 +1,6 @@
 //! Stages that wait for each other.
 ghost use Rattle.std.specs.Prelude.{◌≡◌, IfOk, IfSome, length, vec_len};
 
-use crate::quoted::Quoted;
 use crate::stage::name_of;
 use crate::stage_checks::items_of;
 use serde_json::Value;

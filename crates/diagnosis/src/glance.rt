@@ -4,6 +4,7 @@
 //! that is taken; where it sees something, the recording is read to find what.
 use crate::findings::is_label;
 use crate::members::{has_delay, has_exception, has_value};
+use crate::passing::{Passing, all_pass};
 
 /// The depth of the members of the recording, of a stage, of an outcome and of an end.
 const OF_RECORDING: usize = 1;
@@ -74,25 +75,6 @@ struct Glance<'a> {
 }
 
 impl<'a> Glance<'a> {
-    /// Goes past a byte outside of texts. The answer is whether what it ends is read.
-    fn pass(&mut self, byte: u8) -> bool {
-        match byte {
-            b'{' | b'[' => {
-                self.depth = self.depth.saturating_add(1);
-                self.awaited = Awaited::Nothing;
-                true
-            }
-            b'}' | b']' => self.leave(),
-            b':' => self.name(),
-            b'0'..=b'9' if self.awaited == Awaited::Form => {
-                self.is_form_two = byte == b'2';
-                self.awaited = Awaited::Nothing;
-                true
-            }
-            _ => true,
-        }
-    }
-
     /// Goes out of an array or an object.
     fn leave(&mut self) -> bool {
         let depth = self.depth;
@@ -167,8 +149,9 @@ impl<'a> Glance<'a> {
         }
         true
     }
+}
 
-    /// Takes a text.
+impl<'a> Passing<'a> for Glance<'a> {
     fn take(&mut self, text: &'a [u8]) {
         self.text = text;
         if self.awaited == Awaited::Kind {
@@ -179,6 +162,24 @@ impl<'a> Glance<'a> {
             }
         }
         self.awaited = Awaited::Nothing;
+    }
+
+    fn pass(&mut self, byte: u8) -> bool {
+        match byte {
+            b'{' | b'[' => {
+                self.depth = self.depth.saturating_add(1);
+                self.awaited = Awaited::Nothing;
+                true
+            }
+            b'}' | b']' => self.leave(),
+            b':' => self.name(),
+            b'0'..=b'9' if self.awaited == Awaited::Form => {
+                self.is_form_two = byte == b'2';
+                self.awaited = Awaited::Nothing;
+                true
+            }
+            _ => true,
+        }
     }
 }
 
@@ -193,24 +194,5 @@ pub fn may_be_unread(recording: &[u8]) -> bool {
         is_form_two: false,
         has_times_of_form_two: false,
     };
-    let mut start = None;
-    let mut is_escaped = false;
-    for (index, byte) in recording.iter().enumerate() {
-        match start {
-            Some(_) if is_escaped => is_escaped = false,
-            Some(_) if *byte == b'\\' => is_escaped = true,
-            Some(first) if *byte == b'"' => {
-                start = None;
-                glance.take(recording.get(first..index).unwrap_or(b""));
-            }
-            Some(_) => {}
-            None if *byte == b'"' => start = Some(index + 1),
-            None => {
-                if !glance.pass(*byte) {
-                    return true;
-                }
-            }
-        }
-    }
-    glance.has_times_of_form_two && !glance.is_form_two
+    !all_pass(recording, &mut glance) || glance.has_times_of_form_two && !glance.is_form_two
 }

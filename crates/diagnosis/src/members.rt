@@ -11,7 +11,7 @@ use std::alloc::AllocError;
 const LAST_TICK: u64 = 1 << 40;
 
 /// The members of an outcome.
-const OUTCOME_MEMBERS: &[&str] = &["value", "bare", "wrapped"];
+pub(crate) const OUTCOME_MEMBERS: &[&str] = &["value", "bare", "wrapped"];
 
 /// The members of an end.
 const END_MEMBERS: &[&str] = &["at", "do", "delay", "value", "throws"];

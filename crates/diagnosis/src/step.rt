@@ -21,7 +21,7 @@ pub(crate) fn stage_of(object: &Value) -> Option<&str> {
 }
 
 /// The members that a step of a name has.
-fn members_of(name: &str) -> &'static [&'static str] {
+pub(crate) fn members_of(name: &str) -> &'static [&'static str] {
     match name {
         "open" => &["do", "session", "version"],
         "head" | "undo" | "close" => &["do", "session"],
@@ -54,7 +54,7 @@ fn members_of_edit(name: &str) -> &'static [&'static str] {
 }
 
 /// The members that a report of a name has.
-fn members_of_report(name: &str) -> &'static [&'static str] {
+pub(crate) fn members_of_report(name: &str) -> &'static [&'static str] {
     match name {
         "one" | "blame" | "path" | "sweep" => &["do", "session", "version", "what", "stage"],
         "changes" | "drift" => &["do", "session", "version", "what", "against"],
