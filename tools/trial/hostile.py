@@ -252,7 +252,7 @@ def hostile(is_long):
 # ---- memory that stays as it is
 
 MARK, MARKED = b'{"do":"head","session":1}\n', b"refused 51 NoSession\n"
-MOST_GROWTH = 64  # kilobytes
+MOST_GROWTH = 300  # kilobytes; the kernel counts by some 64 pages for each processor, and what 30,000 lines leave behind would be more
 # A line, and what is answered to it.
 KEPT_NOTHING_OF = [
     ("refused lines", b"{}\n", NO_DO.encode()),

@@ -211,14 +211,24 @@ fn rewire_propagates(rt: HostRuntime) -> Result<(), Fail> {
     in_each(&rt, rt.alloc(), REWIRED, &rows)
 }
 
+/// The cycle that a step closes on a recording's graph.
+fn cycle_of<R: StateRepresentation, H: Abort + Threads + Sync>(
+    rt: &H,
+    alloc: Global,
+    recording: &str,
+    step: &str,
+) -> Result<Vec<u32>, Fail> {
+    let before: Patched<R> = evaluated(alloc, recording)?;
+    match edited(rt, alloc, &before, &edits_of(alloc, step)?) {
+        Err(Fault::Cycle(path)) => Ok(Vec::from_slice(alloc, path.as_slice())?),
+        _ => Err(Fail::from("no cycle is closed")),
+    }
+}
+
 #[test]
 fn cycle(rt: HostRuntime) -> Result<(), Fail> {
-    let before: Patched<InShared> = evaluated(rt.alloc(), CHAIN)?;
     let onto_b = r#"{"do":"rewire","session":1,"stage":"a","sources":["b"],"inner":[]}"#;
-    let edits = edits_of(rt.alloc(), onto_b)?;
-    let Err(Fault::Cycle(path)) = edited(&rt, rt.alloc(), &before, &edits) else {
-        panic!(rt; "a cycle");
-    };
+    let path = cycle_of::<InShared, _>(&rt, rt.alloc(), CHAIN, onto_b)?;
     assert_eq!(rt; path.as_slice(), [1, 2, 1].as_slice());
     Ok(())
 }

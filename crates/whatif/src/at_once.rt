@@ -6,15 +6,14 @@ ghost use Rattle.text_io.specs.Counted.{read_failures};
 use crate::fault::ended;
 use clap::ArgMatches;
 use command_line::{MOST_SCRIPTS, MOST_WORKERS};
-use console::{Fault, Remembering, Voice, file, graph, warn, with_reason};
+use console::{Fault, Voice, file, graph, warn, with_reason};
 use many_scripts::many;
 use stage_graph::{Graph, InShared};
 use std::cell::Cell;
 use std::fs::File;
-use std::io::{self, BufWriter};
 use std::sync::Wait;
 use std::thread::Threads;
-use text_io::{CountedReader, CountedWriter};
+use text_io::CountedReader;
 
 /// The scripts' files in their order, each opened.
 fn opened(
@@ -68,16 +67,7 @@ pub(crate) fn run_many<'a, H: Threads + Wait + Copy + Drop + Send + Sync>(
     let graph = graph_of(rt, voice, matches)?;
     let scripts = opened(rt, voice, paths)?;
     let reason = Cell::new(None);
-    let Ok(writer) = BufWriter::new(
-        rt.alloc(),
-        Remembering {
-            writer: io::writer(rt),
-            reason: &reason,
-        },
-    ) else {
-        return Err(Fault::Memory);
-    };
-    let mut sink = CountedWriter::new(writer);
+    let mut sink = console::output(rt, &reason)?;
     let end = many(threads, rt.alloc(), scripts, &mut sink, graph, workers);
     with_reason(voice, &reason, ended(end))
 }

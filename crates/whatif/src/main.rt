@@ -11,21 +11,21 @@ use at_once::run_many;
 use clap::ArgMatches;
 use command_line::{command, told, without_help_of_help};
 use console::{
-    Fault, ListeningSink, ListeningSource, Remembering, StepTeller, Voice, Watch, flushed,
-    run_check, warn, why_no_stage, with_explanation, with_reason,
+    Fault, ListeningSink, ListeningSource, StepTeller, Voice, Watch, flushed, run_check, warn,
+    why_no_stage, with_explanation, with_reason,
 };
 use fault::{reported, served};
-use level_pool::{OneThread, Runner};
+use level_pool::{OneThread, Pooled, Runner};
 use recording_reports::{StageReport, report_all, report_stage};
 use serve_script::serve;
 use stage_graph::{Graph, InShared};
 use std::alloc::Global;
 use std::cell::Cell;
-use std::io::{self, BufWriter, ErrorKind};
+use std::io::ErrorKind;
 use std::process::ExitCode;
 use std::sync::Wait;
 use std::thread::Threads;
-use text_io::{CountedWriter, Sink, Source};
+use text_io::{Sink, Source};
 
 /// The most bytes of a script that are read at once.
 const AT_ONCE: usize = 65_536;
@@ -69,11 +69,11 @@ fn run<H: Threads + Wait + Copy + Drop + Send + Sync, W: Runner>(
     match matches.subcommand() {
         Some(("report", matches)) => run_report(rt, matches)?,
         Some(("explain", matches)) => {
-            run_report_stage(rt, runner, matches, StageReport::Explanation)?
+            run_report_stage(rt, threads, matches, StageReport::Explanation)?
         }
         Some(("sweep", matches)) => {
             let most = matches.get_one::<usize>("top");
-            run_report_stage(rt, runner, matches, StageReport::Sweep { most })?
+            run_report_stage(rt, threads, matches, StageReport::Sweep { most })?
         }
         Some(("check", matches)) => return run_check(rt, matches),
         Some(("serve", matches)) => run_serve(rt, runner, matches)?,
@@ -104,16 +104,7 @@ fn run_report<'a>(rt: &'a HostRuntime, matches: &ArgMatches<'a>) -> Result<(), F
     let recording = console::recording(rt, voice, path)?;
     warn(rt.alloc(), voice, &recording)?;
     let reason = Cell::new(None);
-    let Ok(writer) = BufWriter::new(
-        rt.alloc(),
-        Remembering {
-            writer: io::writer(rt),
-            reason: &reason,
-        },
-    ) else {
-        return Err(Fault::Memory);
-    };
-    let mut sink = CountedWriter::new(writer);
+    let mut sink = console::output(rt, &reason)?;
     let end = report_all::<InShared, _>(rt.alloc(), &recording, &mut sink);
     let end = flushed(&mut sink, reported(end));
     with_explanation(
@@ -124,10 +115,10 @@ fn run_report<'a>(rt: &'a HostRuntime, matches: &ArgMatches<'a>) -> Result<(), F
     )
 }
 
-/// Prints what is asked of one stage of a recording.
-fn run_report_stage<'a, W: Runner>(
+/// Prints what is asked of one stage of a recording; the trials of a sweep are made on the processors that there are.
+fn run_report_stage<'a, H: Threads + Wait + Copy + Drop + Send + Sync>(
     rt: &'a HostRuntime,
-    runner: &W,
+    threads: H,
     matches: &ArgMatches<'a>,
     asked: StageReport,
 ) -> Result<(), Fault> {
@@ -138,22 +129,13 @@ fn run_report_stage<'a, W: Runner>(
     let recording = console::recording(rt, voice, matches.get_str("FILE"))?;
     warn(rt.alloc(), voice, &recording)?;
     let reason = Cell::new(None);
-    let Ok(writer) = BufWriter::new(
-        rt.alloc(),
-        Remembering {
-            writer: io::writer(rt),
-            reason: &reason,
-        },
-    ) else {
-        return Err(Fault::Memory);
-    };
-    let mut sink = CountedWriter::new(writer);
+    let mut sink = console::output(rt, &reason)?;
     let end = report_stage::<InShared, _, _>(
         rt.alloc(),
         &recording,
         name,
         asked,
-        runner,
+        &Pooled::new(&threads),
         &mut sink,
     );
     let end = with_reason(voice, &reason, flushed(&mut sink, reported(end)));
@@ -198,19 +180,11 @@ fn serve_listening<W: Runner>(
 {
     let watch = Watch::new(rt.alloc());
     let reason = Cell::new(None);
-    let Ok(writer) = BufWriter::new(
-        rt.alloc(),
-        Remembering {
-            writer: io::writer(rt),
-            reason: &reason,
-        },
-    ) else {
-        return Err(Fault::Memory);
-    };
+    let output = console::output(rt, &reason)?;
     let chunk = vec![in rt.alloc(); 0; AT_ONCE]?;
     let mut source = ListeningSource::new(rt.alloc(), rt.stdin(), &watch, teller, chunk);
     let mut sink = ListeningSink {
-        sink: CountedWriter::new(writer),
+        sink: output,
         watch: &watch,
     };
     let end = answered(rt.alloc(), runner, &mut source, &mut sink, &watch, graph);
