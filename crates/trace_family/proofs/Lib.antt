@@ -1,0 +1,4 @@
+pub mod Circling
+pub mod Hosting
+pub mod Lineage
+pub mod Placing

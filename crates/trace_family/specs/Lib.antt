@@ -1,0 +1,12 @@
+pub mod Ancestry
+pub mod Family
+pub mod FaultNumbers
+pub mod Hosts
+pub mod Lines
+pub mod MetPlaces
+pub mod Moments
+pub mod Parents
+pub mod Reads
+pub mod Ticks
+pub mod Units
+pub mod Waits

@@ -1,0 +1,109 @@
+//! Which spans the references of spans mean.
+ghost use Rattle.std.specs.Prelude.{◌≡◌, ℕ, List, IfOk, OnOk, slice_get};
+ghost use Rattle.trace_family.specs.MetPlaces.{HasMet};
+ghost use Rattle.trace_family.specs.Parents.{IsPlacing, all_references, other_place, references_of, with_meant};
+ghost use Rattle.trace_spans.specs.declared.span.Span.{Span};
+
+use crate::met::{Met, is_none_met, meet, none_met, places_met};
+use crate::places::places_of;
+use std::alloc::{AllocError, Global};
+use std::collections::HashMap;
+use std::marker::Model;
+use trace_spans::{Span, Text, TextList};
+
+/// What the references of a span mean: other spans of the trace, each once.
+#[derive(Drop)]
+pub struct References {
+    /// The first is the parent, the others are links.
+    meant: Vec<usize>,
+    /// Whether the parent is named as one, and isn't a link.
+    is_named: bool,
+}
+
+impl Model for References {
+    ghost use Rattle.std.specs.Prelude.{ℕ, List, Bool};
+
+    ghost Value = { List ℕ × Bool };
+
+    ghost view = { λ references. (references.meant.items, references.is_named) };
+}
+
+impl References {
+    /// The parent, which may be a link.
+    pub fn parent(&self) -> Option<usize>
+        ensures { result ≡ slice_get self.now.0 0 }
+    {
+        self.meant.first().copied()
+    }
+
+    /// Whether the parent is named as one.
+    pub fn is_named(&self) -> bool
+        ensures { result ≡ self.now.1 }
+    {
+        self.is_named
+    }
+
+    /// The spans that are meant: the parent, and then the links.
+    pub fn meant(&self) -> &[usize]
+        ensures { result.now ≡ self.now.0 }
+    {
+        self.meant.as_slice()
+    }
+}
+
+/// The place of another span than the one at a place that an id means.
+fn other_place(places: &HashMap<String, usize>, place: usize, id: &Text) -> Option<usize>
+    ensures { (spans : List Span) → IsPlacing places.now spans → result ≡ other_place spans place id.now }
+{
+    let found = places.get(id.as_str()).copied()?;
+    if found == place { None } else { Some(found) }
+}
+
+/// Meets the other spans that ids mean.
+fn meet_meant(
+    places: &HashMap<String, usize>,
+    place: usize,
+    met: &mut Met,
+    ids: &TextList,
+) -> Result<(), AllocError>
+    ensures { (spans : List Span) (others : List ℕ) → IsPlacing places.now spans → HasMet met.old others → OnOk result (HasMet met.new (with_meant spans place others ids.now)) }
+{
+    for id in ids.as_slice() {
+        if let Some(other) = other_place(places, place, id) {
+            meet(met, other)?;
+        }
+    }
+    Ok(())
+}
+
+/// What the references of the span at a place mean.
+fn references_of(
+    alloc: Global,
+    places: &HashMap<String, usize>,
+    place: usize,
+    span: &Span,
+) -> Result<References, AllocError>
+    ensures { (spans : List Span) → IsPlacing places.now spans → IfOk result (λ references. references ≡ references_of spans place span.now) }
+{
+    let mut met = none_met(alloc);
+    meet_meant(places, place, &mut met, &span.parents)?;
+    let is_named = !is_none_met(&met);
+    meet_meant(places, place, &mut met, &span.links)?;
+    Ok(References {
+        meant: places_met(met),
+        is_named,
+    })
+}
+
+/// What the references of each span mean.
+pub(crate) fn all_references(alloc: Global, spans: &[Span]) -> Result<Vec<References>, AllocError>
+    ensures { IfOk result (λ references. references.items ≡ all_references spans.now) }
+{
+    let places = places_of(alloc, spans)?;
+    let mut all = Vec::new(alloc);
+    for (place, span) in spans.iter().enumerate() {
+        let references = references_of(alloc, &places, place, span)?;
+        all.push(references)?;
+    }
+    Ok(all)
+}

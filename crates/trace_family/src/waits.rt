@@ -1,0 +1,95 @@
+//! What spans wait for.
+ghost use Rattle.std.specs.Prelude.{◌≡◌, IfOk, slice_get};
+ghost use Rattle.trace_family.specs.Waits.{ends_within, is_consumer, is_named, is_producer, takes_from_queue, waiting_parent, waiting_parents};
+
+use crate::ancestry::parent_at;
+use crate::moment::{Interval, interval_at};
+use crate::references::References;
+use std::alloc::{AllocError, Global};
+use trace_spans::{Kind, Span};
+
+fn is_consumer(spans: &[Span], place: usize) -> bool
+    ensures { result ≡ is_consumer (slice_get spans.now place) }
+{
+    match spans.get(place) {
+        Some(span) => matches!(span.kind, Kind::Consumer),
+        None => false,
+    }
+}
+
+fn is_producer(spans: &[Span], place: usize) -> bool
+    ensures { result ≡ is_producer (slice_get spans.now place) }
+{
+    match spans.get(place) {
+        Some(span) => matches!(span.kind, Kind::Producer),
+        None => false,
+    }
+}
+
+/// Whether a consumer is below a producer.
+fn takes_from_queue(spans: &[Span], child: usize, parent: usize) -> bool
+    ensures { result ≡ takes_from_queue spans.now child parent }
+{
+    is_consumer(spans, child) && is_producer(spans, parent)
+}
+
+/// Whether a child ended, and not after its parent.
+fn ends_within(child: Interval, parent: Interval) -> bool
+    ensures { result ≡ ends_within child parent }
+{
+    match (child.end_moment(), parent.end_moment()) {
+        (Some(child), Some(parent)) => !parent.is_before(child),
+        (Some(_), None) => true,
+        (None, _) => false,
+    }
+}
+
+/// Whether a child of a parent is named as one.
+fn is_named(references: &[References], place: usize) -> bool
+    ensures { result ≡ is_named references.now place }
+{
+    match references.get(place) {
+        Some(of_place) => of_place.is_named(),
+        None => false,
+    }
+}
+
+/// The parent that waits for the span at a place.
+fn waiting_parent(
+    spans: &[Span],
+    intervals: &[Interval],
+    references: &[References],
+    parents: &[Option<usize>],
+    place: usize,
+) -> Option<usize>
+    ensures { result ≡ waiting_parent spans.now intervals.now references.now parents.now place }
+{
+    let parent = parent_at(parents, place)?;
+    let child_interval = interval_at(intervals, place);
+    let parent_interval = interval_at(intervals, parent);
+    if is_named(references, place)
+        && !takes_from_queue(spans, place, parent)
+        && ends_within(child_interval, parent_interval)
+    {
+        Some(parent)
+    } else {
+        None
+    }
+}
+
+/// The parent that waits for each span.
+pub(crate) fn waiting_parents(
+    alloc: Global,
+    spans: &[Span],
+    intervals: &[Interval],
+    references: &[References],
+    parents: &[Option<usize>],
+) -> Result<Vec<Option<usize>>, AllocError>
+    ensures { IfOk result (λ waiting. waiting.items ≡ waiting_parents spans.now intervals.now references.now parents.now) }
+{
+    let mut waiting = Vec::new(alloc);
+    for place in 0..spans.len() {
+        waiting.push(waiting_parent(spans, intervals, references, parents, place))?;
+    }
+    Ok(waiting)
+}

@@ -1,0 +1,4 @@
+pub mod Apart
+pub mod Names
+pub mod Numbers
+pub mod Words

@@ -1,0 +1,37 @@
+//! The names of spans, but for their numbers.
+ghost use Rattle.std.specs.Prelude.{◌≡◌, IfOk, map, string_bytes};
+ghost use Rattle.trace_names.specs.Names.{base_name};
+
+use crate::words::words_or;
+use std::alloc::{AllocError, Global};
+use trace_spans::{Span, Text, TextList};
+
+/// The most characters of a service.
+const MOST_OF_SERVICE: usize = 20;
+
+/// The most characters of a service and a span together.
+const MOST_TOGETHER: usize = 46;
+
+/// The name of a span's stage, but for its number.
+#[tactic(auto, unfolding(crate::specs::Names::base_name))]
+fn base_name(alloc: Global, span: &Span) -> Result<Text, AllocError>
+    ensures { IfOk result (λ name. name ≡ base_name span.now) }
+{
+    let mut name = words_or(alloc, "service", MOST_OF_SERVICE, span.service.as_str())?;
+    let most = MOST_TOGETHER.saturating_sub(name.len());
+    let own = words_or(alloc, "span", most, span.name.as_str())?;
+    name.push_str(".")?;
+    name.push_str(own.as_str())?;
+    Ok(Text::of(name))
+}
+
+/// The name of each span's stage, but for its number.
+pub(crate) fn base_names(alloc: Global, spans: &[Span]) -> Result<TextList, AllocError>
+    ensures { IfOk result (λ names. names ≡ map base_name spans.now) }
+{
+    let mut names = TextList::new(alloc);
+    for span in spans {
+        names.push(base_name(alloc, span)?)?;
+    }
+    Ok(names)
+}

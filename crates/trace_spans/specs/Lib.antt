@@ -1,0 +1,12 @@
+pub mod Choice
+pub mod Exceptions
+pub mod FaultNumbers
+pub mod Identifiers
+pub mod Jaeger
+pub mod Marks
+pub mod Members
+pub mod MemberTexts
+pub mod Otlp
+pub mod Reads
+pub mod Spans
+pub mod Texts

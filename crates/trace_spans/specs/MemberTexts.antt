@@ -1,0 +1,41 @@
+-- The names of members in JSON.
+use Rattle.std.specs.Prelude.{ℕ, List, codes}
+use Rattle.trace_spans.specs.declared.member.Member.{Member}
+use Rattle.trace_spans.specs.declared.member.Member.TheVariants.{ResourceSpans, Resource, ScopeSpans, Spans, Attributes, Key, Value, StringValue, OtlpTrace, OtlpSpan, OtlpParent, Name, Kind, StartTimeUnixNano, EndTimeUnixNano, Links, Status, Code, Events, Data, Processes, Process, ServiceName, JaegerTrace, JaegerSpan, JaegerParent, OperationName, References, RefType, StartTime, Duration, Tags, Logs, Fields}
+
+-- the member's name in JSON, by which a fault of shape is printed too
+abbrev pub member_text : Member → List ℕ
+member_text ResourceSpans = codes "resourceSpans"
+member_text Resource = codes "resource"
+member_text ScopeSpans = codes "scopeSpans"
+member_text Spans = codes "spans"
+member_text Attributes = codes "attributes"
+member_text Key = codes "key"
+member_text Value = codes "value"
+member_text StringValue = codes "stringValue"
+member_text OtlpTrace = codes "traceId"
+member_text OtlpSpan = codes "spanId"
+member_text OtlpParent = codes "parentSpanId"
+member_text Name = codes "name"
+member_text Kind = codes "kind"
+member_text StartTimeUnixNano = codes "startTimeUnixNano"
+member_text EndTimeUnixNano = codes "endTimeUnixNano"
+member_text Links = codes "links"
+member_text Status = codes "status"
+member_text Code = codes "code"
+member_text Events = codes "events"
+member_text Data = codes "data"
+member_text Processes = codes "processes"
+member_text Process = codes "processID"
+member_text ServiceName = codes "serviceName"
+member_text JaegerTrace = codes "traceID"
+member_text JaegerSpan = codes "spanID"
+member_text JaegerParent = codes "parentSpanID"
+member_text OperationName = codes "operationName"
+member_text References = codes "references"
+member_text RefType = codes "refType"
+member_text StartTime = codes "startTime"
+member_text Duration = codes "duration"
+member_text Tags = codes "tags"
+member_text Logs = codes "logs"
+member_text Fields = codes "fields"

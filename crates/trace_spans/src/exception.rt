@@ -1,0 +1,180 @@
+//! The names of exceptions, and where spans tell them.
+ghost use Rattle.std.specs.Prelude.{◌≡◌, IfOk, map, option_map, string_bytes, take};
+ghost use Rattle.std.specs.Str.{chars, encode_utf8_all};
+ghost use Rattle.serde_json.specs.View.{view, items_view};
+ghost use Rattle.trace_spans.specs.Exceptions.{exception_in, exception_in_event, exception_in_log, exception_in_tag, exception_name, first_tag, is_name_character, kept, last_exception, tag_in, tag_text};
+ghost use Rattle.trace_spans.specs.Members.{then_on, items_in};
+ghost use Rattle.trace_spans.specs.Reads.{IsRead, IsReadAs};
+
+use crate::fault::Fault;
+use crate::member::Member;
+use crate::object::{item_object, items_or_none, member, text_or_empty};
+use crate::text::Text;
+use serde_json::Value;
+use std::alloc::{AllocError, Global};
+
+/// The most characters of an exception's name.
+const MOST_CHARACTERS: usize = 128;
+
+/// The exception that wraps others, and names none.
+const COMPLETION_EXCEPTION: &str = "java.util.concurrent.CompletionException";
+
+/// How a file tells spans.
+#[derive(Clone, Copy, PartialEq, Eq, Debug)]
+pub(crate) enum Format {
+    Otlp,
+    Jaeger,
+}
+
+fn is_name_character(letter: char) -> bool
+    ensures { result ≡ is_name_character letter }
+{
+    letter.is_ascii_alphanumeric() || letter == '.' || letter == '_' || letter == '$'
+}
+
+/// The character that stands for one in a name.
+fn kept(letter: char) -> char
+    ensures { result ≡ kept letter }
+{
+    if is_name_character(letter) {
+        letter
+    } else {
+        '_'
+    }
+}
+
+/// The first 128 characters of a text, as they stand in a name.
+fn kept_name(alloc: Global, text: &str) -> Result<String, AllocError>
+    ensures { IfOk result (λ name. string_bytes name ≡ encode_utf8_all (map kept (take 128 (chars text.now)))) }
+{
+    text.chars()
+        .take(MOST_CHARACTERS)
+        .map(|letter| kept(letter))
+        .collect(alloc)
+}
+
+/// The exception's name that a text is: other characters become `_`, and 128 are kept.
+#[tactic(auto, unfolding(crate::specs::Exceptions::exception_name))]
+fn exception_name(alloc: Global, text: &str) -> Result<Option<Text>, AllocError>
+    ensures { IfOk result (λ name. name ≡ exception_name text.now) }
+{
+    let name = kept_name(alloc, text)?;
+    if name.is_empty() || name.as_str() == COMPLETION_EXCEPTION {
+        return Ok(None);
+    }
+    Ok(Some(Text::of(name)))
+}
+
+/// The value of a tag, where it is a text.
+#[tactic(auto, unfolding(crate::specs::Exceptions::tag_text))]
+pub(crate) fn tag_text(format: Format, tag: &Value) -> Option<&str>
+    ensures { option_map (λ t. t.now) result ≡ tag_text format (view tag.now) }
+{
+    let value = member(tag, Member::Value)?;
+    match format {
+        Format::Otlp => member(value, Member::StringValue)?.as_str(),
+        Format::Jaeger => value.as_str(),
+    }
+}
+
+/// The first tag with a key.
+#[tactic(auto, unfolding(crate::specs::Exceptions::tag_in))]
+pub(crate) fn tag_with_key<'a>(
+    object: &'a Value,
+    list: Member,
+    key: &str,
+) -> Result<Option<&'a Value>, Fault>
+    ensures { IsReadAs (option_map (λ v. view v.now)) result (tag_in list key.now (view object.now)) }
+{
+    let tags = items_or_none(object, list)?;
+    for tag in tags {
+        item_object(tag, list)?;
+        if text_or_empty(tag, Member::Key)? == key {
+            return Ok(Some(tag));
+        }
+    }
+    Ok(None)
+}
+
+/// The exception's name in the tag with a key.
+#[tactic(auto, unfolding(crate::specs::Exceptions::exception_in_tag))]
+pub(crate) fn exception_in_tag(
+    alloc: Global,
+    format: Format,
+    object: &Value,
+    list: Member,
+    key: &str,
+) -> Result<Option<Text>, Fault>
+    ensures { IsRead result (exception_in_tag format list key.now (view object.now)) }
+{
+    let Some(tag) = tag_with_key(object, list, key)? else {
+        return Ok(None);
+    };
+    match tag_text(format, tag) {
+        Some(text) => Ok(exception_name(alloc, text)?),
+        None => Ok(None),
+    }
+}
+
+/// The exception's name that a log tells.
+#[tactic(auto, unfolding(crate::specs::Exceptions::exception_in_log))]
+fn exception_in_log(alloc: Global, log: &Value) -> Result<Option<Text>, Fault>
+    ensures { IsRead result (exception_in_log (view log.now)) }
+{
+    match exception_in_tag(alloc, Format::Jaeger, log, Member::Fields, "exception.type")? {
+        Some(name) => Ok(Some(name)),
+        None => exception_in_tag(alloc, Format::Jaeger, log, Member::Fields, "error.kind"),
+    }
+}
+
+/// The exception's name that an event or a log tells.
+#[tactic(auto, unfolding(crate::specs::Exceptions::exception_in_event))]
+fn exception_in_event(alloc: Global, format: Format, event: &Value) -> Result<Option<Text>, Fault>
+    ensures { IsRead result (exception_in_event format (view event.now)) }
+{
+    match format {
+        Format::Otlp => {
+            exception_in_tag(alloc, format, event, Member::Attributes, "exception.type")
+        }
+        Format::Jaeger => exception_in_log(alloc, event),
+    }
+}
+
+/// The exception's name that the last event with one tells.
+fn last_exception(
+    alloc: Global,
+    format: Format,
+    span: &Value,
+    list: Member,
+) -> Result<Option<Text>, Fault>
+    ensures { IsRead result (then_on (items_in list (view span.now)) (last_exception format list)) }
+{
+    let events = items_or_none(span, list)?;
+    let mut last = None;
+    for event in events {
+        item_object(event, list)?;
+        if let Some(name) = exception_in_event(alloc, format, event)? {
+            last = Some(name);
+        }
+    }
+    Ok(last)
+}
+
+/// The name of the exception with which a span failed: that of the last event with one, else that of its tag `error.type`.
+#[tactic(auto, unfolding(crate::specs::Exceptions::exception_in))]
+pub(crate) fn exception_of(
+    alloc: Global,
+    format: Format,
+    span: &Value,
+) -> Result<Option<Text>, Fault>
+    ensures { IsRead result (exception_in format (view span.now)) }
+{
+    let (events, tags) = match format {
+        Format::Otlp => (Member::Events, Member::Attributes),
+        Format::Jaeger => (Member::Logs, Member::Tags),
+    };
+    match last_exception(alloc, format, span, events)? {
+        Some(name) => Ok(Some(name)),
+        None => exception_in_tag(alloc, format, span, tags, "error.type"),
+    }
+}

@@ -1,0 +1,77 @@
+//! Why a file is refused.
+ghost use Rattle.std.specs.Prelude.{◌≡◌};
+ghost use Rattle.trace_spans.specs.FaultNumbers.{fault_number};
+
+use crate::member::Member;
+use crate::text::TextList;
+use std::alloc::AllocError;
+use std::fmt;
+use thiserror::Error;
+
+/// Why a file is refused.
+#[derive(Drop, Debug, Error)]
+pub enum Fault {
+    /// It has more than 268,435,456 bytes.
+    TooLong,
+    /// It is no UTF-8, or neither one JSON text nor lines of them.
+    Json,
+    /// One of its texts has neither `resourceSpans` nor `data`.
+    NotATrace,
+    /// The member has a wrong form, or a span has no id.
+    Shape(Member),
+    /// It has several traces, and none was asked for: the first 16.
+    SeveralTraces(TextList),
+    /// It has no span, or none of the trace that was asked for.
+    NoTrace,
+    /// An allocation failed.
+    Memory,
+}
+
+impl Fault {
+    /// The number by which the fault is printed.
+    pub fn number(&self) -> u32
+        ensures { result ≡ fault_number self.now }
+    {
+        match self {
+            Fault::Json => 70,
+            Fault::Shape(_) => 71,
+            Fault::TooLong => 72,
+            Fault::NotATrace => 80,
+            Fault::NoTrace => 81,
+            Fault::SeveralTraces(_) => 82,
+            Fault::Memory => 90,
+        }
+    }
+}
+
+impl fmt::Display for Fault {
+    fn fmt<W: fmt::Write>(&self, f: &mut fmt::Formatter<W>) -> fmt::Result {
+        match self {
+            Fault::TooLong => f.write_str("refused 72 TooLong"),
+            Fault::Json => f.write_str("refused 70 JSON"),
+            Fault::NotATrace => f.write_str("refused 80 NotATrace"),
+            Fault::Shape(member) => write!(f, "refused 71 Shape {member}"),
+            Fault::SeveralTraces(traces) => {
+                f.write_str("refused 82 SeveralTraces")?;
+                for trace in traces.as_slice() {
+                    f.write_str(" ")?;
+                    f.write_str(trace.as_str())?;
+                }
+                Ok(())
+            }
+            Fault::NoTrace => f.write_str("refused 81 NoTrace"),
+            Fault::Memory => f.write_str("refused 90 Memory"),
+        }
+    }
+}
+
+impl From<AllocError> for Fault {
+    ghost use Rattle.std.specs.Prelude.{◌≡◌};
+    ghost use Rattle.trace_spans.specs.declared.fault.Fault.TheVariants.{Memory};
+
+    ghost from_gives = { λ _ fault. fault ≡ Memory };
+
+    fn from(_: AllocError) -> Fault {
+        Fault::Memory
+    }
+}

@@ -1,0 +1,105 @@
+//! Ids: up to 32 hexadecimal digits.
+ghost use Rattle.std.specs.Prelude.{◌≡◌, IfOk, map, string_bytes};
+ghost use Rattle.std.specs.List.{list_all};
+ghost use Rattle.std.specs.Str.{chars, encode_utf8_all};
+ghost use Rattle.std.specs.Char.{to_ascii_lowercase};
+ghost use Rattle.serde_json.specs.View.{view};
+ghost use Rattle.trace_spans.specs.Identifiers.{compared, compared_in, id_in, is_hexadecimal, is_id, is_zero, span_id_in, without_zeros};
+ghost use Rattle.trace_spans.specs.Reads.{IsRead, IsReadAs};
+
+use crate::fault::Fault;
+use crate::member::Member;
+use crate::object::text_or_empty;
+use crate::text::Text;
+use serde_json::Value;
+use std::alloc::{AllocError, Global};
+
+/// The most digits that an id has.
+const MOST_DIGITS: usize = 32;
+
+fn is_hexadecimal(byte: u8) -> bool
+    ensures { result ≡ is_hexadecimal byte }
+{
+    byte.is_ascii_digit() || (b'a' <= byte && byte <= b'f') || (b'A' <= byte && byte <= b'F')
+}
+
+/// Whether all bytes are hexadecimal digits.
+fn are_hexadecimal(bytes: &[u8]) -> bool
+    ensures { result ≡ list_all is_hexadecimal bytes.now }
+{
+    bytes.iter().all(|byte| is_hexadecimal(*byte))
+}
+
+/// Whether all bytes are zeros.
+fn are_zeros(bytes: &[u8]) -> bool
+    ensures { result ≡ list_all is_zero bytes.now }
+{
+    bytes.iter().all(|byte| *byte == b'0')
+}
+
+/// The digits after the leading zeros, in lower case.
+fn significant(alloc: Global, id: &str) -> Result<String, AllocError>
+    ensures { IfOk result (λ short. string_bytes short ≡ encode_utf8_all (map to_ascii_lowercase (without_zeros (chars id.now)))) }
+{
+    id.chars()
+        .skip_while(|digit| *digit == '0')
+        .map(|digit| digit.to_ascii_lowercase())
+        .collect(alloc)
+}
+
+/// Whether a text is an id.
+#[tactic(auto, unfolding(crate::specs::Identifiers::is_id))]
+pub(crate) fn is_id(text: &str) -> bool
+    ensures { result ≡ is_id text.now }
+{
+    text.len() <= MOST_DIGITS && are_hexadecimal(text.as_bytes())
+}
+
+/// A text in lower case.
+pub(crate) fn lower_case(alloc: Global, text: &str) -> Result<Text, AllocError>
+    ensures { IfOk result (λ lower. lower ≡ map to_ascii_lowercase text.now) }
+{
+    Ok(Text::of(text.to_ascii_lowercase(alloc)?))
+}
+
+/// An id as it is compared: in lower case, without leading zeros.
+#[tactic(auto, unfolding(crate::specs::Identifiers::compared))]
+pub fn compared(alloc: Global, id: &str) -> Result<Text, AllocError>
+    ensures { IfOk result (λ short. short ≡ compared id.now) }
+{
+    Ok(Text::of(significant(alloc, id)?))
+}
+
+/// The id that a member is, which is empty where the object has no such member.
+#[tactic(auto, unfolding(crate::specs::Identifiers::id_in))]
+pub(crate) fn id_of(object: &Value, member: Member) -> Result<&str, Fault>
+    ensures { IsReadAs (λ id. id.now) result (id_in member (view object.now)) }
+{
+    let text = text_or_empty(object, member)?;
+    if is_id(text) {
+        Ok(text)
+    } else {
+        Err(Fault::Shape(member))
+    }
+}
+
+/// The id that a member is, as it is compared.
+#[tactic(auto, unfolding(crate::specs::Identifiers::compared_in))]
+pub(crate) fn compared_id(alloc: Global, object: &Value, member: Member) -> Result<Text, Fault>
+    ensures { IsRead result (compared_in member (view object.now)) }
+{
+    let id = id_of(object, member)?;
+    Ok(compared(alloc, id)?)
+}
+
+/// The id of a span, in lower case.
+#[tactic(auto, unfolding(crate::specs::Identifiers::span_id_in))]
+pub(crate) fn span_id(alloc: Global, object: &Value, member: Member) -> Result<Text, Fault>
+    ensures { IsRead result (span_id_in member (view object.now)) }
+{
+    let id = id_of(object, member)?;
+    if are_zeros(id.as_bytes()) {
+        return Err(Fault::Shape(member));
+    }
+    Ok(lower_case(alloc, id)?)
+}

@@ -1,0 +1,92 @@
+//! Spans.
+ghost use Rattle.std.specs.Prelude.{◌≡◌, [], ◌∷◌, ◌++◌, OnOk, OnErr};
+
+use crate::text::{Text, TextList};
+use std::alloc::{AllocError, Global};
+use std::marker::Model;
+
+/// Which end of a queue a span is.
+#[derive(Clone, Copy, PartialEq, Eq, Debug)]
+pub enum Kind {
+    Producer,
+    Consumer,
+    Other,
+}
+
+/// A span as its tracer told it. Times are in nanoseconds.
+#[derive(Drop, Debug)]
+pub struct Span {
+    /// The trace that it belongs to, without leading zeros.
+    pub trace: Text,
+    /// Its id, in lower case.
+    pub id: Text,
+    pub service: Text,
+    pub name: Text,
+    pub start: Option<u64>,
+    pub end: Option<u64>,
+    /// The ids of the parents that it names in its trace, without leading zeros.
+    pub parents: TextList,
+    /// The ids of its other references into its trace, without leading zeros.
+    pub links: TextList,
+    pub kind: Kind,
+    pub failed: bool,
+    /// The name of the exception with which it failed, where it tells one.
+    pub exception: Option<Text>,
+}
+
+/// Spans, in the order of the file.
+#[derive(Drop, Debug)]
+pub struct Spans {
+    items: Vec<Span>,
+}
+
+impl Model for Spans {
+    ghost use Rattle.std.specs.Prelude.{List};
+    ghost use Rattle.trace_spans.specs.declared.span.Span.{Span};
+
+    ghost Value = { List Span };
+
+    ghost view = { λ spans. spans.items.items };
+}
+
+impl Spans {
+    /// No spans.
+    pub fn new(alloc: Global) -> Spans
+        ensures { result ≡ [] }
+    {
+        Spans {
+            items: Vec::new(alloc),
+        }
+    }
+
+    /// Adds a span at the end; where memory is out the spans stay as they are.
+    pub fn push(&mut self, span: Span) -> Result<(), AllocError>
+        ensures added { OnOk result (self.new ≡ self.old ++ span ∷ []) }
+        ensures kept { OnErr result (self.new ≡ self.old) }
+    {
+        self.items.push(span)?;
+        Ok(())
+    }
+
+    /// Adds spans at the end; where memory is out the spans stay as they are.
+    pub fn append(&mut self, others: Spans) -> Result<(), AllocError>
+        ensures { OnOk result (self.new ≡ self.old ++ others) }
+    {
+        let mut more = others.items;
+        self.items.append(&mut more)
+    }
+
+    /// The spans, in order.
+    pub fn as_slice(&self) -> &[Span]
+        ensures { result.now ≡ self.now }
+    {
+        self.items.as_slice()
+    }
+
+    /// The spans, as a vector.
+    pub(crate) fn into_vec(self) -> Vec<Span>
+        ensures { result.items ≡ self }
+    {
+        self.items
+    }
+}

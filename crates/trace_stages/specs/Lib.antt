@@ -1,0 +1,13 @@
+pub mod Beginnings
+pub mod ByStart
+pub mod Failures
+pub mod Fates
+pub mod Known
+pub mod Naming
+pub mod Order
+pub mod Outcomes
+pub mod Scene
+pub mod StagesOf
+pub mod Throwers
+pub mod TwoStages
+pub mod Works

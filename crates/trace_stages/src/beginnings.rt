@@ -1,0 +1,172 @@
+//! From what each span begins.
+ghost use Rattle.std.specs.Prelude.{◌≡◌, ◌++◌, ℕ, IfOk, OnOk, cond, filter, map, nat_eq, Some, None};
+ghost use Rattle.std.specs.HashMap.{get_by};
+ghost use Rattle.std.specs.Option.{option_or};
+ghost use Rattle.trace_stages.specs.Beginnings.{all_begins, all_entries, begun_from, entry, from_host, host_at, is_begun, is_linked, links_at, option_list, sources_of};
+ghost use Rattle.trace_stages.specs.Known.{plain_hads, plain_known};
+ghost use Rattle.trace_walk.specs.Joins.{plain_joined};
+ghost use Rattle.trace_walk.specs.declared.stage.StageId.TheVariants.{Whole};
+
+use crate::known::{Known, has_ended, has_two};
+use crate::outcomes::interval_at;
+use crate::throwers::is_end_of;
+use std::alloc::{AllocError, Global};
+use std::collections::HashMap;
+use trace_family::{Host, Interval, References};
+use trace_walk::{Begin, Holding, Joined, JoinsOf, StageId, join_all};
+
+/// From what each span begins that started in another.
+type Begun = HashMap<usize, StageId>;
+
+/// Notes from what a span begins, unless that is known.
+fn note(begun: &mut Begun, begin: Begin) -> Result<(), AllocError>
+    ensures { OnOk result ((place : ℕ) → get_by (nat_eq place) begun.new ≡ option_or (get_by (nat_eq place) begun.old) (cond (nat_eq begin.span place) (Some begin.from) None)) }
+{
+    if begun.contains_key(&begin.span) {
+        return Ok(());
+    }
+    begun.insert(begin.span, begin.from)?;
+    Ok(())
+}
+
+/// Notes from what each span begins that started in one.
+fn note_all(begun: &mut Begun, begins: &[Begin]) -> Result<(), AllocError>
+    ensures { OnOk result ((place : ℕ) → get_by (nat_eq place) begun.new ≡ option_or (get_by (nat_eq place) begun.old) (begun_from begins.now place)) }
+{
+    for begin in begins {
+        note(begun, *begin)?;
+    }
+    Ok(())
+}
+
+/// From what each span begins that started in another.
+fn all_begun(alloc: Global, holdings: &[Holding]) -> Result<Begun, AllocError>
+    ensures { IfOk result (λ begun. (place : ℕ) → get_by (nat_eq place) begun ≡ begun_from (all_begins (plain_hads holdings.now)) place) }
+{
+    let mut begun = HashMap::new(alloc);
+    for holding in holdings {
+        note_all(&mut begun, &holding.begins)?;
+    }
+    Ok(begun)
+}
+
+/// Where the span at a place starts.
+fn host_at(hosts: &[Host], place: usize) -> Host
+    ensures { result ≡ host_at hosts.now place }
+{
+    match hosts.get(place) {
+        Some(host) => *host,
+        None => Host::Nowhere,
+    }
+}
+
+/// What a span begins from, but for its links.
+fn from_host(known: &Known<'_>, begun: &Begun, place: usize) -> Option<StageId>
+    ensures { result ≡ from_host (plain_known known.now) (λ other. get_by (nat_eq other) begun.now) place }
+{
+    match host_at(&known.family.hosts, place) {
+        Host::Nowhere => None,
+        Host::After(host) => Some(StageId::Whole(host)),
+        Host::Inside(_) => begun.get(&place).copied(),
+    }
+}
+
+/// The links of the span at a place.
+fn links_at(references: &[References], place: usize) -> &[usize]
+    ensures { result.now ≡ links_at references.now place }
+{
+    let Some(of_span) = references.get(place) else {
+        return &[];
+    };
+    match of_span.meant() {
+        [_, links @ ..] => links,
+        [] => &[],
+    }
+}
+
+/// Whether a span begins from the end of a link: it ended before, and the span begins from it no other way.
+fn is_linked(intervals: &[Interval], place: usize, from: Option<StageId>, link: usize) -> bool
+    ensures { result ≡ is_linked intervals.now place from link }
+{
+    let start = interval_at(intervals, place).start_moment();
+    let is_known = match from {
+        Some(id) => is_end_of(link, id),
+        None => false,
+    };
+    interval_at(intervals, link).ended_before(start) && !is_known
+}
+
+/// What a span begins from, and the ends of its links that ended before it.
+fn with_links(
+    alloc: Global,
+    intervals: &[Interval],
+    place: usize,
+    from: Option<StageId>,
+    links: &[usize],
+) -> Result<Vec<StageId>, AllocError>
+    ensures { IfOk result (λ sources. sources.items ≡ option_list from ++ map Whole (filter (is_linked intervals.now place from) links.now)) }
+{
+    let mut sources = Vec::new(alloc);
+    if let Some(id) = from {
+        sources.push(id)?;
+    }
+    for link in links {
+        if is_linked(intervals, place, from, *link) {
+            sources.push(StageId::Whole(*link))?;
+        }
+    }
+    Ok(sources)
+}
+
+/// All that a span begins from.
+fn sources_of(
+    alloc: Global,
+    known: &Known<'_>,
+    begun: &Begun,
+    place: usize,
+) -> Result<Vec<StageId>, AllocError>
+    ensures { IfOk result (λ sources. sources.items ≡ sources_of (plain_known known.now) (λ other. get_by (nat_eq other) begun.now) place) }
+{
+    let from = from_host(known, begun, place);
+    let links = links_at(&known.family.references, place);
+    with_links(alloc, &known.family.intervals, place, from, links)
+}
+
+/// Whether a span has a stage that begins.
+fn is_begun(known: &Known<'_>, place: usize) -> bool
+    ensures { result ≡ is_begun (plain_known known.now) place }
+{
+    has_two(known, place) || has_ended(&known.family.intervals, place)
+}
+
+/// One stage for all that a span begins from, and its joins.
+fn entry(
+    alloc: Global,
+    known: &Known<'_>,
+    begun: &Begun,
+    place: usize,
+) -> Result<Joined, AllocError>
+    ensures { IfOk result (λ joined. plain_joined joined ≡ entry (plain_known known.now) (λ other. get_by (nat_eq other) begun.now) place) }
+{
+    if !is_begun(known, place) {
+        return Ok(Joined {
+            joins: Vec::new(alloc),
+            stage: None,
+        });
+    }
+    let sources = sources_of(alloc, known, begun, place)?;
+    join_all(alloc, JoinsOf::Entry(place), Vec::new(alloc), &sources)
+}
+
+/// From what each span begins, and its joins.
+pub(crate) fn all_entries(alloc: Global, known: &Known<'_>) -> Result<Vec<Joined>, AllocError>
+    ensures { IfOk result (λ entries. map plain_joined entries.items ≡ all_entries (plain_known known.now)) }
+{
+    let begun = all_begun(alloc, &known.holdings)?;
+    let mut entries = Vec::new(alloc);
+    for place in 0..known.family.intervals.len() {
+        let joined = entry(alloc, known, &begun, place)?;
+        entries.push(joined)?;
+    }
+    Ok(entries)
+}

@@ -1,0 +1,158 @@
+//! All that is known of the spans of a trace and of the joins of their stages.
+ghost use Rattle.std.specs.Prelude.{◌≡◌, ◌++◌, IfOk, map};
+ghost use Rattle.trace_stages.specs.Known.{plain_known};
+ghost use Rattle.trace_stages.specs.Outcomes.{failing, join_outcomes, plain_joins, plain_outcomes, plain_sight};
+ghost use Rattle.trace_stages.specs.Scene.{all_entry_outcomes, all_outcomes, entry_at, list_at, plain_scene, scene_of, thrown_join, whole_sight};
+ghost use Rattle.trace_walk.specs.Joins.{plain_joined};
+
+use crate::beginnings::all_entries;
+use crate::failures::own_sight;
+use crate::known::{Known, joins_at};
+use crate::outcomes::{Failures, Outcome, Sight, join_outcome, join_outcomes};
+use crate::throwers::all_thrown;
+use std::alloc::{AllocError, Global};
+use trace_walk::{Joined, StageId};
+
+/// What is known of the spans of a trace and of their joins, by the places of spans.
+#[derive(Drop)]
+pub(crate) struct Scene<'a> {
+    pub known: Known<'a>,
+    pub failures: Failures,
+    /// The sources of the joins by which spans are thrown on.
+    pub thrown: Vec<Vec<StageId>>,
+    /// How the joins of what each span has end.
+    pub outcomes: Vec<Vec<Outcome>>,
+    /// From what each span begins, and its joins.
+    pub entries: Vec<Joined>,
+    /// How those joins end.
+    pub entry_outcomes: Vec<Vec<Outcome>>,
+}
+
+/// The sources of the join by which a span is thrown on.
+pub(crate) fn thrown_at(thrown: &[Vec<StageId>], place: usize) -> &[StageId]
+    ensures { result.now ≡ list_at (plain_joins thrown.now) place }
+{
+    match thrown.get(place) {
+        Some(sources) => sources.as_slice(),
+        None => &[],
+    }
+}
+
+/// The outcomes of the joins of a span.
+pub(crate) fn outcomes_at(outcomes: &[Vec<Outcome>], place: usize) -> &[Outcome]
+    ensures { result.now ≡ list_at (plain_outcomes outcomes.now) place }
+{
+    match outcomes.get(place) {
+        Some(of_span) => of_span.as_slice(),
+        None => &[],
+    }
+}
+
+/// The joins at the start of a span.
+pub(crate) fn entry_joins(entries: &[Joined], place: usize) -> &[Vec<StageId>]
+    ensures { plain_joins result.now ≡ (entry_at (map plain_joined entries.now) place).joins }
+{
+    match entries.get(place) {
+        Some(joined) => joined.joins.as_slice(),
+        None => &[],
+    }
+}
+
+/// From what a span begins.
+pub(crate) fn entry_stage(entries: &[Joined], place: usize) -> Option<StageId>
+    ensures { result ≡ (entry_at (map plain_joined entries.now) place).stage }
+{
+    match entries.get(place) {
+        Some(joined) => joined.stage,
+        None => None,
+    }
+}
+
+/// How the joins of what a span has end, and the one by which it is thrown on.
+fn span_outcomes(
+    alloc: Global,
+    sight: Sight<'_>,
+    joins: &[Vec<StageId>],
+    thrown: &[StageId],
+) -> Result<Vec<Outcome>, AllocError>
+    ensures { IfOk result (λ outcomes. outcomes.items ≡ join_outcomes (plain_sight sight.entry) (plain_joins joins.now ++ thrown_join thrown.now)) }
+{
+    let mut outcomes = join_outcomes(alloc, sight, joins)?;
+    if thrown.is_empty() {
+        return Ok(outcomes);
+    }
+    let outcome = join_outcome(sight, &outcomes, thrown);
+    outcomes.push(outcome)?;
+    Ok(outcomes)
+}
+
+/// How the joins of what each span has end.
+fn all_outcomes(
+    alloc: Global,
+    known: &Known<'_>,
+    failures: &Failures,
+    thrown: &[Vec<StageId>],
+) -> Result<Vec<Vec<Outcome>>, AllocError>
+    ensures { IfOk result (λ all. plain_outcomes all.items ≡ all_outcomes (plain_known known.now) (failing failures.now) (plain_joins thrown.now)) }
+{
+    let sight = own_sight(known, failures);
+    let mut all = Vec::new(alloc);
+    for place in 0..known.family.intervals.len() {
+        let joins = joins_at(&known.holdings, place);
+        all.push(span_outcomes(alloc, sight, joins, thrown_at(thrown, place))?)?;
+    }
+    Ok(all)
+}
+
+/// How the joins at the starts of spans end.
+fn all_entry_outcomes(
+    alloc: Global,
+    sight: Sight<'_>,
+    entries: &[Joined],
+) -> Result<Vec<Vec<Outcome>>, AllocError>
+    ensures { IfOk result (λ all. plain_outcomes all.items ≡ all_entry_outcomes (plain_sight sight.entry) (map plain_joined entries.now)) }
+{
+    let mut all = Vec::new(alloc);
+    for joined in entries {
+        all.push(join_outcomes(alloc, sight, &joined.joins)?)?;
+    }
+    Ok(all)
+}
+
+/// What is known of stages when the outcomes of joins are.
+pub(crate) fn whole_sight<'a>(
+    known: &'a Known<'_>,
+    failures: &'a Failures,
+    joins: &'a [Vec<Outcome>],
+) -> Sight<'a>
+    ensures { plain_sight result ≡ whole_sight (plain_known known.now) (failing failures.now) (plain_outcomes joins.now) }
+{
+    Sight {
+        intervals: &known.family.intervals,
+        failures,
+        joins,
+    }
+}
+
+/// All that is known of spans that fail so.
+pub(crate) fn scene_of<'a>(
+    alloc: Global,
+    known: Known<'a>,
+    failures: Failures,
+) -> Result<Scene<'a>, AllocError>
+    ensures { IfOk result (λ scene. plain_scene scene ≡ scene_of (plain_known known.entry) (failing failures)) }
+{
+    let thrown = all_thrown(alloc, &known, &failures)?;
+    let outcomes = all_outcomes(alloc, &known, &failures, &thrown)?;
+    let entries = all_entries(alloc, &known)?;
+    let sight = whole_sight(&known, &failures, &outcomes);
+    let entry_outcomes = all_entry_outcomes(alloc, sight, &entries)?;
+    Ok(Scene {
+        known,
+        failures,
+        thrown,
+        outcomes,
+        entries,
+        entry_outcomes,
+    })
+}

@@ -1,0 +1,11 @@
+use Rattle.std.proofs.Common.{arith, subst, sym, take}
+use Rattle.trace_walk.specs.declared.event.Event.TheVariants.{Starts}
+use Rattle.trace_walk.specs.Walk.{Holds, PlainHolding, walked}
+use Rattle.trace_walk.proofs.Steps.{walked_more}
+use Rattle.trace_walk.proofs.walking.walk.Goals as goal
+
+pub loop-event-preserved : goal.loop-event-preserved
+loop-event-preserved c =
+    let P : PlainHolding → Type 0 = λ plain. Holds c.in_ok-next.next plain in
+    subst P (sym (walked_more c.args.span c.args.events.now c.loop-event.event-index (Starts 0) (omega arith)))
+    (c.in_ok-next.ensures (walked c.args.span (take c.loop-event.event-index c.args.events.now)) c.loop-event.invariant)
