@@ -1,0 +1,48 @@
+//! What is asked for.
+ghost use Rattle.std.specs.Prelude.{◌≡◌};
+ghost use Rattle.recording_pictures.specs.Words.{form_named, scope_named};
+
+use version_rows::Scope;
+
+/// What the picture is written as.
+#[derive(Clone, Copy, Debug, PartialEq, Eq)]
+pub enum Form {
+    /// An SVG file.
+    Svg,
+    /// Chrome's trace events, as JSON.
+    TraceEvents,
+}
+
+impl Form {
+    /// The form that a word names.
+    pub fn new(word: &str) -> Option<Form>
+        ensures { result ≡ form_named word.now }
+    {
+        match word {
+            "svg" => Some(Form::Svg),
+            "trace" => Some(Form::TraceEvents),
+            _ => None,
+        }
+    }
+}
+
+/// Which stages a word names.
+pub fn scope_named(word: &str) -> Option<Scope>
+    ensures { result ≡ scope_named word.now }
+{
+    match word {
+        "all" => Some(Scope::All),
+        "path" => Some(Scope::Path),
+        _ => None,
+    }
+}
+
+/// What is asked for.
+#[derive(Clone, Copy)]
+pub struct Asked<'a> {
+    pub form: Form,
+    /// Which stages may have a row.
+    pub scope: Scope,
+    /// The name of the stage whose path is drawn over the rows.
+    pub stage: Option<&'a str>,
+}

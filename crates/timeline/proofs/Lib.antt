@@ -1,0 +1,3 @@
+pub mod Decades
+pub mod Multiples
+pub mod Quotients

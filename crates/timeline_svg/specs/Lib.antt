@@ -1,0 +1,6 @@
+pub mod Escape
+pub mod Frames
+pub mod Pictures
+pub mod RowTexts
+pub mod Spans
+pub mod Trails

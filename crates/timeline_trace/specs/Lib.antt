@@ -1,0 +1,5 @@
+pub mod Flows
+pub mod Held
+pub mod Json
+pub mod Rows
+pub mod Traces

@@ -1,0 +1,4 @@
+pub mod Candidates
+pub mod Courses
+pub mod Drawings
+pub mod Rows

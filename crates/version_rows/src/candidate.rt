@@ -1,0 +1,121 @@
+//! The stages that may have a row.
+ghost use Rattle.std.specs.Prelude.{◌≡◌, ◌++◌, IfOk, OnOk, Some};
+ghost use Rattle.std.specs.Option.{option_to_list};
+ghost use Rattle.stage_graph.specs.Plain.{stage_at};
+ghost use Rattle.version_rows.specs.Candidates.{candidate_in, candidate_of, candidates, is_wanted, rest_of};
+
+use crate::course::{course_of, start_of};
+use crate::flags::{flags_of, is_flagged};
+use crate::queries::{reason_of, state_of};
+use propagate::StateRepresentation;
+use stage_graph::Stage;
+use stage_ops::Reason;
+use std::alloc::{AllocError, Global};
+use version_store::Version;
+
+/// Which stages may have a row.
+#[derive(Clone, Copy, Debug, PartialEq, Eq)]
+pub enum Scope {
+    All,
+    /// Those on the path alone.
+    Path,
+}
+
+/// A stage that may have a row.
+#[derive(Clone, Copy, Debug, PartialEq, Eq)]
+pub(crate) struct Candidate {
+    pub(crate) place: u32,
+    pub(crate) is_on_path: bool,
+    /// By which the rows stand: the start, and then the place.
+    pub(crate) order: u128,
+    /// Where there are too many, those where this is least are left: 0 on the path, else the less the longer the stage's
+    /// own action took.
+    pub(crate) rest: u64,
+}
+
+/// The stages that may have a row, by place.
+pub(crate) fn candidates<R: StateRepresentation>(
+    alloc: Global,
+    version: &Version<R>,
+    scope: Scope,
+    path: &[u32],
+) -> Result<Vec<Candidate>, AllocError>
+    ensures { IfOk result (λ found. found.items ≡ candidates version.now.graph scope path.now) }
+{
+    let count = version.graph().len();
+    let flags = flags_of(alloc, count, path)?;
+    let mut found = Vec::new(alloc);
+    for place in 0..count as u32 {
+        let is_on_path = is_flagged(flags.as_slice(), place);
+        push_found(&mut found, candidate_at(version, scope, is_on_path, place))?;
+    }
+    Ok(found)
+}
+
+fn push_found(found: &mut Vec<Candidate>, candidate: Option<Candidate>) -> Result<(), AllocError>
+    ensures { OnOk result (found.new.items ≡ found.old.items ++ option_to_list candidate) }
+{
+    match candidate {
+        Some(candidate) => {
+            found.push(candidate)?;
+            Ok(())
+        }
+        None => Ok(()),
+    }
+}
+
+fn candidate_at<R: StateRepresentation>(
+    version: &Version<R>,
+    scope: Scope,
+    is_on_path: bool,
+    place: u32,
+) -> Option<Candidate>
+    ensures { result ≡ candidate_in version.now.graph scope is_on_path place (stage_at version.now.graph.places place) }
+{
+    let stage = version.graph().stage(place)?;
+    if is_wanted(scope, is_on_path) {
+        Some(candidate_of(version, is_on_path, place, stage))
+    } else {
+        None
+    }
+}
+
+fn is_wanted(scope: Scope, is_on_path: bool) -> bool
+    ensures { result ≡ is_wanted scope is_on_path }
+{
+    match scope {
+        Scope::All => true,
+        Scope::Path => is_on_path,
+    }
+}
+
+fn candidate_of<R: StateRepresentation>(
+    version: &Version<R>,
+    is_on_path: bool,
+    place: u32,
+    stage: &Stage,
+) -> Candidate
+    requires { stage_at version.now.graph.places place ≡ Some stage.now }
+    ensures { result ≡ candidate_of version.now.graph is_on_path place stage.now }
+{
+    let state = state_of(version, place);
+    let start = start_of(course_of(stage, &state.done));
+    Candidate {
+        place,
+        is_on_path,
+        order: u128::from(start) * (1 << 32) + u128::from(place),
+        rest: rest_of(is_on_path, &reason_of(version, place)),
+    }
+}
+
+fn rest_of(is_on_path: bool, reason: &Reason) -> u64
+    ensures { result ≡ rest_of is_on_path reason.now }
+{
+    if is_on_path {
+        0
+    } else {
+        u64::MAX
+            .saturating_sub(reason.queued)
+            .saturating_sub(reason.ran)
+    }
+}

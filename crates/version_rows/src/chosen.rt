@@ -1,0 +1,39 @@
+//! Which of the candidates have a row, and in which order.
+ghost use Rattle.std.specs.Prelude.{◌≡◌, ◌≤◌, IfOk, IsPermutation, length, take};
+ghost use Rattle.std.specs.List.Sorted.{IsNonDecreasingBy, IsStableByKey};
+ghost use Rattle.std.specs.Ordering.{nat_cmp};
+ghost use Rattle.version_rows.specs.Candidates.{IsChosen, order_in, rest_in};
+
+use crate::candidate::Candidate;
+use std::alloc::AllocError;
+
+/// The most rows of a picture.
+pub(crate) const MOST_ROWS: usize = 2000;
+
+/// Those of the candidates that have a row, by start and place.
+pub(crate) fn chosen(candidates: Vec<Candidate>) -> Result<Vec<Candidate>, AllocError>
+    ensures chosen { IfOk result (λ chosen. IsChosen candidates.items chosen.items) }
+    ensures few { IfOk result (λ chosen. length chosen.items ≤ 2000) }
+{
+    let mut ranked = by_rest(candidates)?;
+    ranked.truncate(MOST_ROWS);
+    let chosen = by_order(ranked)?;
+    Ok(chosen)
+}
+
+fn by_rest(mut candidates: Vec<Candidate>) -> Result<Vec<Candidate>, AllocError>
+    ensures same { IfOk result (λ ranked. IsPermutation candidates.items ranked.items) }
+    ensures by_rest { IfOk result (λ ranked. IsNonDecreasingBy rest_in ranked.items) }
+    ensures by_place { IfOk result (λ ranked. IsStableByKey rest_in nat_cmp candidates.items ranked.items) }
+{
+    candidates.sort_by_key(|candidate| candidate.rest)?;
+    Ok(candidates)
+}
+
+fn by_order(mut candidates: Vec<Candidate>) -> Result<Vec<Candidate>, AllocError>
+    ensures same { IfOk result (λ chosen. IsPermutation candidates.items chosen.items) }
+    ensures by_start { IfOk result (λ chosen. IsNonDecreasingBy order_in chosen.items) }
+{
+    candidates.sort_by_key(|candidate| candidate.order)?;
+    Ok(candidates)
+}

@@ -1,0 +1,81 @@
+//! What is drawn of a version.
+ghost use Rattle.std.specs.Prelude.{◌≡◌, ◌≤◌, ◌↔◌, IfOk, None, length};
+ghost use Rattle.stage_graph.specs.Plain.{stage_at};
+ghost use Rattle.scratch_eval.specs.Path.{path};
+ghost use Rattle.version_rows.specs.Drawings.{IsDrawing, IsMissing, path_to};
+
+use crate::candidate::{Scope, candidates};
+use crate::chosen::chosen;
+use crate::heading::heading_of;
+use crate::rows::{indices_of, rows_of};
+use propagate::StateRepresentation;
+use stage_graph::Places;
+use std::alloc::Global;
+use timeline_svg::{Heading, Row};
+use version_store::{QueryFault, Version};
+
+/// What is drawn of a version.
+#[derive(Drop)]
+pub struct Drawing {
+    pub heading: Heading,
+    pub rows: Vec<Row>,
+    /// The rows of the path, from the stage whose path it is to where it began.
+    pub path: Vec<usize>,
+}
+
+/// What is drawn of a version: a row for each stage in scope, 2,000 at most, and over them the path of the target, if
+/// there is one.
+pub fn drawing_of<R: StateRepresentation>(
+    alloc: Global,
+    version: &Version<R>,
+    scope: Scope,
+    target: Option<u32>,
+) -> Result<Drawing, QueryFault>
+    ensures drawn { IfOk result (λ drawing. IsDrawing version.now scope target drawing) }
+    ensures few { IfOk result (λ drawing. length drawing.rows.items ≤ 2000) }
+    ensures no_stage { (result ≡ Err QueryFault.NoStage) ↔ IsMissing version.now.graph target }
+{
+    let path = path_to(alloc, version, target)?;
+    let candidates = candidates(alloc, version, scope, path.as_slice())?;
+    let heading = heading_of(alloc, version, target, candidates.len())?;
+    let chosen = chosen(candidates)?;
+    let rows = rows_of(alloc, version, chosen.as_slice())?;
+    let path = indices_of(alloc, chosen.as_slice(), path.as_slice())?;
+    Ok(Drawing {
+        heading,
+        rows,
+        path,
+    })
+}
+
+fn path_to<R: StateRepresentation>(
+    alloc: Global,
+    version: &Version<R>,
+    target: Option<u32>,
+) -> Result<Places, QueryFault>
+    ensures path { IfOk result (λ path. path ≡ path_to version.now.graph target) }
+    ensures no_stage { (result ≡ Err QueryFault.NoStage) ↔ IsMissing version.now.graph target }
+{
+    match target {
+        Some(place) => path_of(alloc, version, place),
+        None => Ok(Places::new(alloc)),
+    }
+}
+
+fn path_of<R: StateRepresentation>(
+    alloc: Global,
+    version: &Version<R>,
+    place: u32,
+) -> Result<Places, QueryFault>
+    ensures path { IfOk result (λ places. places ≡ path version.now.graph place) }
+    ensures no_stage { (result ≡ Err QueryFault.NoStage) ↔ (stage_at version.now.graph.places place ≡ None) }
+{
+    if version.graph().stage(place).is_none() {
+        return Err(QueryFault::NoStage);
+    }
+    match version.path(alloc, place) {
+        Ok(path) => Ok(path),
+        Err(QueryFault::Memory) => Err(QueryFault::Memory),
+        Err(QueryFault::NoStage) => unreachable!(),
+    }
+}
