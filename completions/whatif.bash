@@ -11,7 +11,7 @@ _whatif_words() {
   for ((at = 1; at < COMP_CWORD; at++)); do
     case $closed${COMP_WORDS[at]} in
       --) closed=after- ;;
-      --top | --workers)
+      --top | --workers | --trace | --unit | --stage | --what | --format)
         option=${COMP_WORDS[at]}
         if [ "${COMP_WORDS[at + 1]}" = = ]; then at=$((at + 1)); fi
         at=$((at + 1))
@@ -28,23 +28,31 @@ _whatif_words() {
     esac
   done
   if [ "$at" -gt "$COMP_CWORD" ]; then
-    if [ "$option" = --workers ]; then echo {1..16}; else echo -; fi
+    case $option in
+      --workers) echo {1..16} ;;
+      --unit) echo us ns ms ;;
+      --what) echo all path ;;
+      --format) echo svg trace ;;
+      *) echo - ;;
+    esac
   elif [[ -z $closed && $typed == -?* || -z $closed && $typed == - ]]; then
     case $command in
       '') echo -h --help -V --version ;;
       sweep) echo --top --quiet --strict -h --help ;;
+      draw) echo --stage --what --format --quiet --strict -h --help ;;
       many) echo --workers --quiet --strict -h --help ;;
       check) echo --strict -h --help ;;
+      import) echo --trace --unit --quiet -h --help ;;
       help) echo - ;;
       *) echo --quiet --strict -h --help ;;
     esac
   elif [ -z "$command" ]; then
-    echo report explain sweep check serve many help
+    echo report explain sweep draw check serve many import help
   else
     case $command:$places in
-      help:0) echo report explain sweep check serve many help ;;
+      help:0) echo report explain sweep draw check serve many import help ;;
       explain:1 | sweep:1) _whatif_stages "$1" "$file" ;;
-      report:0 | explain:0 | sweep:0 | check:0 | serve:0 | many:*) ;;
+      report:0 | explain:0 | sweep:0 | draw:0 | check:0 | serve:0 | many:* | import:0) ;;
       *) echo - ;;
     esac
   fi

@@ -1,6 +1,6 @@
 # Completion of whatif for fish: put this file into ~/.config/fish/completions.
 
-set -l commands report explain sweep check serve many help
+set -l commands report explain sweep draw check serve many import help
 
 # The words after the command that are no options and no option's value.
 function __whatif_places
@@ -9,7 +9,7 @@ function __whatif_places
     set -l at 2
     while test $at -le (count $words)
         switch $words[$at]
-            case --top --workers
+            case --top --workers --trace --unit --stage --what --format
                 set at (math $at + 1)
             case '-?*'
             case '*'
@@ -35,18 +35,25 @@ complete -c whatif -f
 complete -c whatif -n "not __fish_seen_subcommand_from $commands" -a report -d 'Print each stage of a recording'
 complete -c whatif -n "not __fish_seen_subcommand_from $commands" -a explain -d 'Print how a stage ended, and why it is late or pending'
 complete -c whatif -n "not __fish_seen_subcommand_from $commands" -a sweep -d 'Print which stages would make a stage complete sooner'
+complete -c whatif -n "not __fish_seen_subcommand_from $commands" -a draw -d 'Write a picture of a recording'
 complete -c whatif -n "not __fish_seen_subcommand_from $commands" -a check -d 'Print every fault of a recording'
 complete -c whatif -n "not __fish_seen_subcommand_from $commands" -a serve -d 'Answer the steps that come on standard input'
 complete -c whatif -n "not __fish_seen_subcommand_from $commands" -a many -d 'Answer several scripts at once'
+complete -c whatif -n "not __fish_seen_subcommand_from $commands" -a import -d 'Write the recording that a trace makes'
 complete -c whatif -n "not __fish_seen_subcommand_from $commands" -a help -d 'Print help'
 complete -c whatif -n "not __fish_seen_subcommand_from help" -s h -l help -d 'Print help'
 complete -c whatif -n "not __fish_seen_subcommand_from $commands" -s V -l version -d 'Print the version'
 
-complete -c whatif -n "__fish_seen_subcommand_from report explain sweep check serve; and __whatif_has_places 0" -F
+complete -c whatif -n "__fish_seen_subcommand_from report explain sweep draw check serve import; and __whatif_has_places 0" -F
 complete -c whatif -n "__fish_seen_subcommand_from explain sweep; and __whatif_has_places 1" -a '(__whatif_stages)'
 complete -c whatif -n "__fish_seen_subcommand_from sweep" -l top -x -d 'Print the first N stages alone'
-complete -c whatif -n "__fish_seen_subcommand_from report explain sweep serve many" -l quiet -d 'Leave explanations and warnings out'
-complete -c whatif -n "__fish_seen_subcommand_from report explain sweep check serve many" -l strict -d 'End with status 1 where there is a warning'
+complete -c whatif -n "__fish_seen_subcommand_from report explain sweep draw serve many import" -l quiet -d 'Leave explanations and warnings out'
+complete -c whatif -n "__fish_seen_subcommand_from report explain sweep draw check serve many" -l strict -d 'End with status 1 where there is a warning'
+complete -c whatif -n "__fish_seen_subcommand_from draw" -l stage -x -d 'Draw the path of this stage'
+complete -c whatif -n "__fish_seen_subcommand_from draw" -l what -x -a 'all path' -d 'Which stages have a row'
+complete -c whatif -n "__fish_seen_subcommand_from draw" -l format -x -a 'svg trace' -d 'An SVG file, or trace events'
 complete -c whatif -n "__fish_seen_subcommand_from many" -F
 complete -c whatif -n "__fish_seen_subcommand_from many" -l workers -x -a '(seq 16)' -d 'How many threads compute for each script'
+complete -c whatif -n "__fish_seen_subcommand_from import" -l trace -x -d 'Which trace, where the file has several'
+complete -c whatif -n "__fish_seen_subcommand_from import" -l unit -x -a 'us ns ms' -d 'The unit of ticks'
 complete -c whatif -n "__fish_seen_subcommand_from help; and __whatif_has_places 0" -a "$commands"

@@ -110,7 +110,7 @@ def words_in_bash(top, program, folder):
     for typed, wanted in (
         (["sw"], ["sweep"]),
         (["check", "--s"], ["--strict"]),
-        (["help", ""], ["report", "explain", "sweep", "check", "serve", "many", "help"]),
+        (["help", ""], ["report", "explain", "sweep", "draw", "check", "serve", "many", "import", "help"]),
         (["explain", "r.json", ""], ["a", "b"]),
         (["sweep", "--top", "1", "r.json", "b"], ["b"]),
         (["explain", "r.json", "a", ""], []),
@@ -120,6 +120,10 @@ def words_in_bash(top, program, folder):
         (["sweep", "--top", ""], []),
         (["many", "--workers", "1"], ["1", *map(str, range(10, 17))]),
         (["many", "--workers", "=", ""], list(map(str, range(1, 17)))),
+        (["import", "--unit", ""], ["us", "ns", "ms"]),
+        (["draw", "--format", ""], ["svg", "trace"]),
+        (["draw", "--what", "p"], ["path"]),
+        (["draw", "--stage", ""], []),
         (["report", ""], []),
     ):
         came = offered(top, program, folder, *typed)

@@ -9,7 +9,7 @@ from .limits import chain_of, chain_report
 from .run import LANES, Case, refusals, run, shown
 from .why import EXPLAINED_B, SWEPT, chain_explained
 
-WANTING = b"refused 90 Memory\n"
+OUT_OF_MEMORY = b"refused 90 Memory\n"
 NO_THREAD = b"refused 35 NoThread\n"
 # Becomes the program with so many kilobytes of address space. (A shell needs more than the program does.)
 BECOME = """import os, resource, sys
@@ -60,13 +60,13 @@ def least(low, is_enough):
 
 
 def complaint(case, answer, ordinary):
-    """The ordinary answer is right, and so is a beginning of it with the line that memory is wanting, or with several scripts a thread."""
+    """The ordinary answer is right, and so is a beginning of it with the line that memory ran out, or with several scripts threads."""
     if essence(answer) == essence(ordinary):
         return ""
-    for last in (WANTING, NO_THREAD) if case.words[0] == "many" else (WANTING,):
+    for last in (OUT_OF_MEMORY, NO_THREAD) if case.words[0] == "many" else (OUT_OF_MEMORY,):
         if answer.status == 4 and answer.out.endswith(last) and ordinary.out.startswith(answer.out[: -len(last)]):
             return ""
-    return f"wanted status 4 and {shown(WANTING)}, or the ordinary answer; came {answer.status} and {shown(answer.out)}; standard error: {shown(answer.err)}"
+    return f"wanted status 4 and {shown(OUT_OF_MEMORY)}, or the ordinary answer; came {answer.status} and {shown(answer.out)}; standard error: {shown(answer.err)}"
 
 
 def sweep(program, case, steps):

@@ -5,7 +5,7 @@ import re
 
 from .run import Case
 
-COMMAND = re.compile(r"\./whatif (report|explain|sweep|serve|many)((?: [\w./-]+)+)(?: < (examples/[\w.-]+))?")
+COMMAND = re.compile(r"(?<!\| )\./whatif (report|explain|sweep|serve|many|import|draw)((?: [\w./-]+)+)(?: < (examples/[\w.-]+))?")
 BLOCK = re.compile(r"^```(\w*)\n(.*?)^```$", re.M | re.S)
 
 
@@ -58,7 +58,9 @@ def shown_case(top, page, command, blocks):
 def readme_cases(top):
     """What the page shows, and each example taken by the program."""
     shown = shown_runs(read(top, "README.md"))
-    cases = [shown_case(top, "README", command, blocks) for command, blocks in shown if not missing(top, command)]
+    # (what is shown of a trace and of a picture, traces.py and pictures.py compare)
+    told = [(command, blocks) for command, blocks in shown if command[0] not in ("import", "draw")]
+    cases = [shown_case(top, "README", command, blocks) for command, blocks in told if not missing(top, command)]
     for path in sorted(glob.glob(os.path.join(top, "examples", "*.json"))):
         name = os.path.basename(path)
         files = {name: read(top, path)}

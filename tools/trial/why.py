@@ -33,9 +33,11 @@ Commands:
   report   Prints each stage of a recording: its rank, its state and its moment
   explain  Prints how a stage ended, which failure it hands on, and why it completed when it did or is pending
   sweep    Prints which stages would make a stage complete sooner if they took no time
+  draw     Writes a picture of a recording: when each stage waited, was queued, ran and completed
   check    Prints every fault of a recording, and every member that nothing reads
   serve    Answers the steps that come on standard input, one to a line, about a recording
   many     Answers several scripts at once, whose clients share the sessions and versions
+  import   Writes the recording that a trace makes, from OTLP/JSON or Jaeger JSON
   help     Print this message or the help of the given subcommand(s)
 
 Options:
@@ -46,7 +48,7 @@ Examples:
   whatif report examples/first-run.json
   whatif explain examples/late-reply.json reply
 
-Recordings, steps, reports and refusals: docs/FORMATS.md. How to write a run down: docs/MODELLING.md.
+Recordings, steps, reports and refusals: docs/FORMATS.md. How to write a run down: docs/MODELLING.md. Recordings from traces: docs/TRACES.md.
 """)
 HELP_OF_REPORT = help_of("""\
 Prints each stage of a recording: its rank, its state and its moment
@@ -108,6 +110,48 @@ Examples:
 
 The lines: docs/FORMATS.md, Reports.
 """)
+HELP_OF_DRAW = help_of("""\
+Writes a picture of a recording: when each stage waited, was queued, ran and completed
+
+Usage: PROGRAM draw [OPTIONS] [FILE]
+
+Arguments:
+  [FILE]  the recording; standard input where it is left out, or -
+
+Options:
+      --stage <STAGE>    draw the path of this stage over the rows
+      --what <WHAT>      which stages have a row: all, or those on the path of --stage alone [default: all] [possible values: all, path]
+      --format <FORMAT>  an SVG file, or trace events as JSON, which Perfetto and chrome://tracing open [default: svg] [possible values: svg, trace]
+      --quiet            leave explanations and warnings out
+      --strict           end with status 1 where there is a warning
+  -h, --help             Print help
+
+Examples:
+  whatif draw examples/late-reply.json --stage reply > reply.svg
+  whatif draw --format trace examples/late-reply.json > late-reply.trace.json
+
+What is drawn: docs/FORMATS.md, Pictures.
+""")
+HELP_OF_IMPORT = help_of("""\
+Writes the recording that a trace makes, from OTLP/JSON or Jaeger JSON
+
+Usage: PROGRAM import [OPTIONS] [FILE]
+
+Arguments:
+  [FILE]  the trace, in OTLP/JSON or Jaeger JSON; standard input where it is left out, or -
+
+Options:
+      --trace <ID>   which trace, where the file has several
+      --unit <UNIT>  the unit of ticks [default: us] [possible values: us, ns, ms]
+      --quiet        leave explanations out
+  -h, --help         Print help
+
+Examples:
+  whatif import examples/order.otlp.trace
+  whatif import examples/order.otlp.trace | whatif explain - shop.GET-order
+
+What is inferred of a trace, and what can't be known: docs/TRACES.md.
+""")
 HELP_OF_CHECK = help_of("""\
 Prints every fault of a recording, and every member that nothing reads
 
@@ -133,10 +177,10 @@ COMMAND_LINES = [
     Case("the subcommand of help names each", ["help"], HELP),
     *[
         Case(f"help of {name}, by {' '.join(words)}", words, text)
-        for name, text in (("report", HELP_OF_REPORT), ("explain", HELP_OF_EXPLAIN), ("sweep", HELP_OF_SWEEP), ("check", HELP_OF_CHECK))
+        for name, text in (("report", HELP_OF_REPORT), ("explain", HELP_OF_EXPLAIN), ("sweep", HELP_OF_SWEEP), ("draw", HELP_OF_DRAW), ("check", HELP_OF_CHECK), ("import", HELP_OF_IMPORT))
         for words in ([name, "--help"], [name, "-h"], ["help", name])
     ],
-    Case("no word names the subcommands", [], "", 2, err="report, explain, sweep, check, serve, many, help"),
+    Case("no word names the subcommands", [], "", 2, err="report, explain, sweep, draw, check, serve, many, import, help"),
     *[
         case
         for name in ("explain", "sweep")

@@ -8,6 +8,15 @@ pub const MOST_SCRIPTS: usize = 64;
 /// The most workers that compute for one script.
 pub const MOST_WORKERS: usize = 16;
 
+/// The units of an imported recording's ticks.
+static UNITS: [&str; 3] = ["us", "ns", "ms"];
+
+/// What a picture is written as.
+static FORMS: [&str; 2] = ["svg", "trace"];
+
+/// Which stages have a row in a picture.
+static SCOPES: [&str; 2] = ["all", "path"];
+
 /// The version of the program.
 pub const VERSION: &str = "1.0.0";
 
@@ -16,22 +25,26 @@ pub fn command<'a>(alloc: Global) -> Result<Command<'a>, AllocError> {
     let report = report_command(alloc)?;
     let explain = explain_command(alloc)?;
     let sweep = sweep_command(alloc)?;
+    let draw = draw_command(alloc)?;
     let check = check_command(alloc)?;
     let serve = serve_command(alloc)?;
     let many = many_command(alloc)?;
+    let import = import_command(alloc)?;
     Command::new(alloc, "whatif")
         .about("A what-if debugger for recorded runs of asynchronous Java services")
         .version(VERSION)
         .after_help(
-            "Examples:\n  whatif report examples/first-run.json\n  whatif explain examples/late-reply.json reply\n\nRecordings, steps, reports and refusals: docs/FORMATS.md. How to write a run down: docs/MODELLING.md.",
+            "Examples:\n  whatif report examples/first-run.json\n  whatif explain examples/late-reply.json reply\n\nRecordings, steps, reports and refusals: docs/FORMATS.md. How to write a run down: docs/MODELLING.md. Recordings from traces: docs/TRACES.md.",
         )
         .subcommand_required(true)
         .subcommand(report)?
         .subcommand(explain)?
         .subcommand(sweep)?
+        .subcommand(draw)?
         .subcommand(check)?
         .subcommand(serve)?
-        .subcommand(many)
+        .subcommand(many)?
+        .subcommand(import)
 }
 
 /// Leaves out what asks for the help of `help` itself, whose help is that of the program.
@@ -110,6 +123,41 @@ fn sweep_command<'a>(alloc: Global) -> Result<Command<'a>, AllocError> {
     told_less_or_more(alloc, sweep)?.arg(file)?.arg(stage)
 }
 
+/// The words of `draw`.
+fn draw_command<'a>(alloc: Global) -> Result<Command<'a>, AllocError> {
+    let stage = Arg::new(alloc, "stage")
+        .long("stage")
+        .value_name("STAGE")
+        .help("draw the path of this stage over the rows")
+        .required_if_eq("what", "path")?;
+    let what = Arg::new(alloc, "what")
+        .long("what")
+        .value_name("WHAT")
+        .help("which stages have a row: all, or those on the path of --stage alone")
+        .value_parser(&SCOPES[..])
+        .default_value("all");
+    let format = Arg::new(alloc, "format")
+        .long("format")
+        .value_name("FORMAT")
+        .help("an SVG file, or trace events as JSON, which Perfetto and chrome://tracing open")
+        .value_parser(&FORMS[..])
+        .default_value("svg");
+    let file = Arg::new(alloc, "FILE").help(
+        "the recording; standard input where it is left out, or -",
+    );
+    let draw = Command::new(alloc, "draw")
+        .about(
+            "Writes a picture of a recording: when each stage waited, was queued, ran and completed",
+        )
+        .after_help(
+            "Examples:\n  whatif draw examples/late-reply.json --stage reply > reply.svg\n  whatif draw --format trace examples/late-reply.json > late-reply.trace.json\n\nWhat is drawn: docs/FORMATS.md, Pictures.",
+        )
+        .arg(stage)?
+        .arg(what)?
+        .arg(format)?;
+    told_less_or_more(alloc, draw)?.arg(file)
+}
+
 /// The words of `check`.
 fn check_command<'a>(alloc: Global) -> Result<Command<'a>, AllocError> {
     let file = Arg::new(alloc, "FILE")
@@ -167,4 +215,34 @@ fn many_command<'a>(alloc: Global) -> Result<Command<'a>, AllocError> {
         )
         .arg(workers)?;
     told_less_or_more(alloc, many)?.arg(file)?.arg(scripts)
+}
+
+/// The words of `import`.
+fn import_command<'a>(alloc: Global) -> Result<Command<'a>, AllocError> {
+    let file = Arg::new(alloc, "FILE").help(
+        "the trace, in OTLP/JSON or Jaeger JSON; standard input where it is left out, or -",
+    );
+    let trace = Arg::new(alloc, "trace")
+        .long("trace")
+        .value_name("ID")
+        .help("which trace, where the file has several");
+    let unit = Arg::new(alloc, "unit")
+        .long("unit")
+        .value_name("UNIT")
+        .help("the unit of ticks")
+        .value_parser(&UNITS[..])
+        .default_value("us");
+    let quiet = Arg::new(alloc, "quiet")
+        .long("quiet")
+        .action(ArgAction::SetTrue)
+        .help("leave explanations out");
+    Command::new(alloc, "import")
+        .about("Writes the recording that a trace makes, from OTLP/JSON or Jaeger JSON")
+        .after_help(
+            "Examples:\n  whatif import examples/order.otlp.trace\n  whatif import examples/order.otlp.trace | whatif explain - shop.GET-order\n\nWhat is inferred of a trace, and what can't be known: docs/TRACES.md.",
+        )
+        .arg(trace)?
+        .arg(unit)?
+        .arg(quiet)?
+        .arg(file)
 }

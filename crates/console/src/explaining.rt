@@ -1,9 +1,8 @@
 //! Why a recording is refused, and what nothing reads in it.
 use crate::fault::Fault;
 use crate::voice::Voice;
-use diagnosis::{
-    beginning_of, circle_of, examine_recording, json_fault, may_be_unread, nearest_stage,
-};
+use diagnosis::{beginning_of, examine_recording, json_fault, may_be_unread, nearest_stage};
+use json_names::circle_of;
 use recording::Fault as ReadingFault;
 use serde_json::{Category, Value};
 use std::alloc::{AllocError, Global};
@@ -70,12 +69,10 @@ pub(crate) fn why_refused(
     match fault {
         ReadingFault::TooLong => told(voice, "it has more than 67108864 bytes"),
         ReadingFault::Json => why_no_json(alloc, voice, recording),
-        ReadingFault::Shape(member) => {
-            why_at(alloc, voice, recording, 71, None, Some(member.text()))
-        }
+        ReadingFault::Shape(member) => why_shape(alloc, voice, recording, member.text()),
         ReadingFault::Refused(refused) => {
             let number = refused.refusal.number();
-            why_at(alloc, voice, recording, number, Some(refused.at), None)
+            why_at(alloc, voice, recording, number, refused.at)
         }
         ReadingFault::Cycle(places) => why_circle(alloc, voice, recording, places.as_slice()),
         ReadingFault::Memory | ReadingFault::ListSize => Ok(None),
@@ -83,7 +80,10 @@ pub(crate) fn why_refused(
 }
 
 /// The text of what is told.
-fn told<T: Display + Drop>(voice: Voice<'_>, what: T) -> Result<Option<String>, AllocError> {
+pub(crate) fn told<T: Display + Drop>(
+    voice: Voice<'_>,
+    what: T,
+) -> Result<Option<String>, AllocError> {
     match voice.text(what) {
         Some(text) => Ok(Some(text)),
         None => Err(AllocError),
@@ -102,19 +102,50 @@ fn why_no_json(
     }
 }
 
-/// The fault of a number, at a place or of a member.
+/// Why a member has a wrong form.
+fn why_shape(
+    alloc: Global,
+    voice: Voice<'_>,
+    recording: &[u8],
+    member: &str,
+) -> Result<Option<String>, AllocError> {
+    let Some(value) = value_of(alloc, recording)? else {
+        return Ok(None);
+    };
+    let is_trace = value.get("resourceSpans").is_some() || value.get("data").is_some();
+    if is_trace && value.get("stages").is_none() {
+        return told(
+            voice,
+            "it looks like a trace: whatif import makes a recording of it",
+        );
+    }
+    why_in(alloc, voice, &value, 71, None, Some(member))
+}
+
+/// The fault of a number, at a place.
 fn why_at(
     alloc: Global,
     voice: Voice<'_>,
     recording: &[u8],
     number: u32,
+    place: usize,
+) -> Result<Option<String>, AllocError> {
+    match value_of(alloc, recording)? {
+        Some(value) => why_in(alloc, voice, &value, number, Some(place), None),
+        None => Ok(None),
+    }
+}
+
+/// The fault of a number, at a place or of a member.
+fn why_in(
+    alloc: Global,
+    voice: Voice<'_>,
+    recording: &Value,
+    number: u32,
     place: Option<usize>,
     member: Option<&str>,
 ) -> Result<Option<String>, AllocError> {
-    let Some(value) = value_of(alloc, recording)? else {
-        return Ok(None);
-    };
-    let findings = examine_recording(alloc, &value)?;
+    let findings = examine_recording(alloc, recording)?;
     match findings.explanation(number, place, member) {
         Some(finding) => told(voice, finding),
         None => Ok(None),

@@ -1,14 +1,17 @@
 //! What ends the program early.
-use command_line::ToldFault;
+use command_help::ToldFault;
 use recording::Fault as ReadingFault;
 use std::alloc::{AllocError, Global};
 use std::fmt;
+use trace_import::ImportFault;
 
 /// What ends the program early. Beside some stands what people are told of it, where anything is.
 #[derive(Debug, Drop)]
 pub enum Fault {
     /// The recording is refused.
     Refused(ReadingFault, Option<String>),
+    /// The trace makes no recording.
+    NotImported(ImportFault, Option<String>),
     /// The recording has no stage of the name.
     NoStage(Option<String>),
     /// A file or standard input can't be opened or read.
@@ -27,7 +30,7 @@ pub enum Fault {
     Torn,
     /// A thread can't be started.
     NoThread,
-    /// Memory is wanting.
+    /// Memory ran out.
     Memory,
 }
 
@@ -36,7 +39,8 @@ impl Fault {
     pub fn status(&self) -> u8 {
         match self {
             Fault::Refused(ReadingFault::Memory, _) => 4,
-            Fault::Refused(_, _) | Fault::NoStage(_) | Fault::Strict => 1,
+            Fault::Refused(_, _) | Fault::NotImported(_, _) | Fault::NoStage(_) | Fault::Strict =>
+                1,
             Fault::CommandLine => 2,
             Fault::Read(_) | Fault::Write(_) | Fault::Missing | Fault::Torn => 3,
             Fault::NoThread | Fault::Memory => 4,
@@ -48,6 +52,7 @@ impl Fault {
     pub fn why(&self) -> Option<&str> {
         let why = match self {
             Fault::Refused(_, why) => why,
+            Fault::NotImported(_, why) => why,
             Fault::NoStage(why) => why,
             Fault::Read(why) => why,
             Fault::Write(why) => why,
@@ -81,6 +86,7 @@ impl fmt::Display for Fault {
     fn fmt<W: fmt::Write>(&self, f: &mut fmt::Formatter<W>) -> fmt::Result {
         match self {
             Fault::Refused(fault, _) => write!(f, "{fault}"),
+            Fault::NotImported(fault, _) => write!(f, "{fault}"),
             Fault::Strict => f.write_str("warning: a member is read by nothing"),
             Fault::Step => f.write_str("refused: a step"),
             Fault::NoStage(_) => f.write_str("refused 10 NoStage"),

@@ -12,7 +12,10 @@ use std::fs::File;
 use std::io::{self, Read};
 
 /// One byte more than the longest recording has, so that a longer one is told apart.
-const MOST_READ: u64 = 67_108_865;
+const MOST_OF_RECORDING: u64 = 67_108_865;
+
+/// One byte more than the longest trace has.
+const MOST_OF_TRACE: u64 = 268_435_457;
 
 /// The graph of a recording, or why it is refused.
 pub fn graph<R: Representation>(
@@ -31,30 +34,54 @@ pub fn graph<R: Representation>(
     }
 }
 
-/// The bytes of the file, or of standard input where there is none or it is `-`.
+/// The bytes of the recording in a file, or of standard input where there is none or it is `-`.
 pub fn recording(rt: &HostRuntime, voice: Voice<'_>, path: Option<&str>) -> Result<Vec<u8>, Fault> {
+    bytes(rt, voice, path, MOST_OF_RECORDING)
+}
+
+/// The bytes of the trace in a file, or of standard input where there is none or it is `-`.
+pub fn trace(rt: &HostRuntime, voice: Voice<'_>, path: Option<&str>) -> Result<Vec<u8>, Fault> {
+    bytes(rt, voice, path, MOST_OF_TRACE)
+}
+
+/// The bytes of the recording in a file.
+pub fn file(rt: &HostRuntime, voice: Voice<'_>, path: &str) -> Result<Vec<u8>, Fault> {
+    bytes_of_file(rt, voice, path, MOST_OF_RECORDING)
+}
+
+fn bytes(
+    rt: &HostRuntime,
+    voice: Voice<'_>,
+    path: Option<&str>,
+    most: u64,
+) -> Result<Vec<u8>, Fault> {
     match path {
-        None | Some("-") => read_whole(rt.alloc(), voice, rt.stdin()),
-        Some(path) => file(rt, voice, path),
+        None | Some("-") => read_whole(rt.alloc(), voice, rt.stdin(), most),
+        Some(path) => bytes_of_file(rt, voice, path, most),
     }
 }
 
-/// The bytes of a file.
-pub fn file(rt: &HostRuntime, voice: Voice<'_>, path: &str) -> Result<Vec<u8>, Fault> {
+fn bytes_of_file(
+    rt: &HostRuntime,
+    voice: Voice<'_>,
+    path: &str,
+    most: u64,
+) -> Result<Vec<u8>, Fault> {
     match File::open(rt, path) {
-        Ok(file) => read_whole(rt.alloc(), voice, file),
+        Ok(file) => read_whole(rt.alloc(), voice, file, most),
         Err(error) => Err(Fault::Read(voice.reason(voice.file(), error))),
     }
 }
 
-/// What is read, no more than `MOST_READ` bytes.
+/// What is read, no more than so many bytes.
 fn read_whole<R: Read + Drop>(
     alloc: Global,
     voice: Voice<'_>,
     reader: R,
+    most: u64,
 ) -> Result<Vec<u8>, Fault> {
     let mut bytes = Vec::new(alloc);
-    match reader.take(MOST_READ).read_to_end(&mut bytes) {
+    match reader.take(most).read_to_end(&mut bytes) {
         Ok(_) => Ok(bytes),
         Err(error) if error.kind() == io::ErrorKind::OutOfMemory => Err(Fault::Memory),
         Err(error) => Err(Fault::Read(voice.reason(voice.file(), error))),

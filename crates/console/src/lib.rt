@@ -5,6 +5,7 @@
 mod checking;
 mod explaining;
 mod fault;
+mod importing;
 mod input;
 mod listening;
 mod remembering;
@@ -14,7 +15,8 @@ mod voice;
 pub use checking::run_check;
 pub use explaining::{warn, why_no_stage, with_explanation};
 pub use fault::Fault;
-pub use input::{file, graph, recording};
+pub use importing::imported;
+pub use input::{file, graph, recording, trace};
 pub use listening::{ListeningSink, ListeningSource, Watch};
 pub use remembering::{Output, Remembering, flushed, output, with_reason};
 pub use step_telling::StepTeller;

@@ -66,9 +66,9 @@ impl<'a> StepTeller<'a> {
             Some(first) => Refusal::of_answer(first),
             None => None,
         };
-        let is_told = refusal.is_some() || may_step_be_unread(line);
         // (a line that is skipped has no answer, and nothing is told where memory is out)
-        if is_told && !answer.is_empty() && !self.voice.is_quiet() && self.told < MOST_TOLD {
+        let may_be_told = !answer.is_empty() && !self.voice.is_quiet() && self.told < MOST_TOLD;
+        if may_be_told && (refusal.is_some() || may_step_be_unread(line)) {
             let _ = self.tell_of_step(number, without_end(line), refusal);
             if self.told == MOST_TOLD {
                 self.voice.say_of_line(
@@ -87,7 +87,7 @@ impl<'a> StepTeller<'a> {
         if self.recording.is_empty() {
             return Ok(());
         }
-        // (it was read once, so only memory can be wanting)
+        // (it was read once, so only memory can run out)
         let Ok(recording) = Value::from_slice(self.alloc, self.recording.as_slice()) else {
             return Err(AllocError);
         };

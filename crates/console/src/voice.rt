@@ -84,9 +84,9 @@ impl<'a> Voice<'a> {
     }
 
     /// Says that standard input is read, where a person may wait for something else.
-    pub fn say_what_is_read(self, is_given: bool) {
+    pub fn say_what_is_read(self, what: &str, is_given: bool) {
         if !is_given && self.rt.stdin().is_terminal() {
-            self.say("the recording is read from standard input, to its end");
+            self.say(format_args!("the {what} is read from standard input, to its end"));
         }
     }
 }

@@ -1,8 +1,8 @@
 //! What is wrong in a recording or in a step.
-use crate::circle::Circle;
 use crate::quoted::Quoted;
 use crate::site::{Path, Site};
 use crate::wanted::Wanted;
+use json_names::Circle;
 use serde_json::Value;
 use std::fmt;
 

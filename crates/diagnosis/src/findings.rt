@@ -1,15 +1,9 @@
 //! What is found in a recording or in a step.
-ghost use Rattle.std.specs.Prelude.{◌≡◌, IfOk, All};
-ghost use Rattle.std.specs.List.{list_any};
-ghost use Rattle.std.specs.Str.{bytes_eq};
-ghost use Rattle.serde_json.specs.View.{view};
-ghost use Rattle.diagnosis.specs.Members.{IsUnread};
-
 use crate::finding::{Finding, ShapeFault, StageFault};
-use crate::likeness::nearest;
 use crate::site::{Path, Site};
 use crate::unread::{Unread, Warning};
 use crate::wanted::Wanted;
+use json_names::{nearest, unread_members};
 use serde_json::Value;
 use std::alloc::{AllocError, Global};
 
@@ -154,41 +148,6 @@ impl<'a> Findings<'a> {
             more: 0,
         })
     }
-}
-
-/// Whether the name of a member says that it is the writer's own, and not one that is to be read.
-pub(crate) fn is_label(member: &[u8]) -> bool {
-    matches!(member, [b'$' | b'_', ..] | [b'x', b'-', ..])
-}
-
-/// The members of an object that are no labels, and not among those which are read there, but for those that there is no
-/// room to keep.
-pub(crate) fn unread_members<'a>(
-    alloc: Global,
-    object: &'a Value,
-    read: &[&str],
-) -> Result<Vec<&'a str>, AllocError>
-    ensures { IfOk result (λ members. All (λ member. IsUnread (view object.now) read.now member.now) members.items) }
-{
-    let mut unread = Vec::new(alloc);
-    let Some(members) = object.as_object() else {
-        return Ok(unread);
-    };
-    for name in members.keys() {
-        let member = name.as_str();
-        let is_kept = unread.len() < MOST_KEPT && !is_label(member.as_bytes());
-        if is_kept && !is_among(member, read) && object.get(member).is_some() {
-            unread.push(member)?;
-        }
-    }
-    Ok(unread)
-}
-
-/// Whether a text is one of several.
-pub(crate) fn is_among(text: &str, names: &[&str]) -> bool
-    ensures { result ≡ list_any (λ name. bytes_eq name.now text.now) names.now }
-{
-    names.iter().any(|name| *name == text)
 }
 
 impl Finding<'_> {

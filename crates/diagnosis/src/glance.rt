@@ -2,9 +2,9 @@
 //!
 //! It reads no JSON, keeps nothing, and goes over the bytes once. Where it sees nothing, nothing is told of a recording
 //! that is taken; where it sees something, the recording is read to find what.
-use crate::findings::is_label;
 use crate::members::{has_delay, has_exception, has_value};
 use crate::passing::{Passing, all_pass};
+use json_names::is_label;
 
 /// The depth of the members of the recording, of a stage, of an outcome and of an end.
 const OF_RECORDING: usize = 1;
@@ -113,7 +113,8 @@ impl<'a> Glance<'a> {
                 self.awaited = Awaited::Form;
                 true
             }
-            b"wrap" | b"stages" => true,
+            // (the last three are labels, which an imported recording has)
+            b"wrap" | b"stages" | b"trace" | b"unit" | b"start" => true,
             text => is_label(text),
         }
     }
@@ -132,7 +133,8 @@ impl<'a> Glance<'a> {
             | b"action"
             | b"pinResult"
             | b"pinMoment"
-            | b"ends" => {}
+            | b"ends"
+            | b"span" => {}
             text => return is_label(text),
         }
         true

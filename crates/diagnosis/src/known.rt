@@ -1,7 +1,6 @@
 //! Names of stages that a mistaken one may have meant.
-use crate::likeness::nearest;
-use crate::stage::name_of;
-use crate::stage_checks::{is_name, items_of};
+use crate::stage_checks::is_name;
+use json_names::{items_of, name_of};
 use serde_json::Value;
 use std::alloc::{AllocError, Global};
 

@@ -6,12 +6,10 @@
 
 mod action;
 mod beginning;
-mod circle;
 mod finding;
 mod findings;
 mod glance;
 mod known;
-mod likeness;
 mod members;
 mod operation;
 mod passing;
@@ -29,12 +27,10 @@ mod unread;
 mod wanted;
 
 pub use beginning::{Beginning, beginning_of};
-pub use circle::{Circle, circle_of};
 pub use finding::{Finding, ShapeFault, StageFault};
 pub use findings::Findings;
 pub use glance::may_be_unread;
 pub use known::KnownStages;
-pub use likeness::nearest;
 pub use quoted::Quoted;
 pub use recording::{examine_recording, nearest_stage};
 pub use refused_step::{Refusal, RefusedStep, explain_step};

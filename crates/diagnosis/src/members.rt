@@ -1,9 +1,10 @@
 //! The members of objects, and what is wrong in them.
 use crate::action::action_fault;
 use crate::finding::StageFault;
-use crate::findings::{Findings, is_among};
+use crate::findings::Findings;
 use crate::site::{Path, Site};
 use crate::wanted::{KINDS, Wanted};
+use json_names::is_among;
 use serde_json::Value;
 use std::alloc::AllocError;
 

@@ -1,11 +1,11 @@
 //! What is found in a recording.
 use crate::finding::StageFault;
 use crate::findings::Findings;
-use crate::likeness::nearest;
 use crate::site::{Path, Site};
-use crate::stage::{TimeForm, form_warning, look_at_members, name_of, time_of_form_two};
-use crate::stage_checks::{is_name, items_of, look_at_checks};
+use crate::stage::{TimeForm, form_warning, look_at_members, time_of_form_two};
+use crate::stage_checks::{is_name, look_at_checks};
 use crate::wanted::Wanted;
+use json_names::{items_of, name_of, nearest};
 use serde_json::Value;
 use std::alloc::{AllocError, Global};
 use std::collections::BTreeMap;

@@ -2,11 +2,10 @@
 use crate::finding::{Finding, StageFault};
 use crate::findings::Findings;
 use crate::known::KnownStages;
-use crate::likeness::nearest;
 use crate::quoted::Quoted;
 use crate::site::Site;
-use crate::stage_checks::items_of;
 use crate::step::stage_of;
+use json_names::{items_of, name_of, nearest};
 use serde_json::Value;
 use std::alloc::AllocError;
 use std::fmt;
@@ -156,7 +155,7 @@ pub fn explain_step<'a>(
         detail: refusal.detail,
         session: step.get("session").and_then(Value::as_u64),
         version: version_of(step),
-        stage: stage_of(edit).or(edit.get("new").and_then(crate::stage::name_of)),
+        stage: stage_of(edit).or(edit.get("new").and_then(name_of)),
     })
 }
 

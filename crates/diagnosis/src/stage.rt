@@ -11,7 +11,7 @@ use crate::wanted::Wanted;
 use serde_json::Value;
 use std::alloc::AllocError;
 
-/// The members of a stage.
+/// The members of a stage; `span` is a label, by which an imported recording tells of which span the stage is.
 const STAGE_MEMBERS: &[&str] = &[
     "name",
     "op",
@@ -27,6 +27,7 @@ const STAGE_MEMBERS: &[&str] = &[
     "pinResult",
     "pinMoment",
     "ends",
+    "span",
 ];
 
 /// How a stage gives its times.
@@ -36,11 +37,6 @@ pub(crate) enum TimeForm {
     One,
     /// By `queued` and `runs`.
     Two,
-}
-
-/// The name of a stage, where it has one.
-pub(crate) fn name_of(stage: &Value) -> Option<&str> {
-    stage.get("name")?.as_str()
 }
 
 /// Looks at the name.

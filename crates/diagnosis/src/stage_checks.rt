@@ -4,6 +4,7 @@ use crate::findings::Findings;
 use crate::operation::operation_of;
 use crate::site::Site;
 use crate::stage::TimeForm;
+use json_names::items_of;
 use serde_json::Value;
 use std::alloc::AllocError;
 
@@ -23,14 +24,6 @@ pub(crate) fn is_name(text: &str) -> bool {
     match bytes {
         [] | [b'-' | b'.', ..] => false,
         _ => bytes.len() <= 64 && bytes.iter().all(|byte| is_name_byte(*byte)),
-    }
-}
-
-/// The elements of a member, and none where it is not there.
-pub(crate) fn items_of<'a>(object: &'a Value, member: &str) -> &'a [Value] {
-    match object.get(member).and_then(Value::as_array) {
-        Some(items) => items.as_slice(),
-        None => &[],
     }
 }
 

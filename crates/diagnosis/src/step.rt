@@ -1,14 +1,15 @@
 //! What is found in a step of a script.
 use crate::finding::Finding;
-use crate::findings::{Findings, is_among};
+use crate::findings::Findings;
 use crate::members::{
     look_at_action, look_at_ends, look_at_moment, look_at_names, look_at_outcome, look_at_ticks_of,
     required,
 };
 use crate::site::{Path, Site};
-use crate::stage::{TimeForm, look_at_members, name_of, time_of_form_two};
+use crate::stage::{TimeForm, look_at_members, time_of_form_two};
 use crate::stage_checks::{look_at_checks, look_at_numbers};
 use crate::wanted::{EDIT_NAMES, REPORTS, STEP_NAMES, Wanted};
+use json_names::{is_among, name_of};
 use serde_json::Value;
 use std::alloc::{AllocError, Global};
 

@@ -1,9 +1,9 @@
 //! A glance at a step: whether any of its members could be one that nothing reads.
-use crate::findings::is_among;
 use crate::members::OUTCOME_MEMBERS;
 use crate::passing::{Passing, all_pass};
 use crate::step::{members_of, members_of_report};
 use crate::wanted::{REPORTS, STEP_NAMES};
+use json_names::is_among;
 
 /// The depth of the members of a step, and of an outcome.
 const OF_STEP: usize = 1;

@@ -1,8 +1,8 @@
-//! Edits of graphs, in each representation: the graph that a step makes, or its refusal.
+//! Edits of graphs: the graph that a step makes, or its refusal.
 ghost use Rattle.stage_graph.specs.Walk.{IsRanked};
 
 use recording::read_recording;
-use stage_graph::{Fault, Graph, InFlat, InShared, Refusal, Refused, Representation, Stage};
+use stage_graph::{Fault, Graph, Refusal, Refused, Representation, Stage};
 use std::alloc::{AllocError, Global};
 use std::process::Abort;
 use std::test::Fail;
@@ -47,25 +47,54 @@ fn refusal_of(alloc: Global, refused: Refused) -> Result<String, Fail> {
     }
 }
 
-/// The graph that the edits of a step make, drawn, or why they are refused.
-fn answer<R: Representation>(
-    rt: &impl Abort,
-    alloc: Global,
-    graph: &Graph<R>,
-    step: &str,
-) -> Result<String, Fail>
-    requires { IsRanked graph.now.places }
-{
-    match graph.apply(alloc, &edits_of(alloc, step)?) {
-        Ok(edited) => drawn(alloc, &edited),
-        Err(Fault::Cycle(path)) => {
+/// Why edits are refused.
+fn fault_of(alloc: Global, fault: Fault) -> Result<String, Fail> {
+    match fault {
+        Fault::Cycle(path) => {
             let mut text = String::from_str(alloc, "19 Cycle")?;
             push_places(&mut text, alloc, path.as_slice())?;
             Ok(text)
         }
-        Err(Fault::Refused(refused)) => refusal_of(alloc, refused),
-        Err(Fault::Memory) => Err(Fail::from(AllocError)),
+        Fault::Refused(refused) => refusal_of(alloc, refused),
+        Fault::Memory => Err(Fail::from(AllocError)),
     }
+}
+
+/// The graph that the edits of a step make, drawn, or why they are refused.
+fn answer<R: Representation>(alloc: Global, graph: &Graph<R>, step: &str) -> Result<String, Fail>
+    requires { IsRanked graph.now.places }
+{
+    let edits = edits_of(alloc, step)?;
+    match graph.apply(alloc, &edits) {
+        Ok(edited) => drawn(alloc, &edited),
+        Err(fault) => fault_of(alloc, fault),
+    }
+}
+
+/// Each step, alone on the graph, has its answer.
+fn answered<R: Representation>(
+    rt: &impl Abort,
+    alloc: Global,
+    graph: &Graph<R>,
+    rows: &[(&str, &str)],
+) -> Result<(), Fail>
+    requires { IsRanked graph.now.places }
+{
+    for (step, wanted) in rows {
+        let found = answer(alloc, graph, step)?;
+        assert_eq!(rt; found.as_str(), *wanted);
+    }
+    Ok(())
+}
+
+/// Whether the graph is that of the recording.
+fn is_of<R: Representation>(
+    alloc: Global,
+    graph: &Graph<R>,
+    recording: &str,
+) -> Result<bool, Fail> {
+    let same = read_recording::<R>(alloc, recording.as_bytes())?;
+    Ok(graph.same(&same))
 }
 
 /// Each step, alone on the recording's graph, has its answer; and the graph stays as it was.
@@ -76,28 +105,12 @@ fn answers<R: Representation>(
     rows: &[(&str, &str)],
 ) -> Result<(), Fail> {
     let graph = read_recording::<R>(alloc, recording.as_bytes())?;
-    let same = read_recording::<R>(alloc, recording.as_bytes())?;
-    for (step, wanted) in rows {
-        let found = answer(rt, alloc, &graph, step)?;
-        assert_eq!(rt; found.as_str(), *wanted);
-    }
-    assert!(rt; graph.same(&same));
+    answered(rt, alloc, &graph, rows)?;
+    assert!(rt; is_of(alloc, &graph, recording)?);
     Ok(())
 }
 
-/// The same in both representations.
-fn in_each(
-    rt: &impl Abort,
-    alloc: Global,
-    recording: &str,
-    rows: &[(&str, &str)],
-) -> Result<(), Fail> {
-    answers::<InFlat>(rt, alloc, recording, rows)?;
-    answers::<InShared>(rt, alloc, recording, rows)
-}
-
-#[test]
-fn cycle(rt: HostRuntime) -> Result<(), Fail> {
+fn cycle<R: Representation>(rt: &impl Abort, alloc: Global) -> Result<(), Fail> {
     let rows = [
         (
             r#"{"do":"rewire","session":1,"stage":"a","sources":["b"],"inner":[]}"#,
@@ -108,11 +121,10 @@ fn cycle(rt: HostRuntime) -> Result<(), Fail> {
             "19 Cycle 1 1",
         ),
     ];
-    in_each(&rt, rt.alloc(), CHAIN, &rows)
+    answers::<R>(rt, alloc, CHAIN, &rows)
 }
 
-#[test]
-fn edit_list_refusals(rt: HostRuntime) -> Result<(), Fail> {
+fn edit_list_refusals<R: Representation>(rt: &impl Abort, alloc: Global) -> Result<(), Fail> {
     let rows = [
         (
             r#"{"do":"edits","session":1,"edits":[{"do":"add","new":{"name":"c","op":"thenApply","sources":["b"],"action":0}},
@@ -135,5 +147,11 @@ fn edit_list_refusals(rt: HostRuntime) -> Result<(), Fail> {
             "a;b 0;-;",
         ),
     ];
-    in_each(&rt, rt.alloc(), FIRST_RUN, &rows)
+    answers::<R>(rt, alloc, FIRST_RUN, &rows)
+}
+
+/// What holds of edits of graphs.
+pub(crate) fn hold<R: Representation, H: Abort>(rt: &H, alloc: Global) -> Result<(), Fail> {
+    cycle::<R>(rt, alloc)?;
+    edit_list_refusals::<R>(rt, alloc)
 }

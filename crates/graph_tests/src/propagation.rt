@@ -12,7 +12,7 @@ use rank_order::Order;
 use recording::read_recording;
 use scratch_eval::evaluate;
 use share_tree::Held;
-use stage_graph::{Edits, Fault, Graph, InFlat, InShared, Stage};
+use stage_graph::{Edits, Fault, Graph, Stage};
 use stage_ops::{JavaOps, Look, Meter, Pass, StageOps, State};
 use std::alloc::{AllocError, Global};
 use std::process::Abort;
@@ -87,14 +87,18 @@ fn states_of<R: StateRepresentation>(
     States::from_answers(alloc, graph, &answers)
 }
 
-/// The graph of a recording with its order and its states, all from scratch.
-fn evaluated<R: StateRepresentation>(alloc: Global, recording: &str) -> Result<Patched<R>, Fail>
+/// A graph with its states, and its order.
+fn placed<R: StateRepresentation>(
+    alloc: Global,
+    graph: Graph<R>,
+    states: States<R>,
+) -> Result<Patched<R>, AllocError>
+    requires ranked { IsRanked graph.places }
+    requires states { AreStates (java_step graph.mode) graph.places states }
     ensures ranked { IfOk result (λ patched. IsRanked patched.graph.places) }
     ensures order { IfOk result (λ patched. patched.order.graph ≡ patched.graph) }
     ensures states { IfOk result (λ patched. AreStates (java_step patched.graph.mode) patched.graph.places patched.states) }
 {
-    let graph = read_recording::<R>(alloc, recording.as_bytes())?;
-    let states = states_of(alloc, &graph)?;
     let graph = Held::new(alloc, graph)?;
     let order = Order::build(alloc, &graph)?;
     Ok(Patched {
@@ -103,6 +107,32 @@ fn evaluated<R: StateRepresentation>(alloc: Global, recording: &str) -> Result<P
         states,
         touched: Vec::new(alloc),
     })
+}
+
+/// The graph of a recording with its order and its states, all from scratch.
+fn evaluated<R: StateRepresentation>(alloc: Global, recording: &str) -> Result<Patched<R>, Fail>
+    ensures ranked { IfOk result (λ patched. IsRanked patched.graph.places) }
+    ensures order { IfOk result (λ patched. patched.order.graph ≡ patched.graph) }
+    ensures states { IfOk result (λ patched. AreStates (java_step patched.graph.mode) patched.graph.places patched.states) }
+{
+    let graph = read_recording::<R>(alloc, recording.as_bytes())?;
+    let states = states_of(alloc, &graph)?;
+    Ok(placed(alloc, graph, states)?)
+}
+
+/// The computed stages are the touched ones; none is computed where the edits are refused.
+fn are_computed<R: StateRepresentation>(
+    rt: &impl Abort,
+    recorder: &Recorder,
+    count: u64,
+    answer: &Result<Patched<R>, Fault>,
+) {
+    let touched = match answer {
+        Ok(patched) => patched.touched.as_slice(),
+        Err(_) => &[],
+    };
+    assert!(rt; recorder.is_just(touched));
+    assert_eq!(rt; count, touched.len() as u64);
 }
 
 /// What edits make of a graph. The computed stages are the touched ones; none is computed where the edits are refused.
@@ -128,43 +158,64 @@ fn edited<R: StateRepresentation, H: Abort + Threads + Sync>(
     };
     let runner = OneThread::new(rt);
     let answer = propagate(alloc, before, edits, &recorder, &runner, &mut meter);
-    let touched = match &answer {
-        Ok(patched) => patched.touched.as_slice(),
-        Err(_) => &[],
-    };
-    assert!(rt; recorder.is_just(touched));
-    assert_eq!(rt; meter.count(), touched.len() as u64);
+    are_computed(rt, &recorder, meter.count(), &answer);
     answer
 }
 
+/// What a step makes of a graph, where it touches the stages at these places.
+fn touched_by<R: StateRepresentation, H: Abort + Threads + Sync>(
+    rt: &H,
+    alloc: Global,
+    old: &Patched<R>,
+    step: &str,
+    touched: &[u32],
+) -> Result<Patched<R>, Fail>
+    requires ranked { IsRanked old.now.graph.places }
+    requires order { old.now.order.graph ≡ old.now.graph }
+    requires states { AreStates (java_step old.now.graph.mode) old.now.graph.places old.now.states }
+    ensures ranked { IfOk result (λ patched. IsRanked patched.graph.places) }
+    ensures order { IfOk result (λ patched. patched.order.graph ≡ patched.graph) }
+    ensures states { IfOk result (λ patched. AreStates (java_step patched.graph.mode) patched.graph.places patched.states) }
+{
+    let edits = edits_of(alloc, step)?;
+    let new = edited(rt, alloc, old, &edits)?;
+    assert_eq!(rt; new.touched.as_slice(), touched);
+    Ok(new)
+}
+
 /// The steps, each on the graph that the one before left, touch the stages at these places.
+fn touch<R: StateRepresentation, H: Abort + Threads + Sync>(
+    rt: &H,
+    alloc: Global,
+    old: &Patched<R>,
+    rows: &[(&str, &[u32])],
+) -> Result<(), Fail>
+    requires ranked { IsRanked old.now.graph.places }
+    requires order { old.now.order.graph ≡ old.now.graph }
+    requires states { AreStates (java_step old.now.graph.mode) old.now.graph.places old.now.states }
+{
+    let [(step, touched), others @ ..] = rows else {
+        return Ok(());
+    };
+    let new = touched_by(rt, alloc, old, step, touched)?;
+    touch(rt, alloc, &new, others)
+}
+
+/// The same of steps on the graph of a recording.
 fn touches<R: StateRepresentation, H: Abort + Threads + Sync>(
     rt: &H,
     alloc: Global,
     recording: &str,
     rows: &[(&str, &[u32])],
 ) -> Result<(), Fail> {
-    let mut now: Patched<R> = evaluated(alloc, recording)?;
-    for (step, touched) in rows {
-        let edits = edits_of(alloc, step)?;
-        now = edited(rt, alloc, &now, &edits)?;
-        assert_eq!(rt; now.touched.as_slice(), *touched);
-    }
-    Ok(())
+    let first: Patched<R> = evaluated(alloc, recording)?;
+    touch(rt, alloc, &first, rows)
 }
 
-fn in_each<H: Abort + Threads + Sync>(
+fn pin_bare<R: StateRepresentation, H: Abort + Threads + Sync>(
     rt: &H,
     alloc: Global,
-    recording: &str,
-    rows: &[(&str, &[u32])],
 ) -> Result<(), Fail> {
-    touches::<InFlat, H>(rt, alloc, recording, rows)?;
-    touches::<InShared, H>(rt, alloc, recording, rows)
-}
-
-#[test]
-fn pin_bare(rt: HostRuntime) -> Result<(), Fail> {
     let rows: [(&str, &[u32]); 4] = [
         (
             r#"{"do":"pinResult","session":1,"stage":"a","result":{"bare":"X"}}"#,
@@ -183,11 +234,13 @@ fn pin_bare(rt: HostRuntime) -> Result<(), Fail> {
             &[0, 1, 2],
         ),
     ];
-    in_each(&rt, rt.alloc(), FIRST_RUN, &rows)
+    touches::<R, H>(rt, alloc, FIRST_RUN, &rows)
 }
 
-#[test]
-fn compose_picks(rt: HostRuntime) -> Result<(), Fail> {
+fn compose_picks<R: StateRepresentation, H: Abort + Threads + Sync>(
+    rt: &H,
+    alloc: Global,
+) -> Result<(), Fail> {
     let rows: [(&str, &[u32]); 3] = [
         (
             r#"{"do":"setTakes","session":1,"stage":"i1","takes":4}"#,
@@ -202,13 +255,41 @@ fn compose_picks(rt: HostRuntime) -> Result<(), Fail> {
             &[2, 3],
         ),
     ];
-    in_each(&rt, rt.alloc(), COMPOSE_PICKS, &rows)
+    touches::<R, H>(rt, alloc, COMPOSE_PICKS, &rows)
 }
 
-#[test]
-fn rewire_propagates(rt: HostRuntime) -> Result<(), Fail> {
+fn rewire_propagates<R: StateRepresentation, H: Abort + Threads + Sync>(
+    rt: &H,
+    alloc: Global,
+) -> Result<(), Fail> {
     let rows: [(&str, &[u32]); 1] = [(REWIRE_A, &[3, 4, 5])];
-    in_each(&rt, rt.alloc(), REWIRED, &rows)
+    touches::<R, H>(rt, alloc, REWIRED, &rows)
+}
+
+/// The cycle for which edits are refused.
+fn path_of(alloc: Global, fault: Fault) -> Result<Vec<u32>, Fail> {
+    match fault {
+        Fault::Cycle(path) => Ok(Vec::from_slice(alloc, path.as_slice())?),
+        _ => Err(Fail::from("no cycle is closed")),
+    }
+}
+
+/// The cycle that a step closes on a graph.
+fn closed_cycle<R: StateRepresentation, H: Abort + Threads + Sync>(
+    rt: &H,
+    alloc: Global,
+    old: &Patched<R>,
+    step: &str,
+) -> Result<Vec<u32>, Fail>
+    requires ranked { IsRanked old.now.graph.places }
+    requires order { old.now.order.graph ≡ old.now.graph }
+    requires states { AreStates (java_step old.now.graph.mode) old.now.graph.places old.now.states }
+{
+    let edits = edits_of(alloc, step)?;
+    match edited(rt, alloc, old, &edits) {
+        Ok(_) => Err(Fail::from("no cycle is closed")),
+        Err(fault) => path_of(alloc, fault),
+    }
 }
 
 /// The cycle that a step closes on a recording's graph.
@@ -218,17 +299,27 @@ fn cycle_of<R: StateRepresentation, H: Abort + Threads + Sync>(
     recording: &str,
     step: &str,
 ) -> Result<Vec<u32>, Fail> {
-    let before: Patched<R> = evaluated(alloc, recording)?;
-    match edited(rt, alloc, &before, &edits_of(alloc, step)?) {
-        Err(Fault::Cycle(path)) => Ok(Vec::from_slice(alloc, path.as_slice())?),
-        _ => Err(Fail::from("no cycle is closed")),
-    }
+    let first: Patched<R> = evaluated(alloc, recording)?;
+    closed_cycle(rt, alloc, &first, step)
 }
 
-#[test]
-fn cycle(rt: HostRuntime) -> Result<(), Fail> {
+fn cycle<R: StateRepresentation, H: Abort + Threads + Sync>(
+    rt: &H,
+    alloc: Global,
+) -> Result<(), Fail> {
     let onto_b = r#"{"do":"rewire","session":1,"stage":"a","sources":["b"],"inner":[]}"#;
-    let path = cycle_of::<InShared, _>(&rt, rt.alloc(), CHAIN, onto_b)?;
+    let path = cycle_of::<R, H>(rt, alloc, CHAIN, onto_b)?;
     assert_eq!(rt; path.as_slice(), [1, 2, 1].as_slice());
     Ok(())
+}
+
+/// What holds of propagation.
+pub(crate) fn hold<R: StateRepresentation, H: Abort + Threads + Sync>(
+    rt: &H,
+    alloc: Global,
+) -> Result<(), Fail> {
+    pin_bare::<R, H>(rt, alloc)?;
+    compose_picks::<R, H>(rt, alloc)?;
+    rewire_propagates::<R, H>(rt, alloc)?;
+    cycle::<R, H>(rt, alloc)
 }

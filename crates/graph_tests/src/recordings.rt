@@ -1,8 +1,9 @@
 //! Recordings and steps that are read. The faults that are found stand in `tools/trial`, for the built program.
 use act_expr::{Answer, Args, Mode, Outcome, Value};
 use recording::{Asked, Step, Subject, read_recording, read_step};
-use stage_graph::{Act, Edit, InFlat, InShared, Op, Representation, Stage};
+use stage_graph::{Act, Edit, Op, Representation, Stage};
 use std::alloc::Global;
+use std::process::Abort;
 use std::test::Fail;
 
 /// Two stages, of which the second adds 1 to what the first gives.
@@ -43,11 +44,10 @@ fn has_second<R: Representation>(alloc: Global, recording: &[u8]) -> Result<bool
     }
 }
 
-#[test]
-fn first_run(rt: HostRuntime) -> Result<(), Fail> {
+fn first_run<R: Representation>(rt: &impl Abort, alloc: Global) -> Result<(), Fail> {
     let bytes = FIRST_RUN.as_bytes();
-    assert_eq!(rt; size::<InFlat>(rt.alloc(), bytes)?, (Mode::Computed, 2));
-    assert!(rt; has_second::<InFlat>(rt.alloc(), bytes)?);
+    assert_eq!(rt; size::<R>(alloc, bytes)?, (Mode::Computed, 2));
+    assert!(rt; has_second::<R>(alloc, bytes)?);
     Ok(())
 }
 
@@ -63,14 +63,13 @@ fn first_times<R: Representation>(
     }
 }
 
-#[test]
-fn times_of_both_forms(rt: HostRuntime) -> Result<(), Fail> {
+fn times_of_both_forms<R: Representation>(rt: &impl Abort, alloc: Global) -> Result<(), Fail> {
     let first =
         br#"{"form":1,"stages":[{"name":"a","op":"async","queued":-1,"runs":null,"takes":7,"action":4}]}"#;
     let second =
         br#"{"form":2,"stages":[{"name":"a","op":"async","queued":2,"runs":3,"action":4}]}"#;
-    assert_eq!(rt; first_times::<InShared>(rt.alloc(), first)?, Some((0, 7)));
-    assert_eq!(rt; first_times::<InShared>(rt.alloc(), second)?, Some((2, 3)));
+    assert_eq!(rt; first_times::<R>(alloc, first)?, Some((0, 7)));
+    assert_eq!(rt; first_times::<R>(alloc, second)?, Some((2, 3)));
     Ok(())
 }
 
@@ -98,43 +97,90 @@ fn has_pinned_and_ended<R: Representation>(alloc: Global, recording: &[u8]) -> R
     }
 }
 
-#[test]
-fn pins_and_ends(rt: HostRuntime) -> Result<(), Fail> {
+fn pins_and_ends<R: Representation>(rt: &impl Abort, alloc: Global) -> Result<(), Fail> {
     let text = br#"{"wrap":"literal","stages":[{"name":"m","op":"manual","pinResult":{"value":null},
         "pinMoment":null,"ends":[{"at":3,"do":"cancel","delay":true},{"at":0,"do":"completeOnTimeout","delay":3,"value":8}]}]}"#;
-    assert_eq!(rt; size::<InShared>(rt.alloc(), text)?, (Mode::Literal, 1));
-    assert!(rt; has_pinned_and_ended::<InShared>(rt.alloc(), text)?);
+    assert_eq!(rt; size::<R>(alloc, text)?, (Mode::Literal, 1));
+    assert!(rt; has_pinned_and_ended::<R>(alloc, text)?);
     Ok(())
 }
 
-#[test]
-fn steps(rt: HostRuntime) -> Result<(), Fail> {
-    let takes = br#"{"do":"setTakes","session":1,"base":0,"stage":"a","takes":20}"#;
+/// What holds of recordings.
+pub(crate) fn hold<R: Representation, H: Abort>(rt: &H, alloc: Global) -> Result<(), Fail> {
+    first_run::<R>(rt, alloc)?;
+    times_of_both_forms::<R>(rt, alloc)?;
+    pins_and_ends::<R>(rt, alloc)
+}
+
+/// Whether the only edit has the stage `a` take 20 ticks.
+fn sets_takes(edits: &[Edit]) -> bool {
+    let [Edit::SetTimes { name, queued, runs }] = edits else {
+        return false;
+    };
+    name.as_str() == "a" && (*queued, *runs) == (0, 20)
+}
+
+/// Whether a step is that change of version 0.
+fn is_change(step: &Step) -> bool {
     let Step::Change {
         session,
         base,
         edits,
         listed,
-    } = read_step(rt.alloc(), takes)?
+    } = step
     else {
-        panic!(rt; "a change");
+        return false;
     };
-    assert_eq!(rt; (session, base, listed), (1, Some(0), false));
-    let [Edit::SetTimes { name, queued, runs }] = edits.as_slice() else {
-        panic!(rt; "times");
-    };
-    assert_eq!(rt; name.as_str(), "a");
-    assert_eq!(rt; (*queued, *runs), (0, 20));
-    let blame = br#"{"do":"report","version":2,"what":"blame","stage":"\u0061"}"#;
+    (*session, *base, *listed) == (1, Some(0), false) && sets_takes(edits.as_slice())
+}
+
+/// Whether a step asks whom the stage `a` of version 2 blames.
+fn is_blame(step: &Step) -> bool {
     let Step::Report {
         subject: Subject::Version(2),
         asked: Asked::Blame(name),
-    } = read_step(rt.alloc(), blame)?
+    } = step
     else {
-        panic!(rt; "a report");
+        return false;
     };
-    assert_eq!(rt; name.as_str(), "a");
+    name.as_str() == "a"
+}
+
+#[test]
+fn steps(rt: HostRuntime) -> Result<(), Fail> {
+    let takes = br#"{"do":"setTakes","session":1,"base":0,"stage":"a","takes":20}"#;
+    assert!(rt; is_change(&read_step(rt.alloc(), takes)?));
+    let blame = br#"{"do":"report","version":2,"what":"blame","stage":"\u0061"}"#;
+    assert!(rt; is_blame(&read_step(rt.alloc(), blame)?));
     Ok(())
+}
+
+/// Whether the edits are the three of `listed_edits`.
+fn are_three(edits: &[Edit]) -> bool {
+    let [
+        Edit::PinResult { result, .. },
+        Edit::Add(spec),
+        Edit::Rewire { sources, inner, .. },
+    ] = edits
+    else {
+        return false;
+    };
+    result.is_none()
+        && (spec.queued, spec.runs) == (0, 7)
+        && (sources.as_slice().len(), inner.as_slice().len()) == (2, 1)
+}
+
+/// Whether a step is a list of these edits.
+fn is_list(step: &Step) -> bool {
+    let Step::Change {
+        edits,
+        listed: true,
+        ..
+    } = step
+    else {
+        return false;
+    };
+    are_three(edits.as_slice())
 }
 
 #[test]
@@ -143,25 +189,6 @@ fn listed_edits(rt: HostRuntime) -> Result<(), Fail> {
         {"do":"pinResult","stage":"b","result":null,"session":"ignored","base":null},
         {"do":"add","new":{"name":"c","op":"async","runs":7,"action":0}},
         {"do":"rewire","stage":"h","sources":["a","b"],"inner":["c"]}]}"#;
-    let Step::Change {
-        edits,
-        listed: true,
-        ..
-    } = read_step(rt.alloc(), text)?
-    else {
-        panic!(rt; "edits");
-    };
-    let [
-        Edit::PinResult { result, .. },
-        Edit::Add(spec),
-        Edit::Rewire { sources, inner, .. },
-    ] = edits.as_slice()
-    else {
-        panic!(rt; "three edits");
-    };
-    assert!(rt; result.is_none());
-    assert_eq!(rt; (spec.queued, spec.runs), (0, 7));
-    assert_eq!(rt; sources.as_slice().len(), 2);
-    assert_eq!(rt; inner.as_slice().len(), 1);
+    assert!(rt; is_list(&read_step(rt.alloc(), text)?));
     Ok(())
 }

@@ -1,6 +1,6 @@
 -- The output, put together from the log and from what each client has done.
-use Rattle.std.proofs.Common.{◌≡◌, ℕ, zero, suc, ◌+◌, ◌<◌, ◌≤◌, ◌⊎◌, inl, inr, List, [], ◌∷◌, ◌++◌, ◌-◌, ◌^◌, length, map, slice_index_or, refl, sym, ap, ◌∙◌, subst, arith, Option, Result, Ok, Err, IsSomeAnd, MatchResult, slice_get, Contains}
-use Rattle.std.specs.List.{All, AllZip, flat_map, sum_by}
+use Rattle.std.proofs.Common.{◌≡◌, ℕ, zero, suc, ◌+◌, ◌<◌, ◌≤◌, ◌⊎◌, inl, inr, List, [], ◌∷◌, ◌++◌, ◌-◌, ◌^◌, length, map, slice_index_or, refl, sym, ap, ◌∙◌, subst, arith, ◌≢◌, Option, Result, Ok, Err, IsSomeAnd, IsOkAnd, IfOk, IfErr, MatchResult, slice_get, Contains}
+use Rattle.std.specs.List.{All, AllZip, flat_map, sum_by, zip}
 use Rattle.std.proofs.lemmas.List.Elements.{All-cons, All-head, All-nil, All-tail, All-weaker}
 use Rattle.std.proofs.lemmas.List.Sums.{sum_by-cons}
 use Rattle.stage_graph.specs.Plain.{PlainGraph}
@@ -14,7 +14,7 @@ use Rattle.serve_script.specs.Answers.{opening_state}
 use Rattle.desk.specs.Clients.{AreNew, ClientView, HasSeen, IsNew, entries_of}
 use Rattle.desk.specs.Closing.{Agrees, GoesWith, IsClosed}
 use Rattle.desk.specs.Locked.{Replays}
-use Rattle.many_scripts.specs.Gathered.{AreGathered, AreSeats, with_client}
+use Rattle.many_scripts.specs.Gathered.{AreGathered, ArePlayed, AreSeats, IsWhole, with_client}
 use Rattle.many_scripts.specs.Outputs.{AreOfLog, log_line, script_text, scripts_text}
 use Rattle.many_scripts.specs.Played.{IsPlayed}
 use Rattle.many_scripts.specs.Playing.{HasHeard}
@@ -185,6 +185,93 @@ module _ {S P R : Type 0} (seated : S → ClientView) (script : S → R) (client
           whole = text_is ∙ ap (λ o. o ++ log_line (length log.history)) (gathered.output_is ∙ parts.output);
         };
       }
+
+-- what came of the seats, said of the clients before and after
+module _ {S P R : Type 0} (seated : S → ClientView) (script : S → R) (client : P → ClientView) (text : P → List ℕ) (remaining : R → Option (List ℕ)) (failures : R → ℕ) where
+  of_seats : (seats : List S) (done : List P) → AllZip (CameOf seated script client text remaining failures) seats (map Ok done)
+      → AllZip (λ (seat : ClientView × R) (play : ClientView × List ℕ). IsPlay remaining failures seat.0 seat.1 play.0 play.1) (zip (map seated seats) (map script seats)) (map (λ d. (client d, text d)) done)
+  of_seats [] [] came = tt
+  of_seats [] (d ∷ ds) came = absurd came
+  of_seats (s ∷ ss) [] came = absurd came
+  of_seats (s ∷ ss) (d ∷ ds) came = (came.0, of_seats ss ds came.1)
+
+  clients_of : (done : List P) → map client done ≡ map (λ (play : ClientView × List ℕ). play.0) (map (λ d. (client d, text d)) done)
+  clients_of [] = refl
+  clients_of (d ∷ ds) = ap (λ l. client d ∷ l) (clients_of ds)
+
+  texts_of : (done : List P) → flat_map text done ≡ flat_map (λ (play : ClientView × List ℕ). play.1) (map (λ d. (client d, text d)) done)
+  texts_of [] = refl
+  texts_of (d ∷ ds) = ap (λ l. text d ++ l) (texts_of ds)
+
+  pub are_played : (seats : List S) (plays : List (Result P ManyFault)) (clients fresh : List ClientView) (scripts : List R) (output : List ℕ)
+      → AllZip (CameOf seated script client text remaining failures) seats plays → AreGathered plays client text clients output → AreSeats seats seated script fresh scripts
+      → ArePlayed remaining failures fresh scripts clients output
+  are_played seats plays clients fresh scripts output came gathered are = record {
+    done = map (λ d. (client d, text d)) gathered.done;
+    played = subst (λ (l : List ClientView). AllZip (λ (seat : ClientView × R) (play : ClientView × List ℕ). IsPlay remaining failures seat.0 seat.1 play.0 play.1) (zip l scripts) (map (λ d. (client d, text d)) gathered.done)) are.clients_are
+        (subst (λ (l : List R). AllZip (λ (seat : ClientView × R) (play : ClientView × List ℕ). IsPlay remaining failures seat.0 seat.1 play.0 play.1) (zip (map seated seats) l) (map (λ d. (client d, text d)) gathered.done)) are.scripts_are
+        (of_seats seats gathered.done (subst (AllZip (CameOf seated script client text remaining failures) seats) gathered.plays_are came)));
+    clients_are = gathered.clients_are ∙ clients_of gathered.done;
+    texts_are = gathered.output_is ∙ texts_of gathered.done;
+  }
+
+module _ {R : Type 0} (remaining : R → Option (List ℕ)) (failures : R → ℕ) where
+  all_done : (seats : List (ClientView × R)) (done : List (ClientView × List ℕ))
+      → AllZip (λ (seat : ClientView × R) (play : ClientView × List ℕ). IsPlay remaining failures seat.0 seat.1 play.0 play.1) seats done
+      → AllZip (CameOf (λ (seat : ClientView × R). seat.0) (λ (seat : ClientView × R). seat.1) (λ (play : ClientView × List ℕ). play.0) (λ (play : ClientView × List ℕ). play.1) remaining failures) seats (map Ok done)
+  all_done [] [] played = tt
+  all_done [] (d ∷ ds) played = absurd played
+  all_done (s ∷ ss) [] played = absurd played
+  all_done (s ∷ ss) (d ∷ ds) played = (played.0, all_done ss ds played.1)
+
+  firsts : (fresh : List ClientView) (scripts : List R) → length fresh ≡ length scripts → map (λ (seat : ClientView × R). seat.0) (zip fresh scripts) ≡ fresh
+  firsts [] scripts same = refl
+  firsts (c ∷ cs) [] same = absurd (omega (arith, same))
+  firsts (c ∷ cs) (r ∷ rs) same = ap (λ l. c ∷ l) (firsts cs rs (omega (arith, same)))
+
+  seconds : (fresh : List ClientView) (scripts : List R) → length fresh ≡ length scripts → map (λ (seat : ClientView × R). seat.1) (zip fresh scripts) ≡ scripts
+  seconds [] [] same = refl
+  seconds [] (r ∷ rs) same = absurd (omega (arith, same))
+  seconds (c ∷ cs) [] same = absurd (omega (arith, same))
+  seconds (c ∷ cs) (r ∷ rs) same = ap (λ l. r ∷ l) (seconds cs rs (omega (arith, same)))
+
+  -- the output of clients that were new and have played
+  pub output_of_played : (graph : PlainGraph) (first : List PlainVersion) (n : ℕ) (fresh clients : List ClientView) (scripts : List R) (texts output : List ℕ) (opening : State)
+      → ArePlayed remaining failures fresh scripts clients texts → IsWhole opening clients texts output → length fresh ≡ length scripts → AreNew first n fresh → opening ≡ opening_state graph
+      → IsOutputOf remaining failures graph scripts output
+  output_of_played graph first n fresh clients scripts texts output opening played whole same new is =
+      whole_output (λ (seat : ClientView × R). seat.0) (λ (seat : ClientView × R). seat.1) (λ (play : ClientView × List ℕ). play.0) (λ (play : ClientView × List ℕ). play.1) remaining failures
+      graph whole.log first n (zip fresh scripts) (map Ok played.done) clients fresh scripts texts output opening
+      (all_done (zip fresh scripts) played.done played.played)
+      (record { done = played.done; plays_are = refl; clients_are = played.clients_are; output_is = played.texts_are })
+      (record { clients_are = firsts fresh scripts same; scripts_are = seconds fresh scripts same })
+      new whole.closed whole.opened is whole.output_is
+
+  otherwise : (scripts : List R) (fault : ManyFault) → fault ≢ Read → fault ≢ Write → EndsBy remaining failures scripts fault
+  otherwise scripts Read unread unwritten = absurd (unread refl)
+  otherwise scripts Write unread unwritten = absurd (unwritten refl)
+  otherwise scripts NoThread unread unwritten = tt
+  otherwise scripts Missing unread unwritten = tt
+  otherwise scripts Torn unread unwritten = tt
+  otherwise scripts Memory unread unwritten = tt
+
+  module _ {W O : Type 0} (clients : W → List ClientView) (texts : W → List ℕ) (bytes : O → List ℕ) where
+    pub comes_out : (gathered : Result W ManyFault) (result : Result O ManyFault) (graph : PlainGraph) (first : List PlainVersion) (n : ℕ) (fresh : List ClientView) (scripts : List R) (opening : State)
+        → IfOk gathered (λ ended. ArePlayed remaining failures fresh scripts (clients ended) (texts ended))
+        → IfOk result (λ output. IsOkAnd gathered (λ ended. IsWhole opening (clients ended) (texts ended) (bytes output)))
+        → length fresh ≡ length scripts → AreNew first n fresh → opening ≡ opening_state graph
+        → IfOk result (λ output. IsOutputOf remaining failures graph scripts (bytes output))
+    comes_out gathered (Err fault) graph first n fresh scripts opening played whole same new is = tt
+    comes_out (Err fault) (Ok output) graph first n fresh scripts opening played whole same new is = absurd whole
+    comes_out (Ok ended) (Ok output) graph first n fresh scripts opening played whole same new is =
+        output_of_played graph first n fresh (clients ended) scripts (texts ended) (bytes output) opening played whole same new is
+
+  pub comes_to_fault : {W O : Type 0} (gathered : Result W ManyFault) (result : Result O ManyFault) (scripts : List R)
+      → IfErr gathered (EndsBy remaining failures scripts) → IfErr result (λ fault. (gathered ≡ Err fault) ⊎ ((fault ≢ Read) × (fault ≢ Write)))
+      → IfErr result (EndsBy remaining failures scripts)
+  comes_to_fault gathered (Ok output) scripts ends err = tt
+  comes_to_fault gathered (Err fault) scripts ends (inl same) = subst (λ (r : Result _ _). IfErr r (EndsBy remaining failures scripts)) same ends
+  comes_to_fault gathered (Err fault) scripts ends (inr (unread, unwritten)) = otherwise scripts fault unread unwritten
 
 module _ {S T R : Type 0} (client : S → ClientView) (script : S → R) (text : S → Result T ManyFault) (items : T → List ℕ) (remaining : R → Option (List ℕ)) (failures : R → ℕ) where
   came : (seat : S) (c : ClientView) (r : Result T ManyFault) → MatchResult r (λ t. IsPlay remaining failures (client seat) (script seat) c (items t)) (EndsReading remaining failures (script seat))

@@ -1,5 +1,5 @@
 -- What the clients have done, gathered.
-use Rattle.std.proofs.Common.{◌≡◌, ℕ, suc, ◌<◌, List, [], ◌∷◌, ◌++◌, append-nil, length, slice_index_or, arith, refl, map, sym, ap, ◌∙◌, subst, Result, Ok, Err, Contains}
+use Rattle.std.proofs.Common.{◌≡◌, ℕ, zero, suc, ◌<◌, ◌⊎◌, inl, inr, List, [], ◌∷◌, ◌++◌, append-nil, length, slice_index_or, arith, refl, map, sym, ap, ◌∙◌, subst, Result, Ok, Err, Contains, IfOk, IfErr, IsOkAnd, MatchResult}
 use Rattle.std.specs.List.{AllZip, flat_map}
 use Rattle.std.proofs.lemmas.List.{map-append}
 use Rattle.std.proofs.lemmas.Grind.{flat_map-append}
@@ -25,6 +25,11 @@ all_zip P (x ∷ xs) (y ∷ ys) same each = (
   each 0 x (omega arith),
   all_zip P xs ys (omega (arith, same)) (λ i d within. each (suc i) d (omega (arith, within))),
 )
+
+contains_more : {X : Type 0} (xs ys : List X) (x : X) → Contains xs x → Contains (xs ++ ys) x
+contains_more [] ys x (k, below, at) = absurd (omega (arith, below))
+contains_more (y ∷ xs) ys x (zero, below, at) = (0, omega arith, at)
+contains_more (y ∷ xs) ys x (suc k, below, at) = let (j, within, is) = contains_more xs ys x (k, omega (arith, below), at) in (suc j, omega (arith, within), is)
 
 contains_between : {X : Type 0} (xs : List X) (x : X) (ys : List X) → Contains (xs ++ x ∷ ys) x
 contains_between [] x ys = (0, omega arith, refl)
@@ -59,3 +64,61 @@ module _ {S C T E : Type 0} (client : S → C) (text : S → Result T E) (items 
   seats_done all yielded [] clients output are none gathered =
       subst (λ l. AreGathered (map (λ s. with_client (client s) (text s)) l) (λ (played : C × T). played.0) (λ played. items played.1) clients output) (sym (are ∙ append-nil yielded)) gathered
   seats_done all yielded (s ∷ rest) clients output are none gathered = absurd (omega (arith, none))
+
+module _ {S C T E W : Type 0} (client : S → C) (text : S → Result T E) (items : T → List ℕ) (clients : W → List C) (texts : W → List ℕ) (memory : E) where
+  -- what the seats so far have come to
+  abbrev pub SoFar : List S → Result W E → Type 0
+  SoFar seats gathered = MatchResult gathered
+      (λ ended. AreGathered (map (λ s. with_client (client s) (text s)) seats) (λ (played : C × T). played.0) (λ played. items played.1) (clients ended) (texts ended))
+      (λ fault. (fault ≡ memory) ⊎ Contains (map (λ s. with_client (client s) (text s)) seats) (Err fault))
+
+  -- a seat that ended well, after others that did
+  both : (seats : List S) (seat : S) (before after : W) (told : Result T E) → text seat ≡ told → SoFar seats (Ok before)
+      → clients after ≡ clients before ++ client seat ∷ [] → IsOkAnd told (λ t. texts after ≡ texts before ++ items t)
+      → SoFar (seats ++ seat ∷ []) (Ok after)
+  both seats seat before after (Ok t) is so_far clients_are texts_are =
+      seat_more client text items seats seat t (clients before) (clients after) (texts before) (texts after) so_far is clients_are texts_are
+  both seats seat before after (Err fault) is so_far clients_are texts_are = absurd texts_are
+
+  -- a fault of the seats so far is one of those with one more
+  still : (seats : List S) (seat : S) (fault : E) → (fault ≡ memory) ⊎ Contains (map (λ s. with_client (client s) (text s)) seats) (Err fault)
+      → (fault ≡ memory) ⊎ Contains (map (λ s. with_client (client s) (text s)) (seats ++ seat ∷ [])) (Err fault)
+  still seats seat fault (inl is) = inl is
+  still seats seat fault (inr there) =
+      inr (subst (λ l. Contains l (Err fault)) (sym (map-append (λ s. with_client (client s) (text s)) seats (seat ∷ [])))
+      (contains_more (map (λ s. with_client (client s) (text s)) seats) (with_client (client seat) (text seat) ∷ []) (Err fault) there))
+
+  -- one seat more
+  pub one_more : (seats : List S) (seat : S) (before after : Result W E) → SoFar seats before
+      → IfOk after (λ a. IsOkAnd before (λ b. (clients a ≡ clients b ++ client seat ∷ []) × IsOkAnd (text seat) (λ t. texts a ≡ texts b ++ items t)))
+      → IfErr after (λ fault. (fault ≡ memory) ⊎ ((before ≡ Err fault) ⊎ (text seat ≡ Err fault)))
+      → SoFar (seats ++ seat ∷ []) after
+  one_more seats seat (Ok b) (Ok a) so_far ok err = both seats seat b a (text seat) refl so_far ok.0 ok.1
+  one_more seats seat (Err e) (Ok a) so_far ok err = absurd ok
+  one_more seats seat before (Err fault) so_far ok (inl is) = inl is
+  one_more seats seat before (Err fault) so_far ok (inr (inl is)) = still seats seat fault (subst (SoFar seats) is so_far)
+  one_more seats seat before (Err fault) so_far ok (inr (inr is)) = inr (seat_failed client text items (seats ++ seat ∷ []) seats [] seat fault refl is)
+
+  -- no seat is left
+  pub all_gathered : (all yielded rest : List S) (gathered : Result W E) → all ≡ yielded ++ rest → length rest ≡ 0 → SoFar yielded gathered → SoFar all gathered
+  all_gathered all yielded [] gathered are none so_far = subst (λ l. SoFar l gathered) (sym (are ∙ append-nil yielded)) so_far
+  all_gathered all yielded (s ∷ rest) gathered are none so_far = absurd (omega (arith, none))
+
+pub if_ok : {W E : Type 0} (P : W → Type 0) (Q : E → Type 0) (r : Result W E) → MatchResult r P Q → IfOk r P
+if_ok P Q (Ok w) is = is
+if_ok P Q (Err e) is = tt
+
+pub if_err : {W E : Type 0} (P : W → Type 0) (Q : E → Type 0) (r : Result W E) → MatchResult r P Q → IfErr r Q
+if_err P Q (Ok w) is = tt
+if_err P Q (Err e) is = is
+
+pub ok_follows : {W E : Type 0} (P Q : W → Type 0) (r : Result W E) → ((w : W) → P w → Q w) → IfOk r P → IfOk r Q
+ok_follows P Q (Ok w) step is = step w is
+ok_follows P Q (Err e) step is = tt
+
+pub err_follows : {W E : Type 0} (P Q : E → Type 0) (r : Result W E) → ((e : E) → P e → Q e) → IfErr r P → IfErr r Q
+err_follows P Q (Ok w) step is = tt
+err_follows P Q (Err e) step is = step e is
+
+pub ok_and : {W E : Type 0} (r : Result W E) (w : W) (P : W → Type 0) → r ≡ Ok w → P w → IsOkAnd r P
+ok_and r w P is p = subst (λ (q : Result _ _). IsOkAnd q P) (sym is) p

@@ -1,6 +1,13 @@
 -- Lists of what several clients have and have done.
-use Rattle.std.specs.Prelude.{◌≡◌, ℕ, List, map, Result, Ok, Err}
-use Rattle.std.specs.List.{flat_map}
+use Rattle.std.specs.Prelude.{◌≡◌, ℕ, List, ◌++◌, map, length, Option, Result, Ok, Err}
+use Rattle.std.specs.List.{AllZip, flat_map, zip}
+use Rattle.session_core.specs.Log.{opening_of}
+use Rattle.session_core.specs.Machine.{State}
+use Rattle.session_core.specs.TableView.{TableView}
+use Rattle.desk.specs.Clients.{ClientView}
+use Rattle.desk.specs.Closing.{IsClosed}
+use Rattle.many_scripts.specs.Outputs.{log_line}
+use Rattle.many_scripts.specs.Scripts.{IsPlay}
 
 -- the seats have these clients and these scripts, in order
 pub record AreSeats {S C R : Type 0} (seats : List S) (client : S → C) (script : S → R) (clients : List C) (scripts : List R) : Type 0 where
@@ -18,3 +25,17 @@ pub record AreGathered {P C E : Type 0} (plays : List (Result P E)) (client : P 
   pub plays_are : plays ≡ map Ok done
   pub clients_are : clients ≡ map client done
   pub output_is : output ≡ flat_map text done
+
+-- each client has played its script: these are the clients before and after, and their texts one after the other
+pub record ArePlayed {R : Type 0} (remaining : R → Option (List ℕ)) (failures : R → ℕ) (fresh : List ClientView) (scripts : List R) (clients : List ClientView) (texts : List ℕ) : Type 0 where
+  pub done : List (ClientView × List ℕ)
+  pub played : AllZip (λ (seat : ClientView × R) (play : ClientView × List ℕ). IsPlay remaining failures seat.0 seat.1 play.0 play.1) (zip fresh scripts) done
+  pub clients_are : clients ≡ map (λ (play : ClientView × List ℕ). play.0) done
+  pub texts_are : texts ≡ flat_map (λ (play : ClientView × List ℕ). play.1) done
+
+-- the clients' desk, which has begun so, is closed, and the output is the texts and then how many entries its log has
+pub record IsWhole (opening : State) (clients : List ClientView) (texts output : List ℕ) : Type 0 where
+  pub log : TableView
+  pub closed : IsClosed log clients
+  pub opened : opening_of log.state ≡ opening
+  pub output_is : output ≡ texts ++ log_line (length log.history)

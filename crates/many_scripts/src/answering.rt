@@ -10,14 +10,14 @@ ghost use Rattle.many_scripts.specs.Playing.{Answers, HasHeard, IsAskedAlone};
 
 use crate::access::Access;
 use crate::events::{book, commit};
-use desk::{Client, Known, Naming, ReadFault};
+use desk::{Client, Desk, Known, Naming, ReadFault};
 use level_pool::Runner;
 use recording::{Asked, Step, Subject};
 use script_lines::AnswerFault;
 use serve_script::{against_in, push_reply, write_asked, write_text};
 use session_core::{Event, Reply, TableFault};
 use share_tree::Held;
-use stage_graph::{Edits, InShared};
+use stage_graph::Edits;
 use std::alloc::Global;
 use std::sync::Wait;
 use text_io::Sink;
@@ -39,6 +39,31 @@ fn write_reply<K: StateRepresentation, S: Sink>(
     let mut line = String::new(alloc);
     push_reply(&mut line, base, event, listed, reply)?;
     write_text(line.as_bytes(), sink)
+}
+
+/// No version of a desk.
+fn no_version<N: Naming, K: StateRepresentation, H: Wait + Drop>(
+    _desk: &Desk<N, K, H>,
+) -> Option<&Version<K>>
+    ensures { result ≡ None }
+{
+    None
+}
+
+/// Writes the reply to an event that edits no version.
+fn write_lone_reply<N: Naming, K: StateRepresentation, H: Wait + Drop, W, S: Sink>(
+    access: &Access<'_, N, K, H, W>,
+    event: &Event,
+    listed: bool,
+    reply: Reply,
+    sink: &mut S,
+) -> Result<(), AnswerFault>
+    requires { S.failures sink.old < 2 ^ 64 - 1 }
+    ensures ok { OnOk result (Appends (S.held sink.old) (S.held sink.new) (reply_line None event.now listed reply)) }
+    ensures failures { S.failures sink.new ≡ S.failures sink.old + failed_writes result }
+{
+    let base = no_version(access.desk);
+    write_reply(access.alloc, base, event, listed, reply, sink)
 }
 
 /// Writes that there is no version of the number.
@@ -64,7 +89,7 @@ fn answer_event<N: Naming, K: StateRepresentation, H: Wait + Drop, W, S: Sink>(
     ensures failures { S.failures sink.new ≡ S.failures sink.old + failed_writes result }
 {
     let reply = book(access, client, event)?;
-    write_reply::<InShared, S>(access.alloc, None, event, false, reply, sink)
+    write_lone_reply(access, event, false, reply, sink)
 }
 
 /// Asks for edits of a version, and writes the reply.
@@ -133,7 +158,7 @@ fn answer_head<N: Naming, K: StateRepresentation, H: Wait + Drop, W: Runner, S: 
         Err(TableFault::Refused(refusal)) => {
             let event = Event::Head { session };
             let reply = Reply::Refused(refusal);
-            write_reply::<InShared, S>(access.alloc, None, &event, listed, reply, sink)
+            write_lone_reply(access, &event, listed, reply, sink)
         }
         Err(TableFault::Memory) => Err(AnswerFault::Memory),
     }
@@ -160,13 +185,6 @@ fn answer_change<N: Naming, K: StateRepresentation, H: Wait + Drop, W: Runner, S
     }
 }
 
-/// No version to compare with this one.
-fn no_other<K: StateRepresentation>(_version: &Version<K>) -> Option<&Version<K>>
-    ensures { result ≡ None }
-{
-    None
-}
-
 /// Writes the report of a version, which compares it with no other, or with the version of a number.
 fn answer_of<N: Naming, K: StateRepresentation, H: Wait + Drop, W: Runner, S: Sink>(
     access: &Access<'_, N, K, H, W>,
@@ -182,7 +200,7 @@ fn answer_of<N: Naming, K: StateRepresentation, H: Wait + Drop, W: Runner, S: Si
 {
     match against_in(asked) {
         None => {
-            let against = no_other(version);
+            let against = no_version(access.desk);
             write_asked(access.alloc, version, against, asked, access.runner, sink)
         }
         Some(number) => answer_against(access, client, version, number, asked, sink),
@@ -255,7 +273,7 @@ fn answer_stand<N: Naming, K: StateRepresentation, H: Wait + Drop, W: Runner, S:
         Err(TableFault::Refused(refusal)) => {
             let event = Event::Head { session };
             let reply = Reply::Refused(refusal);
-            write_reply::<InShared, S>(access.alloc, None, &event, false, reply, sink)
+            write_lone_reply(access, &event, false, reply, sink)
         }
         Err(TableFault::Memory) => Err(AnswerFault::Memory),
     }

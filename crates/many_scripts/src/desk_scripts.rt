@@ -1,19 +1,22 @@
 //! Several scripts at once.
-ghost use Rattle.std.specs.Prelude.{◌≡◌, ◌≢◌, ◌≤◌, ◌<◌, ◌+◌, ◌-◌, ◌^◌, ◌++◌, All, OnOk, IfOk, IfErr, length, vec_len};
+ghost use Rattle.std.specs.Prelude.{◌≡◌, ◌≢◌, ◌⊎◌, ◌≤◌, ◌<◌, ◌+◌, ◌-◌, ◌^◌, ◌++◌, ◌∷◌, [], All, Err, OnOk, IfOk, IfErr, IsOkAnd, length, vec_len};
 ghost use Rattle.std.specs.Io.KnownBytes.{Appends};
 ghost use Rattle.text_io.specs.Sink.{AppendsPrefix};
 ghost use Rattle.stage_graph.specs.Walk.{IsRanked};
+ghost use Rattle.version_store.specs.Plain.{opening_version};
 ghost use Rattle.session_core.specs.Log.{opening_of};
 ghost use Rattle.session_core.specs.TableView.{TableView};
 ghost use Rattle.serve_script.specs.Answers.{opening_state};
+ghost use Rattle.desk.specs.Clients.{AreNew};
 ghost use Rattle.desk.specs.Closing.{IsClosed};
 ghost use Rattle.many_scripts.specs.Faults.{failed_writes_of_many};
+ghost use Rattle.many_scripts.specs.Gathered.{IsWhole};
 ghost use Rattle.many_scripts.specs.Outputs.{log_line};
 ghost use Rattle.many_scripts.specs.Scripts.{EndsBy, IsOutputOf, EndsManyBy, Writes};
 ghost use Rattle.many_scripts.specs.declared.fault.ManyFault.{ManyFault};
 
 use crate::fault::ManyFault;
-use crate::gathering::{gather, play_all, seats_of};
+use crate::gathering::{Ended, ended_by};
 use desk::{Client, CloseFault, Desk, Naming, NewArchive, start};
 use level_pool::Workers;
 use stage_graph::{Graph, InShared};
@@ -56,6 +59,43 @@ fn with_log_line(alloc: Global, texts: Vec<u8>, count: usize) -> Result<Vec<u8>,
     Ok(whole)
 }
 
+/// A desk that begins with a graph, and its clients.
+fn begun<N: Naming, K: StateRepresentation, H: Wait + Drop>(
+    rt: H,
+    alloc: Global,
+    blank: Blank,
+    archive: NewArchive<K>,
+    graph: Graph<K>,
+    clients: u32,
+) -> Result<(Desk<N, K, H>, Vec<Client<N, K>>), AllocError>
+    requires ranked { IsRanked graph.places }
+    requires clients { (1 ≤ clients) × (clients ≤ 64) × (blank.parts ≡ clients) × (N.clients ≡ clients) }
+    requires name { blank.name ≡ N.name }
+    requires parts { blank.parts ≡ N.parts }
+    requires book { archive.seen.book ≡ N.book }
+    requires opening { N.opening ≡ opening_state graph }
+    ensures { IfOk result (λ started. AreNew (opening_version graph ∷ []) clients started.1.items) }
+{
+    let first = Version::load(alloc, graph)?;
+    start(rt, alloc, blank, archive, first, clients, MOST_VERSIONS)
+}
+
+/// The output once the desk of the clients is closed, if all scripts were played.
+fn output_of<N: Naming, K: StateRepresentation, H: Wait + Drop>(
+    alloc: Global,
+    desk: Desk<N, K, H>,
+    gathered: Result<Ended<Client<N, K>>, ManyFault>,
+) -> Result<Vec<u8>, ManyFault>
+    requires { N.clients ≡ N.parts }
+    ensures ok { IfOk result (λ output. IsOkAnd gathered (λ ended. IsWhole N.opening ended.clients.items ended.texts.items output.items)) }
+    ensures err { IfErr result (λ fault. (gathered ≡ Err fault) ⊎ ((fault ≢ ManyFault.Read) × (fault ≢ ManyFault.Write))) }
+{
+    let ended = gathered?;
+    let Ended { clients, texts } = ended;
+    let count = entries_of_closed(desk, clients)?;
+    Ok(with_log_line(alloc, texts, count)?)
+}
+
 /// The output for the scripts, by the clients of the desk that has this name.
 fn played<
     N: Naming + Send + Sync,
@@ -81,21 +121,9 @@ fn played<
     ensures err { IfErr result (EndsBy R.remaining R.failures scripts.items) }
 {
     let count = scripts.len() as u32;
-    let first = Version::load(alloc, graph)?;
-    let (desk, clients) = start::<N, InShared, H>(
-        rt,
-        alloc,
-        blank,
-        archive,
-        first,
-        count,
-        MOST_VERSIONS,
-    )?;
-    let mut seats = seats_of(&rt, alloc, &desk, workers, clients, scripts)?;
-    play_all(&rt, &mut seats);
-    let (clients, texts) = gather(alloc, seats)?;
-    let count = entries_of_closed(desk, clients)?;
-    Ok(with_log_line(alloc, texts, count)?)
+    let (desk, clients) = begun::<N, InShared, H>(rt, alloc, blank, archive, graph, count)?;
+    let ended = ended_by(&rt, alloc, &desk, workers, clients, scripts);
+    output_of(alloc, desk, ended)
 }
 
 /// The output for the scripts, by the clients of a new desk.

@@ -1,8 +1,9 @@
 //! The clients with their scripts, in threads of their own, and what came of them.
-ghost use Rattle.std.specs.Prelude.{◌≡◌, ◌⊎◌, ◌++◌, ◌∷◌, [], map, All, Contains, Err, IfOk, IfErr, MatchResult, vec_len};
+ghost use Rattle.std.specs.Prelude.{◌≡◌, ◌<◌, ◌-◌, ◌^◌, ◌⊎◌, ◌++◌, ◌∷◌, [], map, All, Contains, Err, IfOk, IfErr, IsOkAnd, MatchResult, vec_len};
 ghost use Rattle.std.specs.List.{AllZip};
-ghost use Rattle.many_scripts.specs.Gathered.{AreGathered, AreSeats, with_client};
-ghost use Rattle.many_scripts.specs.Scripts.{EndsReading, IsPlay, IsReady};
+ghost use Rattle.many_scripts.specs.Gathered.{AreGathered, ArePlayed, AreSeats, with_client};
+ghost use Rattle.many_scripts.specs.Playing.{HasHeard};
+ghost use Rattle.many_scripts.specs.Scripts.{EndsBy, EndsReading, IsPlay, IsReady};
 ghost use Rattle.many_scripts.specs.declared.fault.ManyFault.{ManyFault};
 
 use crate::fault::ManyFault;
@@ -14,10 +15,9 @@ use std::alloc::{AllocError, Global};
 use std::sync::Wait;
 use std::thread::{self, Threads};
 use text_io::Source;
-use version_store::StateRepresentation;
 
 /// Each client with its script.
-pub(crate) fn seats_of<'a, N: Naming, H: Wait + Drop, R: Drop>(
+fn seats_of<'a, N: Naming, H: Wait + Drop, R: Drop>(
     rt: &'a H,
     alloc: Global,
     desk: &'a Desk<N, InShared, H>,
@@ -28,13 +28,13 @@ pub(crate) fn seats_of<'a, N: Naming, H: Wait + Drop, R: Drop>(
     requires { vec_len clients ≡ vec_len scripts }
     ensures { IfOk result (λ seats. AreSeats seats.items (λ seat. seat.client) (λ seat. seat.source) clients.items scripts.items) }
 {
-    let mut seats = Vec::new(alloc);
+    let mut seats = Vec::with_capacity(alloc, clients.len())?;
     let mut sources = scripts.into_iter();
     for client in clients {
         let Some(source) = sources.next() else {
             unreachable!()
         };
-        seats.push(Seat {
+        seats.push_reserved(Seat {
             rt,
             alloc,
             desk,
@@ -42,17 +42,16 @@ pub(crate) fn seats_of<'a, N: Naming, H: Wait + Drop, R: Drop>(
             client,
             source,
             text: Ok(Vec::new(alloc)),
-        })?;
+        });
     }
     Ok(seats)
 }
 
 /// Each client answers its script, in a thread of its own where one can be had.
-pub(crate) fn play_all<
-    N: Naming + Send + Sync,
-    H: Threads + Wait + Drop + Send + Sync,
-    R: Source + Send,
->(rt: &H, seats: &mut [Seat<'_, N, H, R>])
+fn play_all<N: Naming + Send + Sync, H: Threads + Wait + Drop + Send + Sync, R: Source + Send>(
+    rt: &H,
+    seats: &mut [Seat<'_, N, H, R>],
+)
     requires ready { All (λ seat. IsReady R.failures seat.client seat.source) seats.old }
     ensures { AllZip (λ before after. MatchResult after.text (λ text. IsPlay R.remaining R.failures before.client before.source after.client text.items) (EndsReading R.remaining R.failures before.source)) seats.old seats.new }
 {
@@ -77,11 +76,18 @@ pub(crate) fn play_all<
     );
 }
 
+/// The clients that have ended, and the texts of their scripts one after the other.
+#[derive(Drop)]
+pub(crate) struct Ended<C> {
+    pub(crate) clients: Vec<C>,
+    pub(crate) texts: Vec<u8>,
+}
+
 /// Adds a client with the text of its script.
-fn add_client<N: Naming, K: StateRepresentation>(
-    client: Client<N, K>,
+fn add_client<C: Drop>(
+    client: C,
     mut text: Vec<u8>,
-    clients: &mut Vec<Client<N, K>>,
+    clients: &mut Vec<C>,
     output: &mut Vec<u8>,
 ) -> Result<(), AllocError>
     ensures clients { IfOk result (λ _. clients.new.items ≡ clients.old.items ++ client ∷ []) }
@@ -93,19 +99,64 @@ fn add_client<N: Naming, K: StateRepresentation>(
     Ok(())
 }
 
+/// The clients that have ended with one more, if all scripts were played.
+fn with_one_more<C: Drop>(
+    gathered: Result<Ended<C>, ManyFault>,
+    client: C,
+    text: Result<Vec<u8>, ManyFault>,
+) -> Result<Ended<C>, ManyFault>
+    ensures ok { IfOk result (λ after. IsOkAnd gathered (λ before. (after.clients.items ≡ before.clients.items ++ client ∷ []) × IsOkAnd text (λ told. after.texts.items ≡ before.texts.items ++ told.items))) }
+    ensures err { IfErr result (λ fault. (fault ≡ ManyFault.Memory) ⊎ ((gathered ≡ Err fault) ⊎ (text ≡ Err fault))) }
+{
+    let text = text?;
+    let ended = gathered?;
+    let Ended {
+        mut clients,
+        mut texts,
+    } = ended;
+    add_client(client, text, &mut clients, &mut texts)?;
+    Ok(Ended { clients, texts })
+}
+
 /// The clients, and the texts of their scripts one after the other, if all were played.
-pub(crate) fn gather<N: Naming, H: Wait + Drop, R: Drop>(
+fn gather<N: Naming, H: Wait + Drop, R: Drop>(
     alloc: Global,
     seats: Vec<Seat<'_, N, H, R>>,
-) -> Result<(Vec<Client<N, InShared>>, Vec<u8>), ManyFault>
-    ensures ok { IfOk result (λ gathered. AreGathered (map (λ seat. with_client seat.client seat.text) seats.entry.items) (λ played. played.0) (λ played. played.1.items) gathered.0.items gathered.1.items) }
+) -> Result<Ended<Client<N, InShared>>, ManyFault>
+    ensures ok { IfOk result (λ ended. AreGathered (map (λ seat. with_client seat.client seat.text) seats.entry.items) (λ played. played.0) (λ played. played.1.items) ended.clients.items ended.texts.items) }
     ensures err { IfErr result (λ fault. (fault ≡ ManyFault.Memory) ⊎ Contains (map (λ seat. with_client seat.client seat.text) seats.entry.items) (Err fault)) }
 {
-    let mut clients = Vec::new(alloc);
-    let mut output = Vec::new(alloc);
+    let clients = Vec::new(alloc);
+    let texts = Vec::new(alloc);
+    let mut gathered = Ok(Ended { clients, texts });
     for seat in seats {
         let Seat { client, text, .. } = seat;
-        add_client(client, text?, &mut clients, &mut output)?;
+        gathered = with_one_more(gathered, client, text);
     }
-    Ok((clients, output))
+    gathered
+}
+
+/// The clients once each has answered its script, in threads of their own where these can be had.
+pub(crate) fn ended_by<
+    N: Naming + Send + Sync,
+    H: Threads + Wait + Drop + Send + Sync,
+    R: Source + Send + Drop,
+>(
+    rt: &H,
+    alloc: Global,
+    desk: &Desk<N, InShared, H>,
+    workers: Workers,
+    clients: Vec<Client<N, InShared>>,
+    scripts: Vec<R>,
+) -> Result<Ended<Client<N, InShared>>, ManyFault>
+    requires len { vec_len clients ≡ vec_len scripts }
+    requires heard { All HasHeard clients.items }
+    requires new { All (λ client. client.calls ≡ []) clients.items }
+    requires reads { All (λ script. R.failures script < 2 ^ 64 - 1) scripts.items }
+    ensures ok { IfOk result (λ ended. ArePlayed R.remaining R.failures clients.items scripts.items ended.clients.items ended.texts.items) }
+    ensures err { IfErr result (EndsBy R.remaining R.failures scripts.items) }
+{
+    let mut seats = seats_of(rt, alloc, desk, workers, clients, scripts)?;
+    play_all(rt, &mut seats);
+    gather(alloc, seats)
 }

@@ -42,13 +42,13 @@ IsTextOf recording of text = (graph : PlainGraph) × IsNamed (Ok graph) (named r
 abbrev pub IsReported : List ℕ → (PlainGraph → Option (List ℕ)) → Option (List ℕ) → Option (List ℕ) → Result (Unit {0}) RecordingFault → Type 0
 -- the whole report
 IsReported recording of old new (Ok done) = (text : List ℕ) × IsTextOf recording of (Some text) × Appends old new text
--- nothing, as the recording is refused, or memory was wanting before the report began
+-- nothing, as the recording is refused, or memory ran out before the report began
 IsReported recording of old new (Err (Refused fault)) = IsNamed (Err fault) (named recording) × Keeps old new
 -- nothing, as there is nothing to report
 IsReported recording of old new (Err NoStage) = IsTextOf recording of None × Keeps old new
 -- a part of the report, as a write failed
 IsReported recording of old new (Err Write) = (text : List ℕ) × IsTextOf recording of (Some text) × AppendsPrefix old new text
--- a part of the report, as memory was wanting while it was written
+-- a part of the report, as memory ran out while it was written
 IsReported recording of old new (Err Memory) = (text : List ℕ) × IsTextOf recording of (Some text) × AppendsPrefix old new text
 
 -- the number by which a fault is printed

@@ -8,7 +8,7 @@ use thiserror::Error;
 /// Why the report of a recording was not written to its end.
 #[derive(Debug, Drop, Error)]
 pub enum RecordingFault {
-    /// The recording is refused, or memory was wanting before the report began; nothing was written.
+    /// The recording is refused, or memory ran out before the report began; nothing was written.
     #[error("{0}")]
     Refused(Fault),
     /// The recording has no stage of the name; nothing was written.
@@ -17,7 +17,7 @@ pub enum RecordingFault {
     /// A write failed, or took nothing.
     #[error("refused 40 WriteFault")]
     Write,
-    /// Memory was wanting while the report was written.
+    /// Memory ran out while the report was written.
     #[error("refused 90 Memory")]
     Memory,
 }

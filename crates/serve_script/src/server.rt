@@ -258,7 +258,7 @@ impl<'a, R: StateRepresentation, W: Runner> Server<'a, R, W> {
         }
     }
 
-    /// Writes why a line names no step, but for want of memory.
+    /// Writes why a line names no step, but for running out of memory.
     fn refuse<S: Sink>(&mut self, fault: Fault, sink: &mut S) -> Result<(), AnswerFault>
         requires { S.failures sink.old < 2 ^ 64 - 1 }
         ensures ok { (meant : Result Step Fault) → IsRead (Err fault) meant → OnOk result (IsAnswered (answer_named self.old meant) self.new (S.held sink.old) (S.held sink.new)) }

@@ -2,7 +2,7 @@
 use Rattle.std.specs.Prelude.{◌≡◌, ℕ, Option, None, Result, Ok, Err, IfOk}
 use Rattle.time_sweep.specs.declared.trial.Trial.{Trial}
 
--- the trial, unless memory was wanting
+-- the trial, unless memory ran out
 abbrev pub trial_in : {E : Type 0} → Result (Option Trial) E → Option Trial
 trial_in (Ok trial) = trial
 trial_in (Err error) = None

@@ -85,7 +85,7 @@ fn places(alloc: Global, count: u32) -> Result<Vec<u32>, AllocError>
     Ok(places)
 }
 
-/// The trial at each place, or that memory was wanting for it. The runner makes them beside each other.
+/// The trial at each place, or that memory ran out for it. The runner makes them beside each other.
 fn tried<R: StateRepresentation, W: Runner>(
     alloc: Global,
     version: &Version<R>,
@@ -110,7 +110,7 @@ fn tried<R: StateRepresentation, W: Runner>(
     }
 }
 
-/// The trial that was made at a place, or that memory was wanting for it.
+/// The trial that was made at a place, or that memory ran out for it.
 fn made(one: &Result<Option<Trial>, AllocError>) -> Result<Option<Trial>, AllocError>
     ensures { IfOk result (λ trial. one.now ≡ Ok trial) }
 {
@@ -120,7 +120,7 @@ fn made(one: &Result<Option<Trial>, AllocError>) -> Result<Option<Trial>, AllocE
     }
 }
 
-/// The trials that were found, where memory was wanting for none.
+/// The trials that were found, where memory ran out for none.
 fn found_among(
     alloc: Global,
     tried: &[Result<Option<Trial>, AllocError>],

@@ -9,13 +9,15 @@ mod fault;
 
 use at_once::run_many;
 use clap::ArgMatches;
-use command_line::{command, told, without_help_of_help};
+use command_help::told;
+use command_line::{command, without_help_of_help};
 use console::{
-    Fault, ListeningSink, ListeningSource, StepTeller, Voice, Watch, flushed, run_check, warn,
-    why_no_stage, with_explanation, with_reason,
+    Fault, ListeningSink, ListeningSource, StepTeller, Voice, Watch, flushed, imported, run_check,
+    warn, why_no_stage, with_explanation, with_reason,
 };
 use fault::{reported, served};
 use level_pool::{OneThread, Pooled, Runner};
+use recording_pictures::{Asked, Form, draw_recording, scope_named};
 use recording_reports::{StageReport, report_all, report_stage};
 use serve_script::serve;
 use stage_graph::{Graph, InShared};
@@ -26,6 +28,7 @@ use std::process::ExitCode;
 use std::sync::Wait;
 use std::thread::Threads;
 use text_io::{Sink, Source};
+use trace_import::{Options, Unit, import};
 
 /// The most bytes of a script that are read at once.
 const AT_ONCE: usize = 65_536;
@@ -75,9 +78,11 @@ fn run<H: Threads + Wait + Copy + Drop + Send + Sync, W: Runner>(
             let most = matches.get_one::<usize>("top");
             run_report_stage(rt, threads, matches, StageReport::Sweep { most })?
         }
+        Some(("draw", matches)) => run_draw(rt, matches)?,
         Some(("check", matches)) => return run_check(rt, matches),
         Some(("serve", matches)) => run_serve(rt, runner, matches)?,
         Some(("many", matches)) => run_many(rt, threads, matches)?,
+        Some(("import", matches)) => run_import(rt, matches)?,
         _ => return Err(Fault::CommandLine),
     }
     Ok(ExitCode::SUCCESS)
@@ -100,7 +105,7 @@ fn words(rt: &HostRuntime) -> Result<Vec<String>, Fault> {
 fn run_report<'a>(rt: &'a HostRuntime, matches: &ArgMatches<'a>) -> Result<(), Fault> {
     let voice = Voice::new(rt, matches);
     let path = matches.get_str("FILE");
-    voice.say_what_is_read(path.is_some());
+    voice.say_what_is_read("recording", path.is_some());
     let recording = console::recording(rt, voice, path)?;
     warn(rt.alloc(), voice, &recording)?;
     let reason = Cell::new(None);
@@ -139,12 +144,50 @@ fn run_report_stage<'a, H: Threads + Wait + Copy + Drop + Send + Sync>(
         &mut sink,
     );
     let end = with_reason(voice, &reason, flushed(&mut sink, reported(end)));
-    match with_explanation(rt.alloc(), voice, &recording, end) {
+    with_name_explained(rt.alloc(), voice, &recording, name, end)
+}
+
+/// The end of what a stage was named for, with what people are told of a recording that is refused or has no such stage.
+fn with_name_explained(
+    alloc: Global,
+    voice: Voice<'_>,
+    recording: &[u8],
+    name: &str,
+    end: Result<(), Fault>,
+) -> Result<(), Fault> {
+    match with_explanation(alloc, voice, recording, end) {
         Err(Fault::NoStage(_)) => {
-            Err(Fault::NoStage(why_no_stage(rt.alloc(), voice, &recording, name)))
+            Err(Fault::NoStage(why_no_stage(alloc, voice, recording, name)))
         }
         end => end,
     }
+}
+
+/// The picture that the command line asks for.
+fn asked<'a>(matches: &ArgMatches<'a>) -> Option<Asked<'a>> {
+    Some(Asked {
+        form: Form::new(matches.get_str("format")?)?,
+        scope: scope_named(matches.get_str("what")?)?,
+        stage: matches.get_str("stage"),
+    })
+}
+
+/// Writes a picture of a recording.
+fn run_draw<'a>(rt: &'a HostRuntime, matches: &ArgMatches<'a>) -> Result<(), Fault> {
+    let Some(asked) = asked(matches) else {
+        return Err(Fault::CommandLine);
+    };
+    let voice = Voice::new(rt, matches);
+    let path = matches.get_str("FILE");
+    voice.say_what_is_read("recording", path.is_some());
+    let recording = console::recording(rt, voice, path)?;
+    warn(rt.alloc(), voice, &recording)?;
+    let reason = Cell::new(None);
+    let mut sink = console::output(rt, &reason)?;
+    let end = draw_recording::<InShared, _>(rt.alloc(), &recording, asked, &mut sink);
+    let end = with_reason(voice, &reason, flushed(&mut sink, reported(end)));
+    let name = asked.stage.unwrap_or("");
+    with_name_explained(rt.alloc(), voice, &recording, name, end)
 }
 
 /// Answers a script from standard input, about the recording of a file.
@@ -212,4 +255,24 @@ fn answered<W: Runner, R: Source, S: Sink>(
     let end = serve(alloc, runner, source, sink, graph);
     watch.ends();
     flushed(sink, served(end))
+}
+
+/// Writes the recording that a trace makes.
+fn run_import<'a>(rt: &'a HostRuntime, matches: &ArgMatches<'a>) -> Result<(), Fault> {
+    let Some(unit) = matches.get_str("unit").and_then(Unit::new) else {
+        return Err(Fault::CommandLine);
+    };
+    let options = Options {
+        trace: matches.get_str("trace"),
+        unit,
+    };
+    let voice = Voice::new(rt, matches);
+    let path = matches.get_str("FILE");
+    voice.say_what_is_read("trace", path.is_some());
+    let trace = console::trace(rt, voice, path)?;
+    let reason = Cell::new(None);
+    let mut sink = console::output(rt, &reason)?;
+    let end = import(rt.alloc(), &trace, options, &mut sink);
+    let end = flushed(&mut sink, imported(rt.alloc(), voice, &trace, options, end));
+    with_reason(voice, &reason, end)
 }

@@ -9,5 +9,5 @@ returns-in-Ok-clause-ok g c =
 
 pub returns-in-Err-Refused-clause-ok : goal.returns-in-Err-Refused-clause-ok
 returns-in-Err-Refused-clause-ok g c =
-    edits_refused c.write_reply.result c.args.client.now c.snapshot.new.client c.args.session c.in-Err-Refused.refusal c.args.edits c.args.listed (g.S.Sink.held c.args.sink.now) (g.S.Sink.held c.write_reply.new.sink)
-    c.requires.heard c.in-Err-Refused.ensures.later (rw c.in-Err-Refused.field-0-is at c.in-Err-Refused.ensures.kept) (rw c.in-Err-Refused.field-0-is at c.in-Err-Refused.ensures.named) (rw c.in-Err-Refused.field-0-is at c.write_reply.ensures.ok)
+    edits_refused c.write_lone_reply.result c.args.client.now c.snapshot.new.client c.args.session c.in-Err-Refused.refusal c.args.edits c.args.listed (g.S.Sink.held c.args.sink.now) (g.S.Sink.held c.write_lone_reply.new.sink)
+    c.requires.heard c.in-Err-Refused.ensures.later (rw c.in-Err-Refused.field-0-is at c.in-Err-Refused.ensures.kept) (rw c.in-Err-Refused.field-0-is at c.in-Err-Refused.ensures.named) (rw c.in-Err-Refused.field-0-is at c.write_lone_reply.ensures.ok)

@@ -1,4 +1,4 @@
-use Rattle.std.proofs.Common.{◌≡◌, ◌++◌, map, length}
+use Rattle.std.proofs.Common.{◌≡◌, ◌+◌, ◌≤◌, ◌++◌, map, length, vec_capacity, vec_len}
 use Rattle.many_scripts.proofs.gathering.seats_of.Given as goal
 
 abbrev pub invariant-loop-client : goal.invariant-loop-client
@@ -7,3 +7,4 @@ invariant-loop-client g l =
     × (map (λ seat. seat.client) l.seats.items ≡ l.yielded)
     × (l.initial.sources.rest.items ≡ map (λ seat. seat.source) l.seats.items ++ l.sources.rest.items)
     × (length l.sources.rest.items ≡ length l.client-iterator.rest.items)
+    × (vec_len l.seats + length l.client-iterator.rest.items ≤ vec_capacity l.seats)

@@ -1,0 +1,172 @@
+"""Pictures of recordings: SVG files and trace events, held against what the reports of the same recording tell."""
+import json
+import os
+import re
+import xml.etree.ElementTree as tree
+
+from .cases import NO_READ, R, recording, stage, with_r
+from .readme import read
+from .run import CLOSED, Case, run, shown
+
+SVG = "{http://www.w3.org/2000/svg}"
+MOST_ROWS = 2_000
+NO_STAGE = "refused 10 NoStage\n"
+PENDING = recording(stage("manual"), stage("thenRun", "b", sources=["a"], action=None))
+STATE = re.compile(r"(\S+) \S+ rank (\d+) (.*)")
+
+
+def fan(count):
+    """Stages that wait for one, each for another time, queued and failing by turns."""
+    stages = [{"name": "root", "op": "async", "queued": 3, "runs": 10, "action": 1}]
+    for at in range(1, count):
+        action = ["throw", "com.shop.Refused"] if at % 7 == 0 else 1
+        stages.append({"name": f"stage-{at}-{'x' * (at % 50)}", "op": "thenRun", "sources": ["root"], "queued": at % 5, "runs": at % 11, "action": action})
+    return json.dumps({"form": 2, "stages": stages})
+
+
+def told(program, text, *words):
+    """What the program prints of a recording on standard input."""
+    return run(program, Case("picture", [*words, "-"] if words[0] == "draw" else list(words), None, stdin=text, seconds=60)).out.decode()
+
+
+def asked(program, text, what):
+    """The lines of a report of version 0, but the first."""
+    step = json.dumps({"do": "report", "version": 0, **what}) + "\n"
+    return run(program, Case("picture", ["serve", "r.json"], None, stdin=step, files={"r.json": text}, seconds=60)).out.decode().splitlines()[1:]
+
+
+def states(program, text):
+    """Each stage's rank and state, by its name."""
+    return {found[1]: (found[2], found[3]) for found in map(STATE.fullmatch, asked(program, text, {"what": "all"})) if found}
+
+
+def cut(name):
+    return name if len(name) <= 40 else name[:39] + "\u2026"
+
+
+def wrong_row(row, meant):
+    """What a row tells otherwise than the reports."""
+    title, label = row.find(f"{SVG}title").text.split("\n"), row.find(f"{SVG}text")
+    name, state, rank = title[:3]
+    if name not in meant or (rank, state) != (f"rank {meant[name][0]}", meant[name][1]):
+        return f"{title} is not as reported"
+    if label.text != cut(name):
+        return f"{name} is written as {label.text!r}"
+    kind = row.get("class").split()[1]
+    wanted = "pending" if state == "pending" else "complete" if state.startswith("value") else "failed"
+    marks = [it.get("class") for it in row if it.get("class") in ("done", "cross", "open")]
+    mark = {"pending": "open", "complete": "done", "failed": "cross"}[wanted]
+    return "" if kind == wanted and marks == [mark] else f"{name} is {wanted}, and drawn as {kind} with {marks}"
+
+
+def mark_x(row):
+    """Where the mark of a completed row stands."""
+    circle, cross = row.find(f"{SVG}circle"), [it for it in row if it.get("class") == "cross"]
+    return int(circle.get("cx")) if circle is not None else int(re.match(r"M(\d+)", cross[0].get("d"))[1])
+
+
+def wrong_svg(text, meant, path):
+    """What is wrong with a picture of a recording, or nothing."""
+    root = tree.fromstring(text)
+    names = {it.tag for it in root.iter()}
+    if root.tag != f"{SVG}svg" or f"{SVG}script" in names:
+        return f"no picture, or a script: {sorted(names)}"
+    rows = [it for it in root if it.get("class", "").startswith("row ")]
+    if len(rows) != min(len(meant), MOST_ROWS):
+        return f"{len(rows)} rows of {len(meant)} stages"
+    for row in rows:
+        if said := wrong_row(row, meant):
+            return said
+    heights = [int(row.find(f"{SVG}text").get("y")) for row in rows]
+    if any(after - before < 18 for before, after in zip(heights, heights[1:])):
+        return "two names stand closer than a row is high"
+    ends = sorted((int(meant[row.find(f"{SVG}title").text.split(chr(10))[0]][1].rsplit(" ", 1)[1]), mark_x(row)) for row in rows if "pending" not in row.get("class"))
+    if any(after[1] < before[1] for before, after in zip(ends, ends[1:])):
+        return "a later completion stands further left"
+    on = {row.find(f"{SVG}title").text.split("\n")[0] for row in rows if "on" in row.get("class").split()}
+    return "" if on == set(path) else f"on the path are {sorted(on)}, and not {sorted(path)}"
+
+
+def wrong_events(text, meant, times, path):
+    """What is wrong with the trace events of a recording, or nothing."""
+    events = json.loads(text)
+    names = {it["tid"]: it["args"]["name"] for it in events if it["name"] == "thread_name"}
+    if sorted(names) != list(range(1, min(len(meant), MOST_ROWS) + 1)) or len({*names.values()}) != len(names):
+        return "the rows are not numbered from 1 on, each with a name"
+    ran = {names[it["tid"]]: it for it in events if it["ph"] == "X" and it["cat"] != "queued"}
+    pending = {names[it["tid"]] for it in events if it["ph"] == "i"}
+    for name in names.values():
+        rank, state = meant[name]
+        if (state == "pending") != (name in pending) or (name in ran) == (name in pending):
+            return f"{name} is {state}, and not drawn so"
+        if name in ran and not ran[name]["args"]["about"].startswith(f"{state}\nrank {rank}\n"):
+            return f"{name} tells {ran[name]['args']['about']!r}"
+        start = times[name][0]
+        if start != "-" and name in ran and ran[name]["ts"] != int(start):
+            return f"{name} started at {start}, and not at {ran[name]['ts']}"
+    flows = [it for it in events if it["ph"] in ("s", "f")]
+    steps = sum(meant[one][1] != "pending" and meant[other][1] != "pending" for one, other in zip(path, path[1:]))
+    return "" if len(flows) == 2 * steps else f"{len(flows)} ends of arrows for {steps} steps"
+
+
+TIMES = re.compile(r"(\S+) start (\S+) queued (\d+) runs (\d+)")
+
+
+def compared(program, text, name):
+    """What the pictures of a recording, with the path of a stage, tell otherwise than its reports; or nothing."""
+    meant = states(program, text)
+    path = [it.split(" ")[0] for it in asked(program, text, {"what": "path", "stage": name})]
+    times = {found[1]: found.groups()[1:] for found in map(TIMES.fullmatch, asked(program, text, {"what": "times"})) if found}
+    said = wrong_svg(told(program, text, "draw"), meant, []) or wrong_svg(told(program, text, "draw", "--stage", name), meant, path)
+    few = {it: meant[it] for it in path}
+    said = said or wrong_svg(told(program, text, "draw", "--what", "path", "--stage", name), few, path)
+    return said or wrong_events(told(program, text, "draw", "--format", "trace", "--stage", name), meant, times, path)
+
+
+def pictures(top, program):
+    """The name of each case, its complaint or nothing, and no refusal."""
+    late = read(top, "examples/late-reply.json")
+    for name, text, stage_name in (
+        ("the late reply", late, "reply"),
+        ("pending stages", PENDING, "b"),
+        ("no stages", recording(), None),
+        ("10 stages", fan(10), "stage-9-xxxxxxxxx"),
+        ("100 stages", fan(100), "stage-7-xxxxxxx"),
+        ("2,000 stages", fan(2_000), "stage-40-" + "x" * 40),
+        ("2,001 stages", fan(2_001), "stage-40-" + "x" * 40),
+        ("5,000 stages", fan(5_000), "stage-4-xxxx"),
+    ):
+        said = compared(program, text, stage_name) if stage_name else wrong_svg(told(program, text, "draw"), {}, [])
+        yield f"pictures of {name} are as the reports", said, set()
+    came = told(program, late, "draw", "--stage", "reply")
+    yield "docs/late-reply.svg is the picture of the late reply", "" if came == read(top, "docs/late-reply.svg") else f"it is not {shown(came)}", set()
+
+
+def picture_cases():
+    return map(with_r, drawn_cases())
+
+
+def drawn_cases():
+    svg, events = re.compile(rb"(?s)<svg .*</svg>\n"), re.compile(rb"(?s)\[\{.*\}\n\]\n")
+    yield Case("draw of standard input", ["draw"], svg, stdin=R)
+    yield Case("draw of -", ["draw", "-"], svg, stdin=R)
+    yield Case("draw of a file", ["draw", "r.json"], svg, stdin=CLOSED)
+    yield Case("draw: the words in another order", ["draw", "--stage", "b", "r.json", "--what", "path"], svg)
+    yield Case("draw --format svg", ["draw", "--format", "svg", "r.json"], svg)
+    yield Case("draw --format trace", ["draw", "--format=trace", "r.json", "--stage=b"], events)
+    yield Case("draw of many rows says so", ["draw"], re.compile(rb"(?s)<svg .*2000 of 2001 stages: those on the path.*"), stdin=lambda: fan(MOST_ROWS + 1), seconds=60)
+    yield Case("draw --what path without a stage", ["draw", "--what", "path", "r.json"], "", 2, err="--stage <STAGE>")
+    yield Case("draw --what none", ["draw", "--what", "none", "r.json"], "", 2, err="possible values: all, path")
+    yield Case("draw --format png", ["draw", "--format", "png", "r.json"], "", 2, err="possible values: svg, trace")
+    yield Case("draw of two files", ["draw", "r.json", "s.json"], "", 2, err="s.json")
+    yield Case("draw of no stage", ["draw", "r.json", "--stage", "bb"], NO_STAGE, 1, err='did you mean "b"')
+    yield Case("draw of no stage, quietly", ["draw", "--quiet", "r.json", "--stage", "bb"], NO_STAGE, 1, err=r"\A\Z")
+    yield Case("draw of the stage of no name", ["draw", "r.json", "--stage", ""], NO_STAGE, 1)
+    yield Case("draw of a refused recording", ["draw"], "refused 70 JSON\n", 1, stdin="[", err="standard input: ")
+    yield Case("draw of a refused recording, and no stage", ["draw", "--stage", "zz"], "refused 19 Cycle\n", 1, stdin=recording(stage("copy", sources=["a"])))
+    yield Case("draw --strict of a recording with a warning", ["draw", "--strict"], "", 1, stdin=R.replace('"op"', '"queue":1,"op"', 1), err="nothing reads")
+    yield Case("draw of no file", ["draw", "absent"], NO_READ, 3)
+    yield Case("draw of a closed standard input", ["draw"], NO_READ, 3, stdin=CLOSED)
+    for stdout in ("full", "closed", "gone"):
+        for form in ("svg", "trace"):
+            yield Case(f"draw --format {form} on a {stdout} standard output", ["draw", "--format", form, "r.json"], "", 3, stdout=stdout)

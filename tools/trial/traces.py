@@ -1,0 +1,270 @@
+"""Traces that are imported: what is refused, what is told of it, and 300 traces made at random whose recordings have to
+tell what the spans told."""
+import collections
+import concurrent.futures
+import json
+import os
+import random
+import re
+
+from .cases import NO_READ, R
+from .readme import read
+from .run import CLOSED, Case, LANES, Shut, Sparse, run, shown
+
+MOST_OF_FILE = 268_435_456
+MOST_STAGES = 65_536
+TRACE = "4bf92f3577b34da6"
+EXCEPTIONS = ["java.io.IOException", "java.sql.SQLException", "com.shop.StockServiceDown", "Refused", "java.lang.IllegalStateException"]
+NANOSECONDS = {"ns": 1, "us": 1_000, "ms": 1_000_000}
+
+
+def attribute(name, value):
+    return {"key": name, "value": {"stringValue": value}}
+
+
+def otlp(*spans, **members):
+    """A trace of OTLP/JSON with these spans of a service."""
+    resource = {"attributes": [attribute("service.name", "shop")]}
+    return json.dumps({"resourceSpans": [{"resource": resource, "scopeSpans": [{"spans": list(spans)}]}], **members})
+
+
+def span(name="a", start=1_000, end=2_000, number="1", trace=TRACE, **members):
+    return {"traceId": trace, "spanId": number, "name": name, "startTimeUnixNano": str(start), "endTimeUnixNano": str(end), **members}
+
+
+# Traces that are made at random.
+
+
+def times(rng, parent, unit):
+    """From when to when a span goes, mostly inside its parent, in nanoseconds; nothing where that isn't known."""
+    low, high = (parent["start"], parent["end"]) if parent and parent["start"] and parent["end"] else (1_000_000, 1_000_000 + 400 * unit)
+    low, high = min(low, high), max(low, high)
+    start = rng.randrange(low, high + 1)
+    end = rng.randrange(start, high + 1)
+    chance = rng.random()
+    if chance < 0.1:
+        return start, start
+    if chance < 0.2:
+        return start, end + rng.randrange(200 * unit)
+    if chance < 0.3:
+        skew = rng.randrange(-50 * unit, 50 * unit)
+        return max(1, start + skew), max(1, end + skew)
+    return (end + 1, start) if chance < 0.33 and start > 1 else (start, end)
+
+
+def spans_of(rng, count, unit, has_open):
+    """Spans, as both formats can tell them; `parents` and `links` are places of others."""
+    spans, is_fan = [], rng.random() < 0.2
+    for at in range(count):
+        near = (0 if is_fan else rng.randrange(max(0, at - rng.choice((3, 40))), at)) if at else None
+        start, end = times(rng, spans[near] if near is not None and rng.random() < 0.9 else None, unit)
+        if has_open and rng.random() < 0.06:
+            start, end = rng.choice(((start, 0), (0, end)))
+        has_failed = rng.random() < 0.25
+        spans.append(
+            {
+                "id": f"{rng.choice((at, at, at, rng.randrange(count))) + 1:x}" if rng.random() < 0.15 else f"{at + 1:x}",
+                "service": rng.choice(("shop", "stock", "db", "mail")),
+                "name": rng.choice(("GET /order", "load", "reserve", "UPDATE", "render", "call 7")),
+                "start": start,
+                "end": end,
+                "parent": near if rng.random() < 0.93 else None,
+                "links": [rng.randrange(count)] if rng.random() < 0.08 else [],
+                "kind": rng.choice((1, 2, 3, 3, 4, 5)),
+                "failed": has_failed,
+                "exception": rng.choice(EXCEPTIONS) if has_failed and rng.random() < 0.7 else None,
+            }
+        )
+    for _ in range(rng.choice((0, 0, 0, 1, 2))):
+        # a circle of parents, or a span below one that comes after it
+        spans[rng.randrange(count)]["parent"] = rng.randrange(count)
+    if count > 3 and rng.random() < 0.1:
+        spans.append(dict(spans[rng.randrange(count)]))
+    return spans
+
+
+def otlp_span(spans, it):
+    told = {"traceId": TRACE, "spanId": it["id"], "name": it["name"], "kind": it["kind"]}
+    told |= {"parentSpanId": spans[it["parent"]]["id"]} if it["parent"] is not None else {}
+    told |= {"startTimeUnixNano": str(it["start"]), "endTimeUnixNano": str(it["end"])}
+    told |= {"links": [{"traceId": TRACE, "spanId": spans[link]["id"]} for link in it["links"]]} if it["links"] else {}
+    told |= {"status": {"code": 2}} if it["failed"] else {}
+    return told | ({"events": [{"name": "exception", "attributes": [attribute("exception.type", it["exception"])]}]} if it["exception"] else {})
+
+
+def as_otlp(spans, by_line):
+    resources = [
+        {"resource": {"attributes": [attribute("service.name", it["service"])]}, "scopeSpans": [{"spans": [otlp_span(spans, it)]}]} for it in spans
+    ]
+    if by_line:
+        return "".join(json.dumps({"resourceSpans": [it]}) + "\n" for it in resources)
+    return json.dumps({"resourceSpans": resources})
+
+
+def jaeger_span(spans, it):
+    references = [{"refType": "CHILD_OF", "traceID": TRACE, "spanID": spans[it["parent"]]["id"]}] if it["parent"] is not None else []
+    references += [{"refType": "FOLLOWS_FROM", "traceID": TRACE, "spanID": spans[link]["id"]} for link in it["links"]]
+    told = {"traceID": TRACE, "spanID": it["id"], "operationName": it["name"], "references": references, "processID": it["service"]}
+    told |= {"startTime": it["start"], "duration": it["end"] - it["start"], "tags": [{"key": "error", "value": True}] if it["failed"] else []}
+    return told | ({"logs": [{"fields": [{"key": "error.kind", "value": it["exception"]}]}]} if it["exception"] else {})
+
+
+def made(seed):
+    """A trace that is made at random: its text, the nanoseconds of a tick, the unit's name, and its spans in nanoseconds."""
+    rng = random.Random(f"traces {seed}")
+    unit = rng.choice(("us", "us", "ns", "ms"))
+    form = rng.choice(("otlp", "otlp", "lines", "jaeger"))
+    count = rng.choice((1, 2, 3, 5, 8, 20, 60, 200)) if seed % 50 else 1_200
+    spans = spans_of(rng, count, NANOSECONDS[unit], form != "jaeger")
+    if form != "jaeger":
+        return as_otlp(spans, form == "lines"), unit, spans
+    for it in spans:
+        # whole microseconds, and no negative duration
+        it["start"], it["end"] = it["start"] // 1_000 + 1, max(it["end"] // 1_000, it["start"] // 1_000) + 1
+    processes = {it: {"serviceName": it} for it in {it["service"] for it in spans}}
+    text = json.dumps({"data": [{"traceID": TRACE, "spans": [jaeger_span(spans, it) for it in spans], "processes": processes}]})
+    for it in spans:
+        it["start"], it["end"] = it["start"] * 1_000, it["end"] * 1_000
+    return text, unit, spans
+
+
+def trace_of(seed):
+    return made(seed)[0]
+
+
+def meant(unit, spans):
+    """What the spans tell, each by its id: the ticks from which and to which it went (none to, where it is open), and with what it failed."""
+    ticks = NANOSECONDS[unit]
+    first = min(time for it in spans for time in (it["start"], it["end"]) if time)
+    seen, told = set(), []
+    for it in spans:
+        known = (it["id"], it["service"], it["name"], it["start"], it["end"])
+        if known in seen:
+            continue
+        seen.add(known)
+        end = (it["end"] - first) // ticks if it["end"] else None
+        start = (it["start"] - first) // ticks if it["start"] else end
+        start = min(start, end) if end is not None else start
+        told.append((it["id"], start, end, it["failed"] and end is not None, it["exception"] if end is not None else None))
+    return told
+
+
+STATE = re.compile(r"(\S+) \S+ rank \d+ (?:(pending)|(value|bare|wrapped):(\S+) at (\d+))")
+TIMES = re.compile(r"(\S+) start (\S+) queued \d+ runs \d+")
+
+
+def complaint(program, seed):
+    """What the recording of a trace tells otherwise than its spans, or nothing."""
+    text, unit, spans = made(seed)
+    came = run(program, Case("import", ["import", "--unit", unit], None, stdin=text))
+    if came.status != 0:
+        return f"refused: {shown(came.out)} {shown(came.err)}"
+    files = {"r.json": came.out}
+    steps = '{"do":"report","version":0,"what":"all"}\n{"do":"report","version":0,"what":"times"}\n'
+    told = run(program, Case("serve", ["serve", "r.json"], None, stdin=steps, files=files))
+    strict = run(program, Case("report", ["report", "--strict", "r.json"], None, files=files))
+    if told.status != 0 or strict.status != 0:
+        return f"its recording is refused, or warned of: {shown(told.out)} {shown(strict.err)}"
+    lines = told.out.decode().splitlines()
+    states = {found[1]: found for found in map(STATE.fullmatch, lines) if found}
+    starts = {found[1]: found[2] for found in map(TIMES.fullmatch, lines) if found}
+    return differences(json.loads(came.out)["stages"], states, starts, meant(unit, spans))
+
+
+def differences(stages, states, starts, wanted):
+    """Where the stages of spans start, end or fail otherwise than the spans."""
+    found = []
+    for stage in stages:
+        if "span" not in stage:
+            continue
+        name, state = stage["name"], states[stage["name"]]
+        is_open, has_failed = bool(state[2]), state[3] in ("bare", "wrapped")
+        first = f"{name}.start" if f"{name}.start" in states else name
+        end = None if is_open else int(state[5])
+        if first != name and int(states[first][5]) != int(starts[first]):
+            return f"{first} doesn't complete where it starts"
+        start = stage.get("created", 0) if is_open and first == name else int(starts[first])
+        found.append((stage["span"], start, end, has_failed, state[4] if has_failed else None))
+    names = collections.Counter(it[:4] for it in wanted)
+    came = collections.Counter(it[:4] for it in found)
+    if names != came:
+        return f"wanted {sorted((names - came).elements(), key=str)[:3]}, came {sorted((came - names).elements(), key=str)[:3]}"
+    thrown = collections.Counter(it for it in wanted if it[4])
+    return "" if not thrown - collections.Counter(found) else f"not thrown: {sorted((thrown - collections.Counter(found)).elements(), key=str)[:3]}"
+
+
+def traces(top, program):
+    """The name of each case, its complaint or nothing, and no refusal."""
+    with concurrent.futures.ThreadPoolExecutor(LANES) as lanes:
+        told = list(lanes.map(lambda seed: complaint(program, seed), range(300)))
+    for seed, said in enumerate(told):
+        yield f"trace {seed}: its recording tells what its spans do", said, set()
+    page = read(top, "docs/TRACES.md")
+    for name in ("pay.jaeger.trace", "order.otlp.trace"):
+        came = run(program, Case(name, ["import", "-"], None, stdin=read(top, f"examples/{name}")))
+        block = f"```\n{came.out.decode()}```\n"
+        yield f"docs/TRACES.md shows the recording of {name}", "" if block in page else f"it doesn't show {shown(came.out)}", set()
+    told = run(program, Case("explain", ["explain", "-", "shop.GET-order"], None, stdin=came.out))
+    is_shown = f"```\n{told.out.decode()}```\n" in read(top, "README.md")
+    yield "README shows why the traced request was late", "" if is_shown else f"it doesn't show {shown(told.out)}", set()
+
+
+# What is refused, and what is told of it.
+
+
+def refused(name, line, text, err="", words=(), **more):
+    return Case(f"import: {name}", ["import", *words], f"refused {line}\n", 1, err=err, stdin=text, **more)
+
+
+TWO = otlp(span(), span(number="2", trace="7"))
+FAR = otlp(span(), span("b", 1_000, 2_000 + (2**40 + 1) * 1_000, "2"))
+JAEGER = json.dumps({"data": [{"spans": [{"traceID": "1", "spanID": "1", "operationName": "a", "startTime": 1, "duration": 2}]}]})
+
+
+def recording_of(*stages, trace="4bf92f3577b34da6", unit="us", start="1000"):
+    return re.compile(re.escape(f'{{"form":2,"trace":"{trace}","unit":"{unit}","start":"{start}","stages":[\n').encode() + b".*" + b",\n".join(re.escape(it.encode()) for it in stages) + rb"\n?\]\}\n?")
+
+
+def trace_cases():
+    one = b'(?s)\\{"form":2,.*"name":"shop\\.a".*'
+    yield Case("import of a trace", ["import"], re.compile(one), stdin=otlp(span()))
+    yield Case("import of -", ["import", "-"], re.compile(one), stdin=otlp(span()))
+    yield Case("import of a file", ["import", "t"], re.compile(one), stdin=CLOSED, files={"t": otlp(span())})
+    yield Case("import of Jaeger's", ["import"], re.compile(rb'(?s)\{"form":2,.*"name":"span".*|(?s:\{"form":2,.*"name":"[^"]*a".*)'), stdin=JAEGER)
+    yield Case("import of lines, blank ones between", ["import"], re.compile(rb'(?s)\{"form":2,.*shop\.b.*'), stdin=f"\n{otlp(span())}\n \t\r\n{otlp(span('b', number='2'))}\n")
+    for unit in NANOSECONDS:
+        yield Case(f"import --unit {unit}", ["import", "--unit", unit], re.compile(rf'(?s)\{{"form":2,.*"unit":"{unit}".*'.encode()), stdin=otlp(span()))
+    yield Case("import --trace", ["import", "--trace", "7"], re.compile(rb'(?s)\{"form":2,"trace":"7".*'), stdin=TWO)
+    yield Case("import --trace with leading zeros", ["import", "--trace", "0007"], re.compile(rb'(?s)\{"form":2,"trace":"7".*'), stdin=TWO)
+    yield Case("import of no file", ["import", "absent"], NO_READ, 3, err="No such file")
+    yield Case("import of a folder", ["import", "folder"], NO_READ, 3, files={"folder": None})
+    yield Case("import of a file that may not be read", ["import", "shut"], NO_READ, 3, files={"shut": Shut(otlp(span()))})
+    yield Case("import of a closed standard input", ["import"], NO_READ, 3, stdin=CLOSED)
+    for stdout in ("full", "closed", "gone"):
+        yield Case(f"import on a {stdout} standard output", ["import"], "", 3, stdin=otlp(span()), stdout=stdout)
+    yield Case("import of two files", ["import", "a", "b"], "", 2, err="'b'")
+    yield Case("import --unit s", ["import", "--unit", "s"], "", 2, err="possible values: us, ns, ms")
+    yield Case("import --strict, which it hasn't", ["import", "--strict"], "", 2, err="--strict")
+    yield from refusals()
+
+
+def refusals():
+    yield refused("no bytes", "81 NoTrace", "", "it has no span$")
+    yield refused("no JSON", "70 JSON", '{"data":[', "standard input: ")
+    yield refused("no UTF-8", "70 JSON", b'{"data":"\xff"}', "UTF-8")
+    yield refused("packed bytes", "70 JSON", b"\x1f\x8b\x08", "gunzip")
+    yield refused("a third line that is none", "70 JSON", f"{otlp(span())}\n\n{otlp(span())}]\n", "line 3 is no JSON text")
+    yield refused("a recording", "80 NotATrace", R, "whatif report takes it as it is")
+    yield refused("other JSON", "80 NotATrace", "{}", "resourceSpans")
+    yield refused("a line of other JSON", "80 NotATrace", f"{otlp(span())}\n[]\n")
+    yield refused("a member of another form", "71 Shape spanId", otlp(span(number="x")), '"spanId" is missing or has a wrong form')
+    yield refused("a span without an id", "71 Shape spanId", otlp({"traceId": TRACE}))
+    yield refused("two traces", f"82 SeveralTraces {TRACE} 7", TWO, "choose one of them by --trace ID")
+    yield refused("two traces, quietly", f"82 SeveralTraces {TRACE} 7", TWO, r"\A\Z", ["--quiet"])
+    yield refused("no span", "81 NoTrace", '{"resourceSpans":[]}', "it has no span$")
+    yield refused("no span of a trace", "81 NoTrace", TWO, 'no span of the trace "8"', ["--trace", "8"])
+    yield refused("no times", "83 NoTime 1", otlp(span(start=0, end=0)), "the span 1 has neither a start nor an end")
+    yield refused("a late span", "84 TooLate 2", FAR, "a coarser unit helps, as --unit ms")
+    yield Case("import: a late span in a coarser unit", ["import", "--unit", "ms"], None, 0, stdin=FAR)
+    yield refused("too many spans", "85 TooManyStages", lambda: otlp(*(span(number=f"{it + 1:x}") for it in range(MOST_STAGES + 1))), "65536", seconds=60)
+    yield Case("import of a file that is too long", ["import", "long"], "refused 72 TooLong\n", 1, err="it has more than 268435456 bytes", files={"long": Sparse(MOST_OF_FILE + 1)}, seconds=60)
