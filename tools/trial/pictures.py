@@ -1,6 +1,5 @@
 """Pictures of recordings: SVG files and trace events, held against what the reports of the same recording tell."""
 import json
-import os
 import re
 import xml.etree.ElementTree as tree
 

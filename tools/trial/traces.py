@@ -3,7 +3,6 @@ tell what the spans told."""
 import collections
 import concurrent.futures
 import json
-import os
 import random
 import re
 
@@ -221,16 +220,12 @@ FAR = otlp(span(), span("b", 1_000, 2_000 + (2**40 + 1) * 1_000, "2"))
 JAEGER = json.dumps({"data": [{"spans": [{"traceID": "1", "spanID": "1", "operationName": "a", "startTime": 1, "duration": 2}]}]})
 
 
-def recording_of(*stages, trace="4bf92f3577b34da6", unit="us", start="1000"):
-    return re.compile(re.escape(f'{{"form":2,"trace":"{trace}","unit":"{unit}","start":"{start}","stages":[\n').encode() + b".*" + b",\n".join(re.escape(it.encode()) for it in stages) + rb"\n?\]\}\n?")
-
-
 def trace_cases():
     one = b'(?s)\\{"form":2,.*"name":"shop\\.a".*'
     yield Case("import of a trace", ["import"], re.compile(one), stdin=otlp(span()))
     yield Case("import of -", ["import", "-"], re.compile(one), stdin=otlp(span()))
     yield Case("import of a file", ["import", "t"], re.compile(one), stdin=CLOSED, files={"t": otlp(span())})
-    yield Case("import of Jaeger's", ["import"], re.compile(rb'(?s)\{"form":2,.*"name":"span".*|(?s:\{"form":2,.*"name":"[^"]*a".*)'), stdin=JAEGER)
+    yield Case("import of Jaeger's", ["import"], re.compile(rb'(?s)\{"form":2,.*"name":"service\.a".*'), stdin=JAEGER)
     yield Case("import of lines, blank ones between", ["import"], re.compile(rb'(?s)\{"form":2,.*shop\.b.*'), stdin=f"\n{otlp(span())}\n \t\r\n{otlp(span('b', number='2'))}\n")
     for unit in NANOSECONDS:
         yield Case(f"import --unit {unit}", ["import", "--unit", unit], re.compile(rf'(?s)\{{"form":2,.*"unit":"{unit}".*'.encode()), stdin=otlp(span()))
