@@ -1,4 +1,4 @@
--- What may go to another thread, with a representation whose lists may.
+-- Which types may be sent to another thread, with a representation whose lists may be sent.
 use denote.RattleType.{RattleType}
 use denote.Param.Send.{IsSend, IsSync, sendable}
 use denote.Param.SendFields.{declared_send, declared_sync}

@@ -1,4 +1,4 @@
--- The test for cycles tells whether a graph is ranked.
+-- The test for cycles decides whether a graph is ranked.
 use Rattle.std.proofs.Common.{◌≡◌, ℕ, zero, suc, ◌+◌, ◌<◌, Bool, true, false, ◌||◌, if◌then◌else◌, List, [], ◌∷◌, length, Option, get_or, refl, ap, sym, subst, ◌∙◌, arith, true≢false, Ok, Err}
 use Rattle.std.proofs.lemmas.Bool.Decides.{nat_tests}
 use Rattle.std.proofs.lemmas.List.FromFn.{length-range_with_len, get_or-range_with_len}

@@ -1,4 +1,4 @@
--- What drafting a version gives, as the table says it.
+-- The results of drafting a version, in the table's terms.
 use Rattle.std.proofs.Common.{◌≡◌, ◌≤◌, ◌^◌, List, length, ap, sym, ◌∙◌, arith, Ok, Err}
 use Rattle.stage_graph.specs.declared.edit.Edit.{Edit}
 use Rattle.stage_graph.specs.declared.fault.Fault.{Fault}

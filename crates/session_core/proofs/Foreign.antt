@@ -51,7 +51,7 @@ module _ (m : Parts) (session : ℕ) (draft : PlainDraft) where
         let e : f.1 ≡ v = some_injective f.1 v (sym f.2 ∙ at) in
         f.3 (ap (λ (x : PlainVersion). x.graph) e ∙ same)
 
-    -- what a comparison of the two graphs tells
+    -- the result of comparing the two graphs
     pub foreign_by : (b : Bool) → is_some (span_at m session) ≡ true → (IsTrue b ↔ (v.graph ≡ draft.origin.graph)) → (IsTrue (not b) ↔ IsForeignDraft (state_of m) session draft)
     foreign_by true some same = (λ no. absurd (true≢false (sym no)), λ f. absurd (foreign_same (same.0 refl) f))
     foreign_by false some same = (λ yes. foreign_is some (λ e. true≢false (sym (same.1 e))), λ f. refl)

@@ -11,7 +11,7 @@ Leads-snoc : (s : State) (log : List Entry) (t : State) (e : Entry) (u : State) 
 Leads-snoc s [] t e u same step = (u, subst (λ x. Enters x e u) (sym same) step, refl)
 Leads-snoc s (x ∷ xs) t e u rest step = (rest.0, rest.1, Leads-snoc rest.0 xs t e u rest.2 step)
 
--- a legal log stays legal with what is entered next
+-- a legal log stays legal with the next entry
 pub keeps : (s t : State) (log room longer : List Entry) (e : Entry) → IsKept s log → Enters s e t → 0 < length t.versions → opening_of t ≡ opening_of s → room ≡ log → longer ≡ room ++ e ∷ [] → IsKept t longer
 keeps s t log room longer e kept step some same is more =
     let legal : IsLegal (log ++ e ∷ []) t = subst (λ (o : State). Leads o (log ++ e ∷ []) t) (sym same) (Leads-snoc (opening_of s) log s e t kept.legal step) in

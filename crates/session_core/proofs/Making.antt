@@ -28,7 +28,7 @@ longer : (xs : List PlainVersion) (v : PlainVersion) → length (xs ++ v ∷ [])
 longer [] v = refl
 longer (x ∷ xs) v = ap suc (longer xs v)
 
--- what a reply tells of the versions
+-- what a reply says of the versions
 abbrev Tells : State → Event → Reply → State → Type 0
 Tells s event (Committed number) t = IsMade (Some event) (numbers_at s) t.versions number × (number ≡ length s.versions) × (length t.versions ≡ suc (length s.versions))
 Tells s event (Opened number) t = length t.versions ≡ length s.versions
@@ -148,7 +148,7 @@ one_making s event reply t is =
       count = counted s event reply t told;
     }
 
--- what was made is still there where each version is, whichever way the lists before it are told
+-- what was made is still there, and each version is still in its place, whichever way the earlier lists are described
 pub still_made : (event : Option Event) (before same : ℕ → Option Numbers) (versions later : List PlainVersion) (number : ℕ) → ((q : ℕ) → before q ≡ same q)
     → ((k : ℕ) (v : PlainVersion) → slice_get versions k ≡ Some v → slice_get later k ≡ Some v) → IsMade event before versions number → IsMade event same later number
 still_made event before same versions later number lists stay m = record {

@@ -30,7 +30,7 @@ takes_step : (r : Option Refusal) (t : TableView) (event : Event) (reply : Reply
 takes_step (Some refusal) t event reply u takes = ap (λ (x : Reply). Some (x, t.state)) (sym takes.0) ∙ ap (λ (s : State). Some (reply, s)) (sym takes.1.0)
 takes_step None t event reply u takes = takes.0
 
--- the reply is the machine's, or memory was wanting and the state stays
+-- the reply is the machine's, or memory ran out and the state stays
 pub replies_step : (t : TableView) (event : Event) (reply : Reply) (u : TableView) → Replies t event reply u → (step t.state event ≡ Some (reply, u.state)) ⊎ ((reply ≡ Memory) × (u.state ≡ t.state))
 replies_step t event reply u (inl takes) = inl (takes_step (rejection t.state event) t event reply u takes)
 replies_step t event reply u (inr none) = inr (none.0, none.1.0)

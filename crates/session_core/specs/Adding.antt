@@ -1,4 +1,4 @@
--- When a version may be added on top of a session's list.
+-- The conditions under which a version may be added on top of a session's list.
 use Rattle.std.specs.Prelude.{◌≡◌, ℕ, ◌<◌, length, Some, IsSome, IfSome, slice_get}
 use Rattle.version_store.specs.Plain.{PlainVersion, PlainDraft, parent_of}
 use Rattle.session_core.specs.Machine.{State, Numbers, numbers_at}

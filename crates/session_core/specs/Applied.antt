@@ -18,7 +18,7 @@ abbrev pub has_walk : List (Option Stage) → ℕ → ℕ → Bool
 has_walk places zero place = nat_lt place (length places)
 has_walk places (suc steps) place = list_any (has_walk places steps) (feeds_at places place)
 
--- whether some walk makes as many steps as there are places, and so comes to a place again
+-- whether some walk makes as many steps as there are places, and so visits a place twice
 abbrev pub has_cycle : List (Option Stage) → Bool
 has_cycle places = list_any (has_walk places (length places)) (all_places places)
 
@@ -36,7 +36,7 @@ pub record IsDrafted (version : PlainVersion) (edits : List Edit) (draft : Plain
   pub origin : draft.origin ≡ origin_at version edits
   pub applied : applied edits version.graph ≡ Ok draft.graph
 
--- a draft of the version; or the refusal of the edits; or want of memory
+-- a draft of the version; or the refusal of the edits; or out of memory
 abbrev pub DraftsOrRefuses : PlainVersion → List Edit → Result PlainDraft TableFault → Type 0
 DraftsOrRefuses version edits (Ok draft) = IsDrafted version edits draft
 DraftsOrRefuses version edits (Err (table.Refused refusal)) = applied edits version.graph ≡ Err refusal

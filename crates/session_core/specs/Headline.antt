@@ -1,4 +1,4 @@
--- What a run leads to, said of the sessions and the versions.
+-- What a run leads to, in terms of the sessions and the versions.
 use Rattle.std.specs.Prelude.{◌≡◌, ℕ, suc, ◌+◌, ◌<◌, ◌==◌, ◌⊎◌, if◌then◌else◌, List, [], ◌∷◌, length, take, Option, Some, None, slice_get, Ok}
 use Rattle.std.specs.Option.{option_map}
 use Rattle.stage_graph.specs.declared.edit.Edit.{Edit}
@@ -93,7 +93,7 @@ pub record IsMade (event : Option Event) (before : ℕ → Option Numbers) (vers
   pub from : version.origin ≡ Some (from_base base parent.graph edits)
   pub edited : applied edits parent.graph ≡ Ok version.graph
 
--- a commit that is accepted makes one version, and no other reply tells of one
+-- a commit that is accepted makes one version, and no other reply names one
 abbrev pub made : Reply → ℕ
 made (Committed number) = 1
 made (Opened number) = 0
@@ -103,7 +103,7 @@ made Closed = 0
 made (Refused refusal) = 0
 made Memory = 0
 
--- how many versions the replies tell of
+-- how many versions the replies name
 abbrev pub all_made : List Reply → ℕ
 all_made [] = 0
 all_made (reply ∷ replies) = made reply + all_made replies

@@ -1,4 +1,4 @@
--- The machine: versions, and sessions that stand at them.
+-- The machine: versions, and the sessions that stand at them.
 use Rattle.std.specs.Prelude.{ℕ, ◌^◌, ◌==◌, not, ◌&&◌, nat_le, nat_lt, if◌then◌else◌, List, [], ◌∷◌, ◌++◌, length, Option, Some, None, is_some, slice_get, Result, Ok, Err}
 use Rattle.std.specs.Ordering.{nat_cmp}
 use Rattle.std.specs.Map.{lookup, remove_entry}
@@ -126,7 +126,7 @@ abbrev pub rejected_at : Option PlainVersion → List Edit → Option Refusal
 rejected_at None edits = Some NoVersion
 rejected_at (Some version) edits = refusal_in (applied edits version.graph)
 
--- why a run doesn't hand a commit to the table: there is no such base, or its graph refuses the edits
+-- why a run doesn't pass a commit to the table: there is no such base, or its graph refuses the edits
 abbrev pub rejection : State → Event → Option Refusal
 rejection s (Commit session base edits) = rejected_at (slice_get s.versions base) edits
 rejection s event = None
@@ -135,6 +135,6 @@ abbrev pub unless_rejected : Option Refusal → State → Booked → Booked
 unless_rejected None s booked = booked
 unless_rejected (Some refusal) s booked = refuse refusal s
 
--- one step of a run: of a commit, the base and the edits are looked at first
+-- one step of a run: for a commit, the base and the edits are checked first
 abbrev pub step : State → Event → Booked
 step s event = unless_rejected (rejection s event) s (book s event)

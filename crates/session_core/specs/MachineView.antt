@@ -1,11 +1,11 @@
--- What is kept of the machine's state, and what the code sees of it.
+-- What is kept of the machine's state, and how contracts see it.
 use Rattle.std.specs.Prelude.{◌≡◌, ℕ, ◌<◌, ◌≤◌, ◌^◌, List, [], ◌∷◌, length, map, IfSome, slice_get}
 use Rattle.version_store.specs.Plain.{PlainVersion}
 use Rattle.session_core.specs.declared.machine.Span.{Span}
 use Rattle.session_core.specs.Machine.{State, Numbers}
 use Rattle.session_core.specs.Standing.{parent_at, numbers_of}
 
--- the state, and for how many more versions there is room
+-- the state, and how many more versions there is capacity for
 pub record MachineView : Type 0 where
   pub state : State
   pub room : ℕ

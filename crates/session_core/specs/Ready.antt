@@ -17,7 +17,7 @@ pub record PlainReady : Type 0 where
   pub edits : List Edit
   pub version : PlainVersion
 
--- the table may finish this commit: there is room, its version may be added, and the machine books just this
+-- the table may finish this commit: there is capacity, its version may be added, and the machine records just this
 pub record IsReady (t : TableView) (ready : PlainReady) : Type 0 where
   pub room : 0 < t.room
   pub may : MayAdd t.state ready.session ready.version
@@ -31,7 +31,7 @@ pub record IsCommitOf (who session : ℕ) (draft : PlainDraft) (ready : PlainRea
   pub same_edits : ready.edits ≡ draft.origin.edits
   pub version : ready.version ≡ numbered draft ready.version.number
 
--- the commit is ready and nothing is booked; or a refusal is booked; or memory was wanting and nothing changed
+-- the commit is ready and nothing is recorded; or a refusal is recorded; or memory ran out and nothing changed
 abbrev pub Prepares : TableView → ℕ → ℕ → PlainDraft → Result PlainReady TableFault → TableView → Type 0
 Prepares t who session draft (Ok ready) u = IsSame t u × IsReady u ready × IsCommitOf who session draft ready
 Prepares t who session draft (Err (Refused refusal)) u = Books t who (commit_of session draft) (replied.Refused refusal) u

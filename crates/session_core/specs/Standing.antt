@@ -17,7 +17,7 @@ abbrev pub with_below : Option ℕ → (ℕ → List ℕ) → List ℕ
 with_below None below = []
 with_below (Some number) below = number ∷ below number
 
--- the numbers from below the head down to the bottom, each the parent of the one before, in at most so many steps
+-- the numbers from below the head down to the bottom, each the parent of the one before, in at most this many steps
 abbrev pub climb : (ℕ → Option ℕ) → ℕ → ℕ → ℕ → List ℕ
 climb parent bottom zero head = []
 climb parent bottom (suc steps) head = if head == bottom then [] else with_below (parent head) (climb parent bottom steps)

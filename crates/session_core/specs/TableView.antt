@@ -12,7 +12,7 @@ use Rattle.session_core.specs.declared.event.Reply.TheVariants as replied
 use Rattle.session_core.specs.declared.refusal.TableFault.{TableFault}
 use Rattle.session_core.specs.declared.refusal.TableFault.TheVariants.{Refused, Memory}
 
--- the machine's state, the history, and how many commits there is room for
+-- the machine's state, the history, and how many commits there is capacity for
 pub record TableView : Type 0 where
   pub state : State
   pub history : List Entry
@@ -26,13 +26,13 @@ IsSame t u = (u.state ≡ t.state) × (u.history ≡ t.history)
 abbrev pub Books : TableView → ℕ → Event → Reply → TableView → Type 0
 Books t who event reply u = (book t.state event ≡ Some (reply, u.state)) × (u.history ≡ t.history ++ entry who event reply ∷ [])
 
--- the reply that a result is, where Ok is named so; want of memory is none
+-- the reply of a result, where `Ok` has this reply; out of memory has none
 abbrev pub reply_of : {A : Type 0} → (A → Reply) → Result A TableFault → Option Reply
 reply_of name (Ok x) = Some (name x)
 reply_of name (Err (Refused refusal)) = Some (replied.Refused refusal)
 reply_of name (Err Memory) = None
 
--- the event was booked with this reply; or there is none, and nothing changed
+-- the event was recorded with this reply; or there is none, and nothing changed
 abbrev pub Answers : TableView → ℕ → Event → Option Reply → TableView → Type 0
 Answers t who event reply u = MatchOption reply (IsSame t u) (λ r. Books t who event r u)
 
@@ -43,12 +43,12 @@ IsForeignDraft s session draft = IsSome (numbers_at s session) × (version : Pla
 abbrev pub commit_of : ℕ → PlainDraft → Event
 commit_of session draft = Commit session draft.origin.number draft.origin.edits
 
--- the draft is foreign, which the reply says and the history has, and the state stays
+-- the draft is foreign, which is the reply and is in the history, and the state stays
 abbrev pub RefusesForeign : TableView → ℕ → ℕ → PlainDraft → Reply → TableView → Type 0
 RefusesForeign t who session draft reply u =
     (reply ≡ replied.Refused (Foreign draft.origin.number)) × (u.state ≡ t.state) × (u.history ≡ t.history ++ entry who (commit_of session draft) reply ∷ [])
 
--- a foreign draft is refused, and any other one is booked
+-- a foreign draft is refused, and any other one is recorded
 abbrev pub BooksDraft : TableView → ℕ → ℕ → PlainDraft → Reply → TableView → Type 0
 BooksDraft t who session draft reply u =
     (IsForeignDraft t.state session draft × RefusesForeign t who session draft reply u)

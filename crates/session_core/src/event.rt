@@ -46,7 +46,7 @@ pub enum Reply {
     Undone(u32),
     Closed,
     Refused(Refusal),
-    /// 90: memory was wanting, and nothing was done.
+    /// 90: out of memory, and nothing was done.
     Memory,
 }
 
@@ -59,7 +59,7 @@ pub struct Entry {
 }
 
 impl Event {
-    /// Whether two events are the same. Takes no memory.
+    /// Whether two events are the same. Allocates nothing.
     pub fn same(&self, other: &Event) -> bool
         ensures { IsTrue result ↔ (self.now ≡ other.now) }
     {
@@ -92,7 +92,7 @@ impl Event {
 }
 
 impl Reply {
-    /// Whether two replies are the same. Takes no memory.
+    /// Whether two replies are the same. Allocates nothing.
     pub fn same(self, other: Reply) -> bool
         ensures { IsTrue result ↔ (self ≡ other) }
     {
@@ -101,7 +101,7 @@ impl Reply {
 }
 
 impl Entry {
-    /// Whether two entries are the same. Takes no memory.
+    /// Whether two entries are the same. Allocates nothing.
     pub fn same(&self, other: &Entry) -> bool
         ensures { IsTrue result ↔ (self.now ≡ other.now) }
     {

@@ -1,4 +1,4 @@
-//! What the table does at each event, without its history.
+//! What the table does for each event, without its history.
 ghost use Rattle.std.specs.Prelude.{◌≡◌, ◌<◌, ◌≤◌, ◌^◌, ◌↔◌, length, Some, None, IsSome, IsTrue, false, slice_get, option_copied, OnOk, IfOk, IfSome, OnErr, MatchResult, [], ◌∷◌};
 ghost use Rattle.std.specs.Ordering.{nat_cmp};
 ghost use Rattle.std.specs.BTreeMap.{get, insert_entry};
@@ -68,7 +68,7 @@ impl<R: StateRepresentation> Machine<R> {
         })
     }
 
-    /// Makes room for one more version.
+    /// Reserves capacity for one more version.
     pub(crate) fn reserve(&mut self) -> Result<(), AllocError>
         ensures state { self.new.state ≡ self.old.state }
         ensures room { OnOk result (0 < self.new.room) }
@@ -176,7 +176,7 @@ impl<R: StateRepresentation> Machine<R> {
         Ok(())
     }
 
-    /// Adds the version on top of the session's list. It takes no memory.
+    /// Adds the version on top of the session's list. Allocates nothing.
     pub(crate) fn add(&mut self, session: u32, version: Version<R>)
         requires room { 0 < self.old.room }
         requires may { MayAdd self.old.state session version }
@@ -227,7 +227,7 @@ impl<R: StateRepresentation> Machine<R> {
     }
 }
 
-/// An open session stands elsewhere. It takes no memory.
+/// Moves an open session to another version. Allocates nothing.
 fn stand(sessions: &mut BTreeMap<u32, Span>, session: u32, span: Span)
     requires { IsSome (get nat_cmp sessions.old session) }
     ensures { sessions.new.entries ≡ insert_entry nat_cmp sessions.old.entries session span }

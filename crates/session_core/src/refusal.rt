@@ -119,7 +119,7 @@ impl fmt::Display for Refusal {
     }
 }
 
-/// Why a call of the table gave nothing: a refusal, or memory was wanting.
+/// Why a call of the table failed: a refusal, or out of memory.
 #[derive(Clone, Copy, PartialEq, Eq, Debug, Error)]
 pub enum TableFault {
     #[error("{0}")]
@@ -129,7 +129,7 @@ pub enum TableFault {
 }
 
 impl TableFault {
-    /// The reply that says so.
+    /// The reply for the fault.
     pub fn reply(self) -> Reply
         ensures { result ≡ reply_to self }
     {
@@ -150,7 +150,7 @@ impl TableFault {
     }
 }
 
-/// Why edits have no draft, as the table says it.
+/// Why edits have no draft, in the table's terms.
 pub(crate) fn of_fault(fault: &Fault) -> TableFault
     ensures { result ≡ of_fault fault.now }
 {

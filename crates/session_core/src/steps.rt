@@ -1,4 +1,4 @@
-//! A list of events, taken one after the other.
+//! A list of events, processed one after the other.
 ghost use Rattle.std.specs.Prelude.{◌≡◌, ◌≢◌, ◌++◌, List, Some, IfOk, OnErr};
 ghost use Rattle.session_core.specs.declared.event.Event.TheVariants.{Commit};
 ghost use Rattle.session_core.specs.declared.event.Reply.TheVariants.{Committed, Memory};
@@ -23,12 +23,12 @@ use version_store::{Draft, StateRepresentation, Version};
 #[derive(Drop)]
 struct OneCommit;
 
-/// Takes the events one after the other, as client 0, and adds the replies to the list. A commit is drafted on its base
-/// first, so that 52 and the refusals of the edits come before 51, 53 and 55, and have no entry in the history. Where
-/// memory is wanting for an event, its reply is `Memory`, and the others are taken all the same. An error comes
+/// Processes the events one after the other, as client 0, and adds the replies to the list. A commit is drafted on its
+/// base first, so that 52 and the refusals of the edits come before 51, 53 and 55, and have no entry in the history. If
+/// memory runs out for an event, its reply is `Memory`, and the others are processed all the same. An error comes
 /// before the first event.
 ///
-/// From a table at its opening state they lead to what [`crate::every_list_of_steps`] says.
+/// From a table at its opening state they lead to what [`crate::every_list_of_steps`] states.
 pub fn run<R: StateRepresentation, W: Runner>(
     alloc: Global,
     table: &mut Table<R>,
@@ -66,7 +66,7 @@ pub fn draft_of<R: StateRepresentation, W: Runner>(
 }
 
 impl<R: StateRepresentation> Table<R> {
-    /// Takes one event, as [`run`] does.
+    /// Processes one event, as [`run`] does.
     pub fn take<W: Runner>(&mut self, alloc: Global, event: &Event, runner: &W) -> Reply
         ensures replies { Replies self.old event.now result self.new }
         ensures steps { result ≢ Memory → step self.old.state event.now ≡ Some (result, self.new.state) }

@@ -51,7 +51,7 @@ impl<R: StateRepresentation> Model for Table<R> {
 }
 
 impl<R: StateRepresentation> Table<R> {
-    /// The table of version 0, with no session, for at most so many versions.
+    /// The table of version 0, with no session, for at most this many versions.
     pub fn new(alloc: Global, first: Version<R>, most: u32) -> Result<Table<R>, AllocError>
         requires first { first ≡ opening_version first.graph }
         requires most { (1 ≤ most) × (most ≤ 2 ^ 16) }
@@ -104,7 +104,7 @@ impl<R: StateRepresentation> Table<R> {
         }
     }
 
-    /// The session stands at the version before again, whose number is answered. Refused by 51 where it is not open,
+    /// Takes the session back to the version before, whose number is returned. Refused by 51 where it is not open,
     /// and by 54 at the version at which it was opened.
     pub fn undo(&mut self, who: u32, session: u32) -> Result<u32, TableFault>
         ensures answers { Answers self.old who (Undo session) (reply_of Undone result) self.new }
@@ -137,8 +137,8 @@ impl<R: StateRepresentation> Table<R> {
         Ok(answer?)
     }
 
-    /// All that a commit needs but the change itself. A refusal is booked: 51 where the session is not open, 52 where
-    /// there is no such base, 53 where the base is not the session's head, 55 where the most versions are there.
+    /// Prepares a commit: everything but the change itself. A refusal is recorded: 51 where the session is not open, 52
+    /// where there is no such base, 53 where the base is not the session's head, 55 where the table is full.
     pub fn prepare(
         &mut self,
         who: u32,
@@ -172,7 +172,7 @@ impl<R: StateRepresentation> Table<R> {
         })
     }
 
-    /// Commits what was prepared, and answers the version's number. It takes no memory.
+    /// Commits what was prepared, and returns the version's number. Allocates nothing.
     pub fn finish(&mut self, ready: Ready<R>) -> u32
         requires { IsReady self.old ready }
         ensures booked { Books self.old ready.who (Commit ready.session ready.base ready.edits) (Committed result) self.new }
@@ -228,7 +228,7 @@ impl<R: StateRepresentation> Table<R> {
         Ok(version)
     }
 
-    /// Commits a draft of this table's own version of that number: `commit` without a look at the base's graph, which
+    /// Commits a draft of this table's own version of that number: `commit` without comparing the base's graph, which
     /// takes time in proportion to its places.
     pub(crate) fn commit_own(
         &mut self,

@@ -1,4 +1,4 @@
--- The first of the dependents is the first place whose stage uses a place.
+-- The first of the dependents of a place is the first place whose stage has it as a feed.
 use Rattle.std.proofs.Common.{Bool, true, false, cond, ◌≡◌, ◌<◌, ◌≤◌, ◌+◌, ℕ, suc, zero, inl, inr, List, [], ◌∷◌, length, Option, Some, None, refl, sym, ap, ◌∙◌, slice_get, arith}
 use Rattle.std.specs.List.{filter, range_with_len}
 use Rattle.std.proofs.lemmas.Bool.{cases_lt}
@@ -51,7 +51,7 @@ module _ (test : ℕ → Bool) where
       | inr less ↦ let same : from ≡ k = omega (arith, past, less) in ap test (sym same) ∙ at
     ]
 
--- the first dependent is the first user
+-- the first of the dependents is the first place with this feed
 pub first_dependent : (places : List (Option Stage)) (place : ℕ) → slice_get (dependents places place) 0 ≡ first_user places place
 first_dependent places place = by_first (slice_get (dependents places place) 0) refl where
   by_first : (first : Option ℕ) → slice_get (dependents places place) 0 ≡ first → first ≡ first_user places place

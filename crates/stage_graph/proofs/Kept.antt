@@ -62,7 +62,7 @@ feeds_kept find (Rewire name sources inner) stage new ok named = inl (ap (bytes_
 feeds_kept find (Add spec) stage new ok named = let is : stage ≡ new = cc in inr (ap feeds_of (sym is))
 feeds_kept find (Remove name) stage new ok named = let is : stage ≡ new = cc in inr (ap feeds_of (sym is))
 
--- an edit that speaks of a stage has edited it
+-- an edit that names a stage has edited it
 edited_alone : (edit : Edit) (stage : Stage) → edited_name edit ≡ stage.name → is_edited (edit ∷ []) (Some stage) ≡ true
 edited_alone edit stage named = either (bytes_eq (edited_name edit) stage.name) false ((bytes_eq-Decides (edited_name edit) stage.name).1 named)
 
@@ -257,7 +257,7 @@ fails_too p q implies (x ∷ xs) none =
       neither_back true later is fails rest = let clash : true ≡ false = sym (implies x is) ∙ fails in cc
       neither_back false later is fails rest = rest
 
--- an edit that moves or removes a stage speaks of it
+-- an edit that moves or removes a stage names it
 moves_named : (name : List ℕ) (edit : Edit) → moves name edit ≡ true → bytes_eq (edited_name edit) name ≡ true
 moves_named name (Add spec) is = is
 moves_named name (Rewire other sources inner) is = is
@@ -298,7 +298,7 @@ module _ (edits : List Edit) where
       (was, refl, sym becomes.same_name, sym (becomes.unless_moved (ap (λ name. list_any (moves name) edits) (sym becomes.same_name) ∙ none)))
 
   module _ (old new : PlainGraph) (change : IsChangeBy edits old new) where
-    -- a place of whose stages, before and after, the list does not speak keeps its stage
+    -- a place whose stages, before and after, are not named by the list keeps its stage
     pub same_unless_edited : (place : ℕ) → is_edited edits (stage_at old.places place) ≡ false → is_edited edits (stage_at new.places place) ≡ false
         → stage_at new.places place ≡ stage_at old.places place
     same_unless_edited place = same_here (stage_at old.places place) (stage_at new.places place) (change.each place)
@@ -308,7 +308,7 @@ module _ (edits : List Edit) where
         → (was : Stage) × (stage_at old.places place ≡ Some was) × (was.name ≡ stage.name) × (feeds_of was ≡ feeds_of stage)
     stood_unless_moved place stage is = was_here (stage_at old.places place) stage (subst (Becomes edits (stage_at old.places place)) is (change.each place))
 
--- ---- places listed by the names that edits speak of
+-- ---- places listed by the names of the edits
 
 not_listed : (place : ℕ) (found : Option ℕ) → list_any (nat_eq place) (listed found) ≡ false → found ≡ Some place → ⊥
 not_listed place None none is = cc
@@ -317,7 +317,7 @@ not_listed place (Some k) none is =
     let clash : true ≡ false = sym (either (nat_eq place k) false same) ∙ none in cc
 
 module _ (old new : List (Option Stage)) (place : ℕ) (name : List ℕ) (there : (place_named old name ≡ Some place) ⊎ (place_named new name ≡ Some place)) where
-  -- an edit in whose places the place is not speaks of another name
+  -- an edit whose places don't include this one names another stage
   other_name : (edit : Edit) → list_any (nat_eq place) (places_before_after old new (edited_name edit)) ≡ false → (same : Bool) → bytes_eq (edited_name edit) name ≡ same → same ≡ false
   other_name edit none false is = refl
   other_name edit none true is =
@@ -328,7 +328,7 @@ module _ (old new : List (Option Stage)) (place : ℕ) (name : List ℕ) (there 
         | inr after ↦ absurd (not_listed place (place_named new (edited_name edit)) parts.1 (ap (place_named new) one ∙ after))
       ]
 
-  -- so does a list
+  -- and so does a list of edits
   other_names : (edits : List Edit) → list_any (nat_eq place) (edited_places edits old new) ≡ false → list_any (λ edit. bytes_eq (edited_name edit) name) edits ≡ false
   other_names [] none = refl
   other_names (edit ∷ edits) none =

@@ -1,4 +1,4 @@
--- What a tree says of names when one of them is said something else.
+-- What a tree has for each name after the entry of one name was set.
 use Rattle.std.proofs.Common.{Bool, true, false, cond, ◌≡◌, ◌∙◌, ℕ, List, Option, Some, None, Result, Ok, Err, IfOk, sym, ap, refl}
 use Rattle.std.specs.Str.{bytes_eq}
 use Rattle.std.proofs.lemmas.Slice.Eq.{bytes_eq-Decides}
@@ -23,7 +23,7 @@ module _ (entry : Entry) (left : ℕ) (name : List ℕ) (old other : Option (Opt
   goes : (side : Bool) → decides entry.name left ≡ side → bytes_eq entry.name name ≡ true → decides name left ≡ side
   goes side is same = ap (λ name. decides name left) (sym ((bytes_eq-Decides entry.name name).0 same)) ∙ is
 
-  -- what is said on the side to which the name's bit leads, is said of the name
+  -- what the branch selected by the name's bit has, the tree has for the name
   pub told_on_one : decides entry.name left ≡ true → cond (decides name left) (told_by entry name old) other ≡ told_by entry name (cond (decides name left) old other)
   told_on_one is = by_one (decides name left) (bytes_eq entry.name name) (Some entry.place) old other (goes true is)
 
@@ -34,7 +34,7 @@ module _ (new old : Entry) (left : ℕ) (name : List ℕ) where
   abbrev both : Option (Option ℕ)
   both = told_by new name (told_by old name None)
 
-  -- two names whose bits are the same here part further down
+  -- two names whose bits are the same here differ further down
   pub part_on_one : decides new.name left ≡ true → decides old.name left ≡ true → cond (decides name left) both None ≡ both
   part_on_one new_is old_is =
       told_on_one new left name (told_by old name None) None new_is
@@ -45,7 +45,7 @@ module _ (new old : Entry) (left : ℕ) (name : List ℕ) where
       told_on_zero new left name (told_by old name None) None new_is
       ∙ ap (told_by new name) (told_on_zero old left name None None old_is ∙ ap (told_by old name) (one_way (decides name left) None))
 
-  -- two names whose bits differ part here
+  -- two names whose bits differ here go to different branches
   pub new_on_one : decides new.name left ≡ true → decides old.name left ≡ false → cond (decides name left) (told_by new name None) (told_by old name None) ≡ both
   new_on_one new_is old_is =
       told_on_one new left name None (told_by old name None) new_is
@@ -56,7 +56,7 @@ module _ (new old : Entry) (left : ℕ) (name : List ℕ) where
       told_on_zero new left name None (told_by old name None) new_is
       ∙ ap (told_by new name) (told_on_one old left name None None old_is ∙ ap (told_by old name) (one_way (decides name left) None))
 
--- what a call promises of its answer, said in other words
+-- the postcondition of a call, in other words
 pub if_ok : {A E : Type 0} {P Q : A → Type 0} (answer : Result A E) → ((value : A) → P value → Q value) → IfOk answer P → IfOk answer Q
 if_ok (Ok value) turn holds = turn value holds
 if_ok (Err error) turn holds = tt

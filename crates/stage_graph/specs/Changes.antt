@@ -1,4 +1,4 @@
--- What a list of edits makes of a plain graph, or its first refusal, and what stands for it in the code.
+-- The graph that a list of edits makes of a plain graph, or its first refusal, and the results by which the code answers it.
 use Rattle.std.specs.Prelude.{ℕ, ◌+◌, ◌≡◌, IsTrue, Bool, false, List, [], ◌∷◌, Option, Some, None, slice_index, Result, Ok, Err}
 use Rattle.std.specs.List.{list_any}
 use Rattle.std.specs.Str.{bytes_eq}
@@ -27,14 +27,14 @@ changed_from index (edit ∷ edits) graph = then_on index (edited edit graph) (c
 unfoldable pub changed : List Edit → PlainGraph → Result PlainGraph Refused
 changed edits graph = changed_from 0 edits graph
 
--- the result is the answer without the check for cycles, or want of memory stands in its place
+-- the result is the answer without the check for cycles, or out of memory
 abbrev pub IsChanged : Result PlainGraph Fault → Result PlainGraph Refused → Type 0
 IsChanged (Ok graph) answer = answer ≡ Ok graph
 IsChanged (Err (RefusedAt refused)) answer = answer ≡ Err refused
 IsChanged (Err (Cycle path)) answer = ⊥
 IsChanged (Err Memory) answer = Unit {0}
 
--- the name of the stage that an edit speaks of
+-- the name of the edit's stage: the one that it changes, adds or removes
 abbrev pub edited_name : Edit → List ℕ
 edited_name (PinResult name result) = name
 edited_name (PinMoment name moment) = name
@@ -45,7 +45,7 @@ edited_name (Add spec) = spec.name
 edited_name (Remove name) = name
 edited_name (Rewire name sources inner) = name
 
--- some edit of the list speaks of a stage with the name of this one
+-- some edit of the list names this stage
 abbrev pub is_edited : List Edit → Option Stage → Bool
 is_edited edits None = false
 is_edited edits (Some stage) = list_any (λ edit. bytes_eq (edited_name edit) stage.name) edits
@@ -65,7 +65,7 @@ is_moved edits (Some stage) = list_any (moves stage.name) edits
 abbrev pub IsNewCycle : List Edit → List (Option Stage) → List ℕ → Type 0
 IsNewCycle edits places path = IsClosedWalk places path × IsTrue (is_moved edits (stage_at places (slice_index path 0)))
 
--- the result is the answer with a last check for cycles, or want of memory stands in its place
+-- the result is the answer with a last check for cycles, or out of memory
 abbrev pub IsSettled : (List (Option Stage) → List ℕ → Type 0) → Result PlainGraph Fault → Result PlainGraph Refused → Type 0
 IsSettled IsCycle (Ok graph) answer = (answer ≡ Ok graph) × IsRanked graph.places
 IsSettled IsCycle (Err (RefusedAt refused)) answer = answer ≡ Err refused

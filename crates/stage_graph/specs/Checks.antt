@@ -40,7 +40,7 @@ takes_count (Some fixed) count = nat_eq fixed count
 abbrev pub has_arity : Op → ℕ → ℕ → Bool
 has_arity op sources inner = takes_count (source_count op) sources && (picks op || nat_eq inner 0)
 
--- an action just where the operation has one
+-- an action exactly where the operation has one
 abbrev pub fits_action : Op → Option Expression → Bool
 fits_action op None = not (has_action op)
 fits_action op (Some action) = has_action op
@@ -132,7 +132,7 @@ is_within place spec =
     is_place place && (are_few (length spec.sources) && (are_few (length spec.inner)
     && (is_tick spec.created && (is_tick spec.queued && (is_tick spec.runs && (is_pin spec.pin_moment && are_ends spec.ends))))))
 
--- the checks of a stage that is to stand at a place, as far as they ask of it alone
+-- the checks of a stage that is to stand at a place, as far as they depend only on the stage
 abbrev pub checks_alone : ℕ → Spec → Checks
 checks_alone place spec = record {
   free = true;

@@ -25,7 +25,7 @@ unless_refused (Some refusal) value = Err refusal
 abbrev pub allowed : {A : Type 0} → Checks → A → Result A Refusal
 allowed checks value = unless_refused (first_refusal checks) value
 
--- ---- what becomes of the stage that an edit names
+-- ---- the stage that an edit names, with the edit applied
 
 abbrev pub with_result : Option Outcome → Stage → Result Stage Refusal
 with_result result stage = Ok (record stage { pin_result = result })
@@ -65,7 +65,7 @@ stage_edit find (Rewire name sources inner) stage = with_feeds find sources inne
 stage_edit find (Add spec) stage = Ok stage
 stage_edit find (Remove name) stage = Ok stage
 
--- ---- what becomes of the graph
+-- ---- the graph, with an edit applied
 
 -- the stage takes the place of the one that stood there
 abbrev pub standing : PlainGraph → Result Stage Refusal → Result PlainGraph Refusal
@@ -89,7 +89,7 @@ added spec graph =
     let find : List ℕ → Option ℕ = place_named graph.places in
     allowed (checks_of (not (is_some (find spec.name))) find (length graph.places) spec) (appended graph (stage_of find (length graph.places) spec))
 
--- the first place whose stage uses the place
+-- the first dependent of the place: the first place whose stage has it as a feed
 abbrev pub first_user : List (Option Stage) → ℕ → Option ℕ
 first_user places place = position (uses place) places
 
@@ -112,7 +112,7 @@ edited (SetAction name action) graph = changed_stage graph name (SetAction name 
 edited (SetEnds name ends) graph = changed_stage graph name (SetEnds name ends)
 edited (Rewire name sources inner) graph = changed_stage graph name (Rewire name sources inner)
 
--- the result is the answer, or want of memory stands in its place
+-- the result is the answer, or out of memory
 abbrev pub IsAnswer : {A : Type 0} → Result A EditFault → Result A Refusal → Type 0
 IsAnswer (Ok value) answer = answer ≡ Ok value
 IsAnswer (Err (Refused refusal)) answer = answer ≡ Err refusal

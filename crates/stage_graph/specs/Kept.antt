@@ -42,7 +42,7 @@ pub record IsChangeBy (edits : List Edit) (old new : PlainGraph) : Type 0 where
 abbrev pub AreDependentsOf : List (Option Stage) → List ℕ → List ℕ → Type 0
 AreDependentsOf places name those = (place : ℕ) → place_named places name ≡ Some place → those ≡ dependents places place
 
--- these are the dependents of the stage that the list's first edit speaks of
+-- these are the dependents of the stage that the list's first edit names
 abbrev pub AreFirstDependents : List (Option Stage) → List Edit → List ℕ → Type 0
 AreFirstDependents places [] those = Unit {0}
 AreFirstDependents places (edit ∷ edits) those = AreDependentsOf places (edited_name edit) those
@@ -55,6 +55,6 @@ listed (Some place) = place ∷ []
 abbrev pub places_before_after : List (Option Stage) → List (Option Stage) → List ℕ → List ℕ
 places_before_after old new name = listed (place_named old name) ++ listed (place_named new name)
 
--- the places, before and after, of the stages that the list speaks of
+-- the places, before and after, of the stages that the list names
 abbrev pub edited_places : List Edit → List (Option Stage) → List (Option Stage) → List ℕ
 edited_places edits old new = flat_map (λ edit. places_before_after old new (edited_name edit)) edits

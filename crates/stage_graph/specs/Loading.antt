@@ -41,7 +41,7 @@ unless_refused_at (Some refused) graph = Err refused
 unfoldable pub loaded : Mode → List Spec → Result PlainGraph Refused
 loaded mode specs = unless_refused_at (first_refused (place_of specs) 0 specs) (record { mode = mode; places = stages_from (place_of specs) 0 specs })
 
--- a fault is the first refusal, or want of memory
+-- a fault is the first refusal, or out of memory
 abbrev pub IsRefused : Option Refused → Fault → Type 0
 IsRefused first (RefusedAt refused) = first ≡ Some refused
 IsRefused first (Cycle path) = ⊥

@@ -1,4 +1,4 @@
--- Stages by name, and what becomes of names.
+-- Stages by name, and stages whose names are replaced by places.
 use Rattle.std.specs.Prelude.{ℕ, ◌≡◌, List, map, Option, unwrap_or, position}
 use Rattle.std.specs.Str.{bytes_eq}
 use Rattle.indexmap.specs.IndexMap.{get_by_text}
@@ -38,7 +38,7 @@ stage_of find place spec = record {
 abbrev pub first_place : FirstPlaces → List ℕ → Option ℕ
 first_place names name = get_by_text names.places name
 
--- what the table has for a name: what was last said of it, or else what was loaded
+-- the place of a name: that of its latest entry, or else the one that was loaded
 abbrev pub found : NameTable → List ℕ → Option ℕ
 found table name = unwrap_or (told table.since name) (first_place table.loaded name)
 

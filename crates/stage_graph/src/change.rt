@@ -34,8 +34,8 @@ impl<R: Representation> Graph<R> {
     /// The graph that a list of edits makes, which may have cycles. This graph stays as it is.
     ///
     /// Each edit is checked on the graph that the earlier ones leave. The first refused edit refuses the
-    /// list, and is told by its index. `Cycle` never comes. What the list speaks of by name is all that
-    /// changes.
+    /// list, and the refusal has its index. `Cycle` is never returned. Only the stages that the edits name
+    /// change.
     pub fn change(&self, alloc: Global, edits: &Edits) -> Result<Graph<R>, Fault>
         ensures changed { IsChanged result (changed edits.now self.now) }
         ensures kept { IfOk result (IsChangeBy edits.now self.now) }
@@ -43,8 +43,8 @@ impl<R: Representation> Graph<R> {
         self.change_among(alloc, None, edits)
     }
 
-    /// The same, where the dependents of the stage that the first edit speaks of may be known. Where they
-    /// aren't, an edit that removes a stage looks at all stages for one.
+    /// The same, with the dependents of the first edit's stage if they are known. If they aren't known,
+    /// an edit that removes a stage searches all stages for a dependent.
     #[tactic(auto, unfolding(crate::specs::Changes::changed))]
     pub fn change_among(
         &self,

@@ -9,13 +9,13 @@ use crate::op::Op;
 use crate::stage::Spec;
 use act_expr::{Expr, ExprFault};
 
-/// A graph has at most so many places.
+/// The most places that a graph may have.
 pub(crate) const MOST_PLACES: usize = 65_536;
 
-/// No moment and no duration is above this number of ticks.
+/// The greatest moment, and the longest duration, in ticks.
 const LAST_TICK: u64 = 1 << 40;
 
-/// What was checked, in the order in which a refusal is told. What is not checked passes.
+/// The results of the checks, in the order in which refusals are reported. A check that isn't made passes.
 #[derive(Clone, Copy)]
 pub(crate) struct Checks {
     /// The name is not taken.
@@ -127,7 +127,7 @@ pub(crate) fn has_arity(op: &Op, sources: usize, inner: usize) -> bool
     counted && (op.picks() || inner == 0)
 }
 
-/// Whether there is an action just where the operation has one.
+/// Whether there is an action exactly if the operation has one.
 fn fits_action(op: &Op, action: &Option<Expr>) -> bool
     ensures { result ≡ fits_action op.now action.now }
 {
@@ -159,7 +159,7 @@ pub(crate) fn is_pin(moment: Option<u64>) -> bool
     }
 }
 
-/// How long after its `at` an end acts.
+/// How many ticks after its `at` an end acts.
 fn delay_of(act: Act) -> u64
     ensures { result ≡ delay_of act }
 {
@@ -182,7 +182,7 @@ fn is_each_end(ends: &[End]) -> bool
     ends.iter().all(|end| is_end(end))
 }
 
-/// Whether there are not too many ends, and none is too late.
+/// Whether there are at most 16 ends, and none is too late.
 pub(crate) fn are_ends(ends: &[End]) -> bool
     ensures { result ≡ are_ends ends.now }
 {

@@ -10,7 +10,7 @@ use crate::name::Places;
 use crate::representation::Representation;
 use std::alloc::{AllocError, Global};
 
-/// A closed walk that begins at another of its places.
+/// The closed walk, rotated so that it begins at another of its places.
 fn turned<R: Representation>(
     alloc: Global,
     graph: &Graph<R>,

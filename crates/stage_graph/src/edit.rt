@@ -15,12 +15,12 @@ use std::marker::Model;
 /// A change of a graph. The name is that of the stage that it changes.
 #[derive(Drop)]
 pub enum Edit {
-    /// Sets the pinned outcome, or takes it away.
+    /// Sets the pinned outcome, or removes the pin.
     PinResult {
         name: Name,
         result: Option<Outcome>,
     },
-    /// Sets the pinned moment, in ticks, or takes it away.
+    /// Sets the pinned moment, in ticks, or removes the pin.
     PinMoment {
         name: Name,
         moment: Option<u64>,
@@ -36,7 +36,7 @@ pub enum Edit {
         name: Name,
         action: Expr,
     },
-    /// Sets the ends, in place of all earlier ones.
+    /// Sets the ends, which replace all earlier ones.
     SetEnds {
         name: Name,
         ends: Ends,
@@ -54,7 +54,7 @@ pub enum Edit {
 }
 
 impl Edit {
-    /// The name of the stage that the edit speaks of.
+    /// The name of the edit's stage: the one that it changes, adds or removes.
     pub fn name(&self) -> &Name
         ensures { result.now ≡ edited_name self.now }
     {
@@ -106,7 +106,7 @@ impl Model for Edits {
 }
 
 impl Edits {
-    /// The list of these edits, of which there are to be 1 to 64. It keeps no room for more.
+    /// The list of these edits, or `ListSize` unless there are 1 to 64. It has no spare capacity.
     pub fn new(mut items: Vec<Edit>) -> Result<Edits, ListSize>
         ensures { result ≡ edit_list items.items }
     {

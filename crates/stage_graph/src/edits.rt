@@ -35,7 +35,7 @@ impl<R: Representation> Graph<R> {
         }
     }
 
-    /// The first place whose stage uses a place.
+    /// The first dependent of a place: the first place whose stage has it as a feed.
     fn first_user(&self, place: u32) -> Option<u32>
         ensures { result ≡ first_user self.now.places place }
     {
@@ -64,7 +64,7 @@ impl<R: Representation> Graph<R> {
         Ok(self.append(alloc, stage)?)
     }
 
-    /// The first place whose stage uses a place: the first of its dependents where they are known.
+    /// The first dependent of a place: the first of the known dependents, or else found by a search.
     fn dependent_among(&self, known: Option<&[u32]>, place: u32) -> Option<u32>
         requires { IfSome known (λ known. known.now ≡ dependents self.now.places place) }
         ensures { result ≡ first_user self.now.places place }

@@ -14,9 +14,9 @@ pub enum Act {
     CompleteExceptionally(ExName),
     /// `cancel`.
     Cancel,
-    /// `orTimeout`, so many ticks later.
+    /// `orTimeout`: a timeout after this many ticks.
     OrTimeout { delay: u64 },
-    /// `completeOnTimeout` with a value, so many ticks later.
+    /// `completeOnTimeout` with a value, after this many ticks.
     CompleteOnTimeout { delay: u64, value: Value },
 }
 
@@ -62,12 +62,12 @@ impl Ends {
         }
     }
 
-    /// Adds an end after the others; where memory is wanting the ends stay as they are.
+    /// Adds an end after the others; if out of memory, the ends stay as they are.
     pub fn push(&mut self, end: End) -> Result<(), AllocError>
         ensures added { OnOk result (self.new ≡ self.old ++ end ∷ []) }
         ensures kept { OnErr result (self.new ≡ self.old) }
     {
-        // The line is there for the check, which has to be shown the type inside `End`.
+        // This line shows the checker the type inside `End`.
         let _act: Act = end.act;
         self.items.push(end)?;
         Ok(())
@@ -97,7 +97,7 @@ impl Ends {
         true
     }
 
-    /// The same ends once more.
+    /// A clone of the ends.
     pub fn again(&self) -> Result<Ends, AllocError>
         ensures { IfOk result (λ same. same ≡ self.now) }
     {

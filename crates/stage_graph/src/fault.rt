@@ -30,7 +30,7 @@ pub enum Refusal {
     NoAction,
     /// 18: the removed stage feeds others; it carries the least place of these.
     InUse(u32),
-    /// 20: the action is too deep or too large.
+    /// 20: the action is nested too deeply or has too many nodes.
     Expr(ExprFault),
 }
 
@@ -59,7 +59,7 @@ pub enum Fault {
     /// 19: the stages feed one another in a circle. It carries a walk that ends where it began, each place
     /// followed by one of its feeds.
     Cycle(Places),
-    /// 90: a growth was refused.
+    /// 90: out of memory.
     Memory,
 }
 

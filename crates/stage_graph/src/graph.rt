@@ -62,7 +62,7 @@ impl<R: Representation> Graph<R> {
         self.stages.len()
     }
 
-    /// The live stage at a place; none at an empty place and past the end. Takes no memory.
+    /// The live stage at a place; none at an empty place and past the end. Allocates nothing.
     pub fn stage(&self, place: u32) -> Option<&Stage>
         ensures stage { option_copied result ≡ stage_at self.now.places place }
         ensures sound { IfSome result (λ stage. IsSoundStage self.now.places place stage.now) }
@@ -74,7 +74,7 @@ impl<R: Representation> Graph<R> {
         }
     }
 
-    /// Where the live stage of a name stands. Takes no memory.
+    /// Where the live stage of a name stands. Allocates nothing.
     pub fn id_of(&self, name: &str) -> Option<u32>
         ensures { result ≡ place_named self.now.places name.now }
     {
@@ -148,7 +148,7 @@ impl<R: Representation> Graph<R> {
         })
     }
 
-    /// The graph with nothing at the place of a name, which no stage uses.
+    /// The graph with nothing at the place of a name, on which no stage depends.
     pub(crate) fn vacate(
         &self,
         alloc: Global,

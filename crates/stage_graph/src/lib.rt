@@ -3,8 +3,8 @@
 //! A [`Graph`] is a list of places, each empty or with a live [`Stage`], which is fed by the stages at other
 //! places. [`Graph::load`] makes one of stages with names ([`Specs`]), [`Graph::change`] and [`Graph::apply`]
 //! make another of a list of [`Edits`]. All of them make each check in one order, and the first that fails
-//! refuses the whole ([`Refusal`]). A graph never changes: an edited graph is a new one, which shares what
-//! stays. Contracts see a graph as the plain list of its places.
+//! refuses the whole ([`Refusal`]). A graph is persistent: an edited graph is a new one, which shares what
+//! stays the same. Contracts see a graph as the plain list of its places.
 #![tactic(auto)]
 
 mod change;

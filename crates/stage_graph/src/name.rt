@@ -42,7 +42,7 @@ impl Name {
         self.as_str() == other.as_str()
     }
 
-    /// The same name once more.
+    /// A clone of the name.
     pub fn again(&self) -> Result<Name, AllocError>
         ensures { IfOk result (λ same. same ≡ self.now) }
     {
@@ -76,7 +76,7 @@ impl NameList {
         }
     }
 
-    /// Adds a name at the end; where memory is wanting the names stay as they are.
+    /// Adds a name at the end; if out of memory, the names stay as they are.
     pub fn push(&mut self, name: Name) -> Result<(), AllocError>
         ensures added { OnOk result (self.new ≡ self.old ++ name ∷ []) }
         ensures kept { OnErr result (self.new ≡ self.old) }
@@ -117,7 +117,7 @@ impl Places {
         }
     }
 
-    /// Adds a place at the end; where memory is wanting the places stay as they are.
+    /// Adds a place at the end; if out of memory, the places stay as they are.
     pub fn push(&mut self, place: u32) -> Result<(), AllocError>
         ensures added { OnOk result (self.new ≡ self.old ++ place ∷ []) }
         ensures kept { OnErr result (self.new ≡ self.old) }
@@ -147,7 +147,7 @@ impl Places {
         self.as_slice() == other.as_slice()
     }
 
-    /// The same places once more.
+    /// A clone of the places.
     pub fn again(&self) -> Result<Places, AllocError>
         ensures { IfOk result (λ same. same ≡ self.now) }
     {

@@ -1,4 +1,4 @@
-//! What is said of names, in a tree that versions share.
+//! A persistent tree of names, which versions share: the place of each name.
 ghost use Rattle.std.specs.Prelude.{◌≡◌, ℕ, ◌+◌, ◌-◌, ◌<◌, ◌^◌, List, Some, None, if◌then◌else◌, IfOk, false, slice_index};
 ghost use Rattle.std.specs.Str.{bytes_eq};
 ghost use Rattle.stage_graph.specs.NameTrees.{half_byte, decides, told_by, told_below, told};
@@ -8,28 +8,28 @@ use share_tree::{Again, Held};
 use std::alloc::{AllocError, Global};
 use std::sync::Arc;
 
-/// How many bits can decide: those of the 64 bytes that a stage's name may have.
+/// The most bits that a path can test: those of the 64 bytes of the longest name of a stage.
 const MOST_BITS: usize = 512;
 
-/// What is said of one name: its place, or that it has none.
+/// The entry of one name: its place, or that it has none.
 #[derive(Drop)]
 struct Entry {
     name: Name,
     place: Option<usize>,
 }
 
-/// A part of the tree: the names whose bits lead there.
+/// A subtree: the names whose bits lead there.
 #[cycle(part)]
 #[derive(Drop)]
 enum Part {
     Empty,
     One(Held<Entry>),
-    /// A name, and others whose bits are all the same.
+    /// A leaf: a name, and other names with exactly the same bits.
     More(Held<Entry>, Arc<Part>),
     Fork(Arc<Sides>),
 }
 
-/// The names whose next bit is 0, and those whose next bit is 1.
+/// A branch: the names whose next bit is 0, and those whose next bit is 1.
 #[cycle(part)]
 #[derive(Drop)]
 struct Sides {
@@ -37,8 +37,8 @@ struct Sides {
     one: Part,
 }
 
-/// What is said of names. A new tree shares all but one path with the one that it is made of. The bits of
-/// the name decide on the path, so it is never longer than they are, whatever the names.
+/// The entries of names. A new tree shares all but one path with the one that it is made from. The bits of
+/// a name select its path, so that no path is longer than a name has bits, whatever the names are.
 #[derive(Drop)]
 pub(crate) struct NameTree {
     root: Part,
@@ -58,7 +58,7 @@ fn half_byte(name: &[u8], at: usize) -> u8
     }
 }
 
-/// The bit of a name that decides where so many are left.
+/// The bit of a name that selects the branch when this many bits are left.
 fn decides(name: &[u8], left: usize) -> bool
     ensures { result ≡ decides name.now left }
 {
@@ -66,7 +66,7 @@ fn decides(name: &[u8], left: usize) -> bool
     (half_byte(name, at / 4) >> (at % 4)) % 2 == 1
 }
 
-/// The part of these two sides.
+/// The branch of these two sides.
 fn forked(alloc: Global, zero: Part, one: Part) -> Result<Part, AllocError>
     ensures { IfOk result (λ part. (left : ℕ) (name : List ℕ) → told_below left part name
         ≡ (if decides name left then told_below (left - 1) one name else told_below (left - 1) zero name)) }
@@ -74,7 +74,7 @@ fn forked(alloc: Global, zero: Part, one: Part) -> Result<Part, AllocError>
     Ok(Part::Fork(Arc::new(alloc, Sides { zero, one })?))
 }
 
-/// The part that speaks of two names, whose paths part at the first bit that differs.
+/// The subtree of two names, whose paths separate at the first bit that differs.
 fn parted(
     alloc: Global,
     old: &Held<Entry>,
@@ -108,7 +108,7 @@ fn parted(
 }
 
 impl Part {
-    /// The part once more: to have it again costs no more than a count.
+    /// A clone of the subtree, which costs no more than a reference count.
     fn again(&self) -> Result<Part, AllocError>
         ensures { IfOk result (λ same. (left : ℕ) (name : List ℕ) → told_below left same name ≡ told_below left self.now name) }
     {
@@ -120,7 +120,7 @@ impl Part {
         }
     }
 
-    /// What is said of a name of which so many bits are left.
+    /// The entry of a name of which this many bits are left.
     fn get(&self, name: &str, left: usize) -> Option<Option<usize>>
         ensures { result ≡ told_below left self.now name.now }
     {
@@ -150,7 +150,7 @@ impl Part {
         }
     }
 
-    /// The part that says this of one name, and what it said of the others.
+    /// The subtree with this entry for one name; the entries of the others stay as they are.
     fn with(&self, alloc: Global, entry: Held<Entry>, left: usize) -> Result<Part, AllocError>
         ensures { IfOk result (λ part. (name : List ℕ) → told_below left part name ≡ told_by entry name (told_below left self.now name)) }
     {
@@ -186,21 +186,21 @@ impl Part {
 }
 
 impl NameTree {
-    /// The tree that says nothing.
+    /// The tree without entries.
     pub(crate) fn new() -> NameTree
         ensures { (name : List ℕ) → told result name ≡ None }
     {
         NameTree { root: Part::Empty }
     }
 
-    /// What is said of a name, if anything: its place, or that it has none.
+    /// The entry of a name, if there is one: its place, or that it has none.
     pub(crate) fn get(&self, name: &str) -> Option<Option<usize>>
         ensures { result ≡ told self.now name.now }
     {
         self.root.get(name, MOST_BITS)
     }
 
-    /// The tree that says of one name that it has this place, or none, and of the others what this one says.
+    /// The tree in which one name has this place, or none, and the others have the same entries as here.
     pub(crate) fn with(
         &self,
         alloc: Global,

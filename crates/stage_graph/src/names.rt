@@ -46,12 +46,12 @@ impl FirstPlaces {
     }
 }
 
-/// Where the stage of each name stands. A new table shares with the one that it is made of what was
-/// loaded, and of what was said since all but one path.
+/// The place of each name's stage. A new table shares with the one that it is made from what was loaded,
+/// and all but one path of the entries that were added since.
 #[derive(Drop)]
 pub(crate) struct NameTable {
     loaded: Held<FirstPlaces>,
-    /// The names that came or went since.
+    /// The entries of the names that were added or removed since loading.
     since: NameTree,
 }
 

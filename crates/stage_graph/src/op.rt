@@ -12,7 +12,7 @@ use std::fmt;
 pub enum Op {
     /// `supplyAsync` or `runAsync`.
     Async,
-    /// A new `CompletableFuture`, which only ends complete.
+    /// A new `CompletableFuture`, which only its ends complete.
     Manual,
     /// `completedFuture`.
     Completed(Value),

@@ -1,7 +1,7 @@
 //! An order of the live stages in which each comes after its feeds, found by a search that goes depth first.
 //!
-//! The search keeps its own path, so a deep graph needs no deep stack. It looks at each feed at most once for
-//! each time that its stage is the last on the path; a feed that is still on the path closes a cycle.
+//! The search keeps its own path, so a deep graph needs no deep call stack. It looks at each feed at most once
+//! for each time that its stage is the last on the path; a feed that is still on the path closes a cycle.
 ghost use Rattle.std.specs.Prelude.{◌≡◌, ◌≢◌, ℕ, sum_by, slice_index, ◌+◌, ◌-◌, ◌<◌, ◌≤◌, [], ◌∷◌, ◌++◌, length, true, All, Contains, IfOk, IfErr, IfSome, IfNone, OnOk, slice_set, drop, map, option_copied};
 ghost use Rattle.stage_graph.specs.declared.order.Mark.TheVariants.{Unseen, Open, Done};
 ghost use Rattle.stage_graph.specs.Plain.{IsLive, stage_at, feeds_at, feeds_of};

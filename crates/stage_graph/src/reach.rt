@@ -1,4 +1,4 @@
-//! The places that a list of edits reaches: at all others the graph stays as it was.
+//! The places that a list of edits can change: at all others the graph stays as it was.
 ghost use Rattle.std.specs.Prelude.{◌≡◌, ◌++◌, IfOk, OnOk};
 ghost use Rattle.stage_graph.specs.Changes.{edited_name};
 ghost use Rattle.stage_graph.specs.Kept.{listed, places_before_after, edited_places};
@@ -10,7 +10,7 @@ use crate::representation::Representation;
 use std::alloc::{AllocError, Global};
 
 impl Places {
-    /// Adds a place at the end, where there is one.
+    /// Adds a place at the end, if there is one.
     fn push_found(&mut self, place: Option<u32>) -> Result<(), AllocError>
         ensures { OnOk result (self.new ≡ self.old ++ listed place) }
     {
@@ -35,7 +35,7 @@ impl Places {
 }
 
 impl Edits {
-    /// The places, in the graph before and after, of the stages that the edits speak of; a place may come
+    /// The places, in the graph before and after, of the stages that the edits name; a place may be listed
     /// more than once.
     pub fn edited_places<R: Representation>(
         &self,

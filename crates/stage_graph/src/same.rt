@@ -48,7 +48,7 @@ impl Stage {
             && self.ends.same(&other.ends)
     }
 
-    /// Whether two stages have the same content. Takes no memory.
+    /// Whether two stages have the same content. Allocates nothing.
     pub fn same(&self, other: &Stage) -> bool
         ensures { IsTrue result ↔ (self.now ≡ other.now) }
     {
@@ -84,7 +84,7 @@ impl<R: Representation> Graph<R> {
         true
     }
 
-    /// Whether two graphs have the same content. Takes no memory.
+    /// Whether two graphs have the same content. Allocates nothing.
     pub fn same(&self, other: &Graph<R>) -> bool
         ensures { IsTrue result ↔ (self.now ≡ other.now) }
     {

@@ -60,7 +60,7 @@ impl Spec {
             && self.ends.same(&other.ends)
     }
 
-    /// Whether two stages with names have the same content. Takes no memory.
+    /// Whether two stages with names have the same content. Allocates nothing.
     pub fn same(&self, other: &Spec) -> bool
         ensures { IsTrue result ↔ (self.now ≡ other.now) }
     {
@@ -69,7 +69,7 @@ impl Spec {
 }
 
 impl Edit {
-    /// Whether two edits are the same. Takes no memory.
+    /// Whether two edits are the same. Allocates nothing.
     pub fn same(&self, other: &Edit) -> bool
         ensures { IsTrue result ↔ (self.now ≡ other.now) }
     {
@@ -130,7 +130,7 @@ impl Edit {
 }
 
 impl Edits {
-    /// Whether two lists have the same edits. Takes no memory.
+    /// Whether two lists have the same edits. Allocates nothing.
     pub fn same(&self, other: &Edits) -> bool
         ensures { IsTrue result ↔ (self.now ≡ other.now) }
     {

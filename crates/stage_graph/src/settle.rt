@@ -17,8 +17,8 @@ use std::alloc::Global;
 impl<R: Representation> Graph<R> {
     /// The graph that a list of stages makes, of which each stands at its index.
     ///
-    /// The stages are checked one after the other, and the first refused one is told by its place. Their
-    /// feeds are named by any stages of the list. `Cycle` comes last, with a walk that ends where it began.
+    /// The stages are checked one after the other, and the first refusal has the place of its stage. The
+    /// feeds may be any stages of the list. `Cycle` comes last, with a walk that ends where it began.
     pub fn load(alloc: Global, mode: Mode, specs: &Specs) -> Result<Graph<R>, Fault>
         ensures { IsSettled IsClosedWalk result (loaded mode specs.now) }
     {
@@ -35,8 +35,8 @@ impl<R: Representation> Graph<R> {
 
     /// The graph that a list of edits makes. This graph stays as it is.
     ///
-    /// The refusals are those of [`Graph::change`], and then `Cycle`, once on the last graph: a cycle that a
-    /// later edit of the list opens again is no fault. Its path is a walk that begins and ends at a stage
+    /// The refusals are those of [`Graph::change`], and then `Cycle`, checked once on the last graph: a cycle
+    /// that a later edit of the list opens again is accepted. Its path is a walk that begins and ends at a stage
     /// which the list adds or rewires.
     pub fn apply(&self, alloc: Global, edits: &Edits) -> Result<Graph<R>, Fault>
         requires { IsRanked self.now.places }

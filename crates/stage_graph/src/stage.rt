@@ -17,7 +17,7 @@ pub struct Stage {
     pub op: Op,
     /// The stages that it waits for, in order.
     pub sources: Places,
-    /// The stages of which a compose form picks one.
+    /// The stages of which a compose operation picks one.
     pub inner: Places,
     /// The tick at which the stage was made.
     pub created: u64,
@@ -26,21 +26,21 @@ pub struct Stage {
     /// How many ticks the action runs.
     pub runs: u64,
     pub action: Option<Expr>,
-    /// The outcome that stands in place of the computed one.
+    /// The pinned outcome, which replaces the computed one.
     pub pin_result: Option<Outcome>,
-    /// The tick that stands in place of the moment of completion.
+    /// The pinned moment of completion, in ticks, which replaces the computed one.
     pub pin_moment: Option<u64>,
     pub ends: Ends,
 }
 
-/// A stage with names in place of places.
+/// A stage with names instead of places.
 #[derive(Drop)]
 pub struct Spec {
     pub name: Name,
     pub op: Op,
     /// The stages that it waits for, in order.
     pub sources: NameList,
-    /// The stages of which a compose form picks one.
+    /// The stages of which a compose operation picks one.
     pub inner: NameList,
     /// The tick at which the stage was made.
     pub created: u64,
@@ -49,14 +49,14 @@ pub struct Spec {
     /// How many ticks the action runs.
     pub runs: u64,
     pub action: Option<Expr>,
-    /// The outcome that stands in place of the computed one.
+    /// The pinned outcome, which replaces the computed one.
     pub pin_result: Option<Outcome>,
-    /// The tick that stands in place of the moment of completion.
+    /// The pinned moment of completion, in ticks, which replaces the computed one.
     pub pin_moment: Option<u64>,
     pub ends: Ends,
 }
 
-/// The same action once more.
+/// A clone of the action.
 pub(crate) fn action_again(action: &Option<Expr>) -> Result<Option<Expr>, AllocError>
     ensures { IfOk result (λ same. same ≡ action.now) }
 {
@@ -67,7 +67,7 @@ pub(crate) fn action_again(action: &Option<Expr>) -> Result<Option<Expr>, AllocE
 }
 
 impl Stage {
-    /// The same stage once more.
+    /// A clone of the stage.
     pub fn again(&self) -> Result<Stage, AllocError>
         ensures { IfOk result (λ same. same ≡ self.now) }
     {
@@ -118,7 +118,7 @@ impl Specs {
         }
     }
 
-    /// Adds a stage at the end; where memory is wanting the stages stay as they are.
+    /// Adds a stage at the end; if out of memory, the stages stay as they are.
     pub fn push(&mut self, spec: Spec) -> Result<(), AllocError>
         ensures added { OnOk result (self.new ≡ self.old ++ spec ∷ []) }
         ensures kept { OnErr result (self.new ≡ self.old) }

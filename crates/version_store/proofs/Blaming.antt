@@ -18,7 +18,7 @@ module _ (step : Stage → (ℕ → Option Completion) → State) (graph : Plain
   nothing_at place nothing zero = refl
   nothing_at place nothing (suc levels) = ap (step_at pending (on_states step) (from_feeds pending (on_states step) graph.places levels)) nothing
 
-  -- what the states tell step by step is the chain
+  -- following the states step by step gives the chain
   followed_chain : IsSound graph → (place : ℕ) → followed (at step graph.places) (length graph.places) place ≡ chain step graph.places place
   followed_chain sound place =
       followed_is_found (at step graph.places) graph.places

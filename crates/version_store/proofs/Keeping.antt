@@ -9,13 +9,13 @@ use Rattle.propagate.specs.Reach.{StaysUntouched}
 use Rattle.version_store.specs.Plain.{Origin}
 use Rattle.version_store.specs.Queries.{touched_in, KeepsOthers}
 
--- said of an origin and a graph that are the same
+-- for an origin and a graph that are the same
 pub keeps_same : (origin other : Option Origin) (graph same : PlainGraph) → other ≡ origin → same ≡ graph → IfSome origin (λ origin. KeepsOthers origin graph) → IfSome other (λ origin. KeepsOthers origin same)
 keeps_same origin other graph same is are kept =
     subst (λ (origin : Option Origin). IfSome origin (λ origin. KeepsOthers origin same)) (sym is)
     (subst (λ (graph : PlainGraph). IfSome origin (λ origin. KeepsOthers origin graph)) (sym are) kept)
 
--- what an edited graph leaves as it was, said of the origin that its version has
+-- what an edited graph leaves as it was, for the origin that its version has
 pub keeps_edited : (origin : Origin) (old graph made : PlainGraph) (edits : List Edit) (found : List ℕ) → origin.graph ≡ old → origin.edits ≡ edits → made ≡ graph
     → found ≡ touched_by (java_step graph.mode) edits old.places graph.places
     → StaysUntouched (at (java_step old.mode)) (at (java_step graph.mode)) old.places graph.places found → KeepsOthers origin made

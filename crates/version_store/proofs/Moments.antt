@@ -1,4 +1,4 @@
--- The moments that a version tells are no later than the ranks allow.
+-- The moments that a version reports are no later than the ranks allow.
 use Rattle.std.proofs.Common.{ℕ, ◌≡◌, ◌≤◌, ◌+◌, ◌*◌, ◌^◌, Option, Some, None, Result, sym, subst}
 use Rattle.std.specs.Option.{option_map}
 use Rattle.std.specs.Prelude.{IfOk, IfSome}
@@ -19,7 +19,7 @@ use Rattle.version_store.specs.Queries.{state_of, told, of_stage, moment_in}
 abbrev IsTickBy : ℕ → Result (Option ℕ) NoStage → Type 0
 IsTickBy limit answer = IfOk answer (λ moment. IfSome moment (λ tick. tick ≤ limit))
 
--- a stage that has completed by a moment tells no later one
+-- a stage that has completed by a moment reports no later one
 told_by : (limit : ℕ) (state : State) (here : Option Stage) → IsBy limit (seen_of state) → IsTickBy limit (of_stage here (moment_in state))
 told_by limit state None by = tt
 told_by limit state (Some stage) by = of_done state.done by where

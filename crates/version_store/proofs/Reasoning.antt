@@ -1,4 +1,4 @@
--- What led to the states of an evaluated graph, by the states that are kept.
+-- The causes of the states of an evaluated graph, by the states that are kept.
 use Rattle.std.proofs.Common.{◌≡◌, ◌^◌, ℕ, List, length, Some, sym, ap, subst}
 use Rattle.std.specs.Prelude.{All}
 use Rattle.stage_graph.specs.declared.stage.Stage.{Stage}

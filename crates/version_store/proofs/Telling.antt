@@ -1,4 +1,4 @@
--- What a list tells past its end.
+-- What a list answers past its end.
 use Rattle.std.proofs.Common.{◌≡◌, ℕ, zero, suc, List, [], ◌∷◌, None, refl, get_or}
 use Rattle.std.specs.Prelude.{slice_get}
 

@@ -1,4 +1,4 @@
--- What drafting a version gives.
+-- The results of drafting a version.
 use Rattle.std.specs.Prelude.{ℕ, ◌≡◌, List, Result, Ok, Err}
 use Rattle.stage_graph.specs.declared.edit.Edit.{Edit}
 use Rattle.stage_graph.specs.declared.fault.Fault.{Fault}
@@ -24,13 +24,13 @@ pub record IsDraftOf (version : PlainVersion) (edits : List Edit) (draft : Plain
   pub origin : draft.origin ≡ origin_at version edits
   pub made : IsMadeBy draft.origin draft.graph
 
--- a draft; or the refusal of the edits; or want of memory
+-- a draft; or the refusal of the edits; or out of memory
 abbrev pub Drafts : PlainVersion → List Edit → Result PlainDraft Fault → Type 0
 Drafts version edits (Ok draft) = IsDraftOf version edits draft
 Drafts version edits (Err (Refused refused)) = changed edits version.graph ≡ Err refused
 Drafts version edits (Err (Cycle path)) = (graph : PlainGraph) × (changed edits version.graph ≡ Ok graph) × IsNewCycle edits graph.places path
 Drafts version edits (Err Memory) = Unit {0}
 
--- what a count of computed stages comes to where the edits of a graph give no draft: it stays where they are refused, and rises by no more than they touch where memory was wanting later
+-- the change of the count of computed stages if there is no draft: none if the edits are refused; else no more than they touch
 abbrev pub IsCountAfter : List Edit → PlainGraph → ℕ → ℕ → Type 0
 IsCountAfter edits graph before after = IsCountOf (λ made. touched_by (java_step made.mode) edits graph.places made.places) (changed edits graph) before after

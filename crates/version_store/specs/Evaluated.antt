@@ -1,4 +1,4 @@
--- What is kept beside a graph.
+-- What is kept beside a graph: its order and its states.
 use Rattle.std.specs.Prelude.{◌≡◌, List}
 use Rattle.stage_graph.specs.Plain.{PlainGraph}
 use Rattle.stage_graph.specs.Walk.{IsRanked}

@@ -1,4 +1,4 @@
--- What a version answers about a stage: by its graph alone, evaluated from scratch.
+-- What a version answers about a stage: determined by its graph, evaluated from scratch.
 use Rattle.std.specs.Prelude.{ℕ, List, [], Option, Some, None, Result, Ok, Err, filter}
 use Rattle.std.specs.Option.{option_map, option_and_then}
 use Rattle.act_expr.specs.declared.outcome.Outcome.{Outcome}
@@ -16,7 +16,7 @@ use Rattle.version_store.specs.Plain.{Origin, PlainVersion}
 use Rattle.version_store.specs.declared.before.Before.{Before}
 use Rattle.version_store.specs.declared.before.Before.TheVariants as stood
 
--- what the stage at a place comes to
+-- the state of the stage at a place
 abbrev pub state_of : PlainGraph → ℕ → State
 state_of graph place = at (java_step graph.mode) graph.places place
 
@@ -60,12 +60,12 @@ abbrev pub found : Option ℕ → Result ℕ NoStage
 found None = Err (record {})
 found (Some place) = Ok place
 
--- the stages of a graph that the edits of its origin touch: those that they speak of, and those that read one at which the outcome, the moment or the blamed source is another than it was
+-- the touched stages of a graph: those that the edits name, and those that read one whose outcome, moment or blamed source changed
 abbrev pub touched_in : Option Origin → PlainGraph → List ℕ
 touched_in None graph = []
 touched_in (Some origin) graph = touched_by (java_step graph.mode) origin.edits origin.graph.places graph.places
 
--- a stage that the edits of the origin do not touch is what it was there, and comes to what it came to
+-- a stage that the edits of the origin do not touch is what it was there, and has the state that it had there
 abbrev pub KeepsOthers : Origin → PlainGraph → Type 0
 KeepsOthers origin graph =
     StaysUntouched (at (java_step origin.graph.mode)) (at (java_step graph.mode)) origin.graph.places graph.places (touched_in (Some origin) graph)
@@ -74,6 +74,6 @@ KeepsOthers origin graph =
 abbrev pub touched_of : PlainVersion → List ℕ
 touched_of version = touched_in version.origin version.graph
 
--- the same by place alone
+-- the same, ordered by place only
 abbrev pub touched_by_place : PlainVersion → List ℕ
 touched_by_place version = filter (λ place. is_among place (touched_of version)) (all_places version.graph.places)

@@ -25,7 +25,7 @@ impl<R: StateRepresentation> Evaluated<R> {
         }
     }
 
-    /// The chain of blame from a place, as the states tell it.
+    /// The chain of blame from a place, by the states of the stages.
     fn follow(&self, alloc: Global, place: u32) -> Result<Places, AllocError>
         ensures { IfOk result (λ chain. chain ≡ followed (state_of self.now) (length self.now.places) place) }
     {

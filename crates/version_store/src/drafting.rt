@@ -18,8 +18,8 @@ impl<R: StateRepresentation> Version<R> {
     /// The draft that a list of edits makes of the version. Only the stages that the edits touch are computed, each
     /// once, and the meter rises by their number.
     ///
-    /// It is refused by the edits' refusals, as [`stage_graph::Graph::apply`] is, after which the meter is unchanged,
-    /// and for want of memory.
+    /// Errors: the refusals of the edits, as by [`stage_graph::Graph::apply`], after which the meter is unchanged,
+    /// and out of memory.
     pub fn draft<N: Sync, W: Runner>(
         &self,
         alloc: Global,

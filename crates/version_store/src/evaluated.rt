@@ -1,4 +1,4 @@
-//! A graph with its order and with what its stages come to.
+//! A graph with its order and the states of its stages.
 ghost use Rattle.std.specs.Prelude.{◌≡◌, ◌≤◌, ◌+◌, ◌^◌, None, Some, IfOk, IfErr, OnErr, MatchResult, Ok, Err, length};
 ghost use Rattle.stage_graph.specs.Changes.{changed, IsNewCycle, IsSettled};
 ghost use Rattle.stage_graph.specs.Plain.{stage_at, dependents, IsLive};
@@ -23,11 +23,11 @@ use std::alloc::{AllocError, Global};
 use std::marker::{Model, Sync};
 use std::ops::Deref;
 
-/// The marker of the meter that counts the stages of version 0.
+/// The marker of the meter that counts the stages computed for version 0.
 #[derive(Drop)]
 struct FirstEvaluation;
 
-/// A graph with its order and with what its stages come to. Contracts see the graph.
+/// A graph with its order and the states of its stages. Contracts see the graph.
 #[derive(Drop)]
 pub(crate) struct Evaluated<R: StateRepresentation> {
     graph: Held<Graph<R>>,
@@ -52,7 +52,7 @@ impl<R: StateRepresentation> Model for Evaluated<R> {
     ghost invariant = { λ evaluated. IsEvaluated evaluated.graph evaluated.order evaluated.states };
 }
 
-/// What a list of edits makes of an evaluated graph, and the places of the stages that were computed.
+/// The evaluated graph that a list of edits makes, and the places of the stages that were computed.
 #[derive(Drop)]
 pub(crate) struct Edited<R: StateRepresentation> {
     pub(crate) graph: Evaluated<R>,
@@ -77,7 +77,7 @@ impl<R: StateRepresentation> Evaluated<R> {
         })
     }
 
-    /// What a list of edits makes of the graph. Only the stages that the edits can reach are computed, each once.
+    /// The graph with a list of edits applied. Only the stages that the edits can reach are computed, each once.
     pub(crate) fn edited<N: Sync, W: Runner>(
         &self,
         alloc: Global,
@@ -123,7 +123,7 @@ impl<R: StateRepresentation> Evaluated<R> {
         self.graph.deref()
     }
 
-    /// What a place comes to: pending where no stage stands.
+    /// The state of a place: pending where no stage stands.
     pub(crate) fn state_at(&self, place: u32) -> State
         ensures { result ≡ state_of self.now place }
     {
@@ -133,7 +133,7 @@ impl<R: StateRepresentation> Evaluated<R> {
         }
     }
 
-    /// What the stage at a place comes to.
+    /// The state of the stage at a place.
     pub(crate) fn state(&self, place: u32) -> Result<State, NoStage>
         ensures { result ≡ told self.now place (state_of self.now place) }
     {
@@ -143,7 +143,7 @@ impl<R: StateRepresentation> Evaluated<R> {
         }
     }
 
-    /// What led to the state of a stage.
+    /// The cause of a stage's state.
     pub(crate) fn reason_of(&self, stage: &Stage) -> Reason
         requires { stage_at self.now.places stage.now.place ≡ Some stage.now }
         ensures { result ≡ reason_in self.now stage.now }
@@ -175,7 +175,7 @@ impl<R: StateRepresentation> Evaluated<R> {
         }
     }
 
-    /// What the stage at a place holds.
+    /// What the stage at a place holds: its outcome and moment, if it has completed.
     pub(crate) fn holds(&self, place: u32) -> Before
         ensures { result ≡ held_by self.now place (stage_at self.now.places place) }
     {
@@ -186,7 +186,7 @@ impl<R: StateRepresentation> Evaluated<R> {
     }
 }
 
-/// What a completion holds.
+/// What a completion holds: its outcome and moment.
 fn held(done: Option<Done>) -> Before
     ensures { result ≡ held done }
 {

@@ -3,7 +3,7 @@
 //! A [`Version`] is a graph under its number, with the rank, the dependents and the state of each of its stages.
 //! [`Version::load`] evaluates the graph from scratch. [`Version::draft`] applies a list of edits and computes only
 //! the stages that they can reach; [`Draft::numbered`] makes a version of the draft. A version shares with its
-//! parent what the edits leave alone, and answers as if its graph had been evaluated from scratch.
+//! parent what the edits don't change, and answers as if its graph had been evaluated from scratch.
 #![tactic(auto)]
 
 mod before;

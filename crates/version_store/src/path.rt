@@ -24,7 +24,7 @@ fn feed_in(cause: Cause) -> Option<u32>
 }
 
 impl<R: StateRepresentation> Evaluated<R> {
-    /// The feed that the cause of a stage names.
+    /// The feed that the cause of a stage's state names.
     fn next_feed(&self, stage: &Stage) -> Option<u32>
         requires { stage_at self.now.places stage.now.place ≡ Some stage.now }
         ensures { result ≡ feed_in (reason_in self.now stage.now).cause }
@@ -32,7 +32,7 @@ impl<R: StateRepresentation> Evaluated<R> {
         feed_in(self.reason_of(stage).cause)
     }
 
-    /// The path from a place, as the states of the stages on it and of their feeds tell it.
+    /// The path from a place, by the states of the stages on it and of their feeds.
     fn follow_causes(&self, alloc: Global, place: u32) -> Result<Places, AllocError>
         ensures { IfOk result (λ places. places ≡ path self.now place) }
     {
@@ -65,7 +65,7 @@ impl<R: StateRepresentation> Evaluated<R> {
         Ok(path)
     }
 
-    /// What led to the state of the stage at a place.
+    /// The cause of the state of the stage at a place.
     pub(crate) fn reason(&self, place: u32) -> Result<Reason, NoStage>
         ensures { result ≡ told self.now place (reason_at self.now place) }
     {

@@ -93,7 +93,7 @@ impl<R: StateRepresentation> Version<R> {
         }
     }
 
-    /// The graph with what its stages come to.
+    /// The graph with the states of its stages.
     pub(crate) fn evaluated(&self) -> &Held<Evaluated<R>>
         ensures { result.now ≡ self.now.graph }
     {
@@ -135,7 +135,7 @@ impl<R: StateRepresentation> Version<R> {
         }
     }
 
-    /// What the stage at a place comes to.
+    /// The state of the stage at a place.
     pub fn state(&self, place: u32) -> Result<State, NoStage>
         ensures { result ≡ told self.now.graph place (state_of self.now.graph place) }
     {
@@ -175,8 +175,8 @@ impl<R: StateRepresentation> Version<R> {
         })
     }
 
-    /// The tick at which the action of the stage at a place started; none while the stage is pending, and where no
-    /// action of its own led to what it holds.
+    /// The tick at which the action of the stage at a place started; none while the stage is pending, and if no
+    /// action of its own led to its outcome.
     pub fn start(&self, place: u32) -> Result<Option<u64>, NoStage>
         ensures { result ≡ told self.now.graph place (start_in (state_of self.now.graph place)) }
     {
@@ -211,9 +211,9 @@ impl<R: StateRepresentation> Version<R> {
         self.graph.dependents(place)
     }
 
-    /// The stages that the version's edits touch: those that they speak of, and those that read one whose outcome,
-    /// moment or blamed source is another than in the parent; by rank, and then by place. There are none of version 0.
-    /// All other stages are in the parent what they are here.
+    /// The stages that the version's edits touch: those that the edits name, and those that read one whose outcome,
+    /// moment or blamed source is not that of the parent; by rank, and then by place. There are none of version 0.
+    /// All other stages are the same in the parent.
     pub fn touched(&self) -> &[u32]
         ensures touched { result.now ≡ touched_of self.now }
         ensures others { IfSome self.now.origin (λ origin. KeepsOthers origin self.now.graph) }
@@ -221,7 +221,7 @@ impl<R: StateRepresentation> Version<R> {
         self.touched.as_slice()
     }
 
-    /// The same stages, by place alone.
+    /// The same stages, ordered by place only.
     pub fn touched_by_place(&self, alloc: Global) -> Result<Vec<u32>, AllocError>
         ensures { IfOk result (λ places. places.items ≡ touched_by_place self.now) }
     {
@@ -230,7 +230,7 @@ impl<R: StateRepresentation> Version<R> {
         Ok(places)
     }
 
-    /// The chain of blame of the stage at a place: none unless it completed exceptionally, else the stage itself, and
+    /// The chain of blame of the stage at a place: empty unless it completed exceptionally, else the stage itself, and
     /// then the chain of the source whose exception it handed on.
     pub fn blame(&self, alloc: Global, place: u32) -> Result<Places, QueryFault>
         ensures { AnswersOrMemory (chain_at (java_step self.now.graph.mode) self.now.graph.places place) result }
@@ -238,7 +238,7 @@ impl<R: StateRepresentation> Version<R> {
         self.graph.blame(alloc, place)
     }
 
-    /// What led to the state of the stage at a place: why it completed when it did, or why it is pending.
+    /// The cause of the state of the stage at a place: why it completed when it did, or why it is pending.
     pub fn reason(&self, place: u32) -> Result<Reason, NoStage>
         ensures { result ≡ told self.now.graph place (reason_at self.now.graph place) }
     {
@@ -246,7 +246,7 @@ impl<R: StateRepresentation> Version<R> {
     }
 
     /// The path of the stage at a place: the stage itself, and then the path of the feed that its cause names. It looks
-    /// at the stages on the path and at their feeds alone.
+    /// only at the stages on the path and at their feeds.
     pub fn path(&self, alloc: Global, place: u32) -> Result<Places, QueryFault>
         ensures answer { AnswersOrMemory (list_at (path self.now.graph) place (stage_at self.now.graph.places place)) result }
         ensures adds_up { IfOk result (IsPath self.now.graph place) }
