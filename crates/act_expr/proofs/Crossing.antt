@@ -1,4 +1,4 @@
--- Which types of expressions may go to another thread.
+-- Which types of expressions may be sent to another thread.
 use denote.Param.Send.{IsSend, IsSync, sendable}
 use Rattle.std.proofs.Crossing.{crosses}
 use Rattle.act_expr.specs.contracts.expr.Expr as expr

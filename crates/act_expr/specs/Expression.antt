@@ -4,7 +4,7 @@ use Rattle.act_expr.specs.declared.outcome.Value.{Value}
 use Rattle.act_expr.specs.declared.expr.Operator.{Operator}
 use Rattle.act_expr.specs.declared.expr.Position.{Position}
 
--- an expression: what stands for a value, and how values are made of values
+-- an expression: the forms without operands, and the forms that compute values from the values of operands
 pub data Expression : Type 0 where
   literal : Value → Expression
   argument : Position → Expression
@@ -16,7 +16,7 @@ pub data Expression : Type 0 where
   cause_is : List ℕ → Expression
   throw : List ℕ → Expression
 
--- how many forms there are in an expression
+-- how many nodes an expression has
 abbrev pub nodes : Expression → ℕ
 nodes (literal v) = 1
 nodes (argument p) = 1
@@ -28,7 +28,7 @@ nodes is_wrapped = 1
 nodes (cause_is x) = 1
 nodes (throw x) = 1
 
--- how many forms lie one inside the other
+-- how deeply the forms are nested
 abbrev pub depth : Expression → ℕ
 depth (literal v) = 1
 depth (argument p) = 1

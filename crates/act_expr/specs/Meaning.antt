@@ -1,4 +1,4 @@
--- The meaning of an expression: what it gives or throws, for the arguments of its action.
+-- The meaning of an expression: the value that it gives or the exception that it throws, for the arguments of its action.
 use Rattle.std.specs.Prelude.{ℕ, ℤ, pos, negsuc, ◌+ℤ◌, ◌-ℤ◌, ◌*ℤ◌, List, Bool, true, false, nat_lt, nat_eq, int_lt, if◌then◌else◌, Option, Some, None, Result, Ok, Err, ⊤}
 use Rattle.std.specs.Int.{w64, int_wrap}
 use Rattle.std.specs.Int.RustNames.{int_div}
@@ -18,7 +18,7 @@ use Rattle.act_expr.specs.declared.expr.ExprFault.TheVariants.{TooDeep, TooLarge
 use Rattle.act_expr.specs.ExceptionName.{null_pointer, arithmetic}
 use Rattle.act_expr.specs.Expression.{Expression, literal, argument, binary, conditional, is_null, failed, is_wrapped, cause_is, throw, depth, nodes}
 
--- a whole number brought back into the 64 bits of a `long`
+-- a whole number wrapped to the 64 bits of a `long`
 abbrev pub as_long : ℤ → ℤ
 as_long z = int_wrap w64 z
 

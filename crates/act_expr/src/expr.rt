@@ -14,17 +14,17 @@ use std::marker::Model;
 use std::sync::Arc;
 use thiserror::Error;
 
-/// No sound expression is deeper.
+/// The greatest depth of a sound expression.
 const MOST_DEPTH: u32 = 32;
 
-/// No sound expression has more nodes.
+/// The most nodes of a sound expression.
 const MOST_NODES: u32 = 256;
 
-/// No expression is made with more levels than this, so that none is too deep to be walked.
+/// The most levels that an expression can be made with, so that none is too deep to be walked.
 const MOST_MADE_DEPTH: u32 = 1024;
 
-/// No expression is made with more nodes than this, each counted as often as it stands in the tree. A recording of the greatest
-/// length has fewer.
+/// The most nodes that an expression can be made with, each counted as often as it is in the tree. The longest recording has
+/// fewer.
 const MOST_MADE_NODES: u32 = 67_108_864;
 
 /// Which argument of the action.
@@ -87,9 +87,9 @@ pub enum ExprFault {
 #[derive(Drop)]
 pub struct Expr {
     form: Arc<Form>,
-    /// How many forms lie one inside the other.
+    /// How deeply the forms are nested.
     levels: u32,
-    /// How many forms there are: those of a shared part count as often as it stands in the tree.
+    /// How many nodes there are; those of a shared part count as often as it is in the tree.
     forms: u32,
 }
 
@@ -138,8 +138,8 @@ impl Model for Expr {
 }
 
 impl Expr {
-    /// The expression of a form. As one for which there is no memory it refuses an expression of more than 1,024 levels, or of more than
-    /// 67,108,864 nodes where each shared part counts as often as it stands in the tree. So each expression can be walked, compared
+    /// The expression of a form. It fails as if out of memory for an expression of more than 1,024 levels, or of more than
+    /// 67,108,864 nodes, where a shared part counts as often as it is in the tree. So each expression can be walked, compared
     /// and dropped.
     pub fn new(alloc: Global, form: Form) -> Result<Expr, AllocError>
         ensures tree { IfOk result (λ e. e ≡ tree form) }
@@ -207,7 +207,7 @@ impl Expr {
         }
     }
 
-    /// How many forms lie one inside the other.
+    /// The depth: how deeply the forms are nested.
     fn depth(&self) -> u32
         ensures depth { result ≡ depth self.now }
         ensures made { IsMade self.now }
@@ -215,7 +215,7 @@ impl Expr {
         self.levels
     }
 
-    /// How many forms there are.
+    /// How many nodes there are.
     fn nodes(&self) -> u32
         ensures nodes { result ≡ nodes self.now }
         ensures made { IsMade self.now }
@@ -223,7 +223,7 @@ impl Expr {
         self.forms
     }
 
-    /// The value, or the exception that is thrown in place of one.
+    /// The value, or the exception that is thrown instead.
     fn value(&self, args: &Args) -> Result<Value, ExName>
         ensures { as_answer result ≡ meaning self.now args.now }
     {

@@ -75,7 +75,7 @@ fn padded(text: &[u8]) -> [u8; 128]
 }
 
 impl ExName {
-    /// The exception name that a text is, if it is one. It takes no memory.
+    /// The exception name that a text is, if it is one. Allocates nothing.
     pub fn new(text: &str) -> Option<ExName>
         ensures { result ≡ exception_name text.now }
     {

@@ -27,7 +27,7 @@ pub enum Outcome {
 /// `CompletableFuture` does not say in which form a stage holds its own exception.
 #[derive(Clone, Copy, PartialEq, Eq, Debug)]
 pub enum Mode {
-    /// Each of them is wrapped once.
+    /// Each of them is wrapped once, in a `CompletionException`.
     Computed,
     /// A stage's own exception is bare.
     Literal,

@@ -1,4 +1,4 @@
-//! Worked examples of expressions, names and outcomes.
+//! Test cases of expressions, names and outcomes.
 use crate::{Answer, Args, ExName, Expr, ExprFault, Failure, Form, Operator, Outcome, Value};
 use std::alloc::{AllocError, Global};
 use std::test::Fail;
@@ -20,7 +20,7 @@ fn on(alloc: Global, operator: Operator, left: i64, right: i64) -> Result<Answer
     Ok(expr.eval(&NO_ARGS))
 }
 
-/// The arithmetic of the worked example, by the Java Language Specification, 15.17.2.
+/// Arithmetic, by the Java Language Specification, 15.17.2.
 #[test]
 fn same_pin_and_arithmetic(rt: HostRuntime) -> Result<(), Fail> {
     let alloc = rt.alloc();
@@ -58,7 +58,7 @@ fn a_null_operand_throws(rt: HostRuntime) -> Result<(), Fail> {
     Ok(())
 }
 
-/// The action of the worked example `copy-and-handle`: 9 without an exception, and else whether it is wrapped
+/// An action of `handle`: 9 without an exception, and else whether it is wrapped
 /// and whether it is X.
 #[test]
 fn copy_and_handle(rt: HostRuntime) -> Result<(), Fail> {
@@ -123,7 +123,7 @@ fn a_size_of_256_is_accepted(rt: HostRuntime) -> Result<(), Fail> {
     Ok(())
 }
 
-/// An expression that is added to itself again and again.
+/// An expression that is added to itself repeatedly.
 fn doubled(alloc: Global, times: u32) -> Result<Expr, AllocError> {
     let mut expr = number(alloc, 1)?;
     for _ in 0..times {
@@ -132,7 +132,7 @@ fn doubled(alloc: Global, times: u32) -> Result<Expr, AllocError> {
     Ok(expr)
 }
 
-/// An expression of so many levels.
+/// An expression of this many levels.
 fn nested(alloc: Global, levels: u32) -> Result<Expr, AllocError> {
     let mut expr = number(alloc, 1)?;
     for _ in 1..levels {

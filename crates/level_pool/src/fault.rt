@@ -9,12 +9,12 @@ use thiserror::Error;
 /// Why a run gave no results.
 #[derive(Clone, Copy, Debug, PartialEq, Eq, Error)]
 pub enum PoolFault {
-    /// The start of a thread was refused. No runner of this crate answers it: where no thread can be
-    /// had, `std` and `rayon` make the calls in the caller's thread. It is for those who start threads
+    /// The start of a thread was refused. No runner of this crate returns it: if no thread can be
+    /// started, `std` and `rayon` make the calls in the caller's thread. It is for those who start threads
     /// of their own beside a runner.
     #[error("a thread could not be started")]
     NoThread,
-    /// A growth was refused.
+    /// Out of memory.
     #[error("out of memory")]
     Memory,
 }

@@ -1,7 +1,7 @@
 //! Gates: what a worker passes before and after each of its pieces.
 
-/// A gate that a worker passes before and after each piece. It sees the pieces go by, and can hold a
-/// worker back, but has no part in the results.
+/// A gate that a worker passes before and after each piece. It observes the pieces, and can hold a
+/// worker back, but has no influence on the results.
 pub trait Gate {
     /// Called by the worker just before it computes the piece.
     fn enter(&self, piece: u32);
@@ -20,7 +20,7 @@ impl Gate for NoGate {
     fn leave(&self, _piece: u32) {}
 }
 
-/// A gate that is lent: whoever lends it can read it after the run.
+/// A borrowed gate: its owner can read it after the run.
 impl<'a, G: Gate> Gate for &'a G {
     fn enter(&self, piece: u32) {
         (**self).enter(piece);

@@ -1,8 +1,8 @@
-//! Runners: they compute the pieces of a level, in the caller's thread or in several, and give what
-//! the plain map gives.
+//! Runners: they compute the pieces of a level, in the caller's thread or in several, and give the same
+//! results as `map` over the list.
 //!
-//! A level is a list of numbers, such as places of stages, whose answers don't depend on one another.
-//! Which runner computes it changes the time that it takes, and nothing else: the law of [`Runner::run`]
+//! A level is a list of numbers, such as places of stages, whose results don't depend on one another.
+//! The choice of the runner changes the time that a level takes, and nothing else: the law of [`Runner::run`]
 //! is one for all of them.
 #![tactic(auto)]
 

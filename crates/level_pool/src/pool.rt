@@ -6,8 +6,8 @@ use rayon::prelude::*;
 use std::alloc::{AllocError, Global};
 use std::thread::Threads;
 
-/// The fewest pieces that are worth a thread of their own. Without it `rayon` splits no level of fewer
-/// than some thousand pieces.
+/// The fewest pieces that are worth a thread of their own. Without it `rayon` would not split a level of
+/// fewer than some thousand pieces.
 const LEAST_PART: usize = 64;
 
 /// The results of `f` at the pieces, in as many threads as `rayon` takes.

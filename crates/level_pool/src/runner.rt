@@ -30,20 +30,20 @@ pub enum Plan<'a, R, G> {
     },
 }
 
-/// Computes the pieces of a level. A runner only says how ([`Runner::plan`]); the work is done by
+/// Computes the pieces of a level. A runner only chooses how ([`Runner::plan`]); the work is done by
 /// [`Runner::run`], which is the same for all, so that no runner can give other results.
 pub trait Runner {
-    /// What threads are started with.
+    /// The runtime that threads are started with.
     type Handle: Threads + Sync;
 
-    /// What each worker passes before and after each of its pieces.
+    /// The gate that each worker passes before and after each of its pieces.
     type Gate: Gate + Sync;
 
     /// How the runner computes the pieces.
     fn plan(&self) -> Plan<'_, Self::Handle, Self::Gate>;
 
     /// The results of `f` at the pieces, in their order. Whatever the order and the threads of the
-    /// calls, they are those of the plain map, and want of memory alone is refused.
+    /// calls, they are those of `map` over the list, and out of memory is the only error.
     final fn run<T: Send + Drop, F: Fn(u32) -> T + Sync>(
         &self,
         alloc: Global,

@@ -1,4 +1,4 @@
-//! The runners: in the caller's thread, in so many threads, and in the threads of `rayon`.
+//! The runners: in the caller's thread, in a fixed number of threads, and in the threads of `rayon`.
 ghost use Rattle.std.specs.Prelude.{◌≤◌, ◌<◌};
 
 use crate::gate::{Gate, NoGate};
@@ -8,7 +8,7 @@ use std::marker::PhantomData;
 use std::thread::Threads;
 
 /// Computes the pieces one after another, in the caller's thread. It holds no handle to start a thread
-/// with; the handle's type is all that it knows.
+/// with, and knows only the handle's type.
 #[derive(Drop)]
 pub struct OneThread<R> {
     gate: NoGate,
@@ -16,7 +16,7 @@ pub struct OneThread<R> {
 }
 
 impl<R> OneThread<R> {
-    /// The runner; of the handle it takes the type alone.
+    /// The runner; of the handle only the type is used.
     pub fn new(_rt: &R) -> OneThread<R> {
         OneThread {
             gate: NoGate,
@@ -36,7 +36,7 @@ impl<R: Threads + Sync> Runner for OneThread<R> {
 }
 
 /// Cuts the pieces into equal parts, at most one for each worker, and computes each part in a
-/// thread of its own. Where no further thread can be had, it computes the parts one after another.
+/// thread of its own. If no further thread can be started, it computes the parts one after another.
 #[derive(Drop)]
 pub struct Scoped<'a, R, G> {
     rt: &'a R,

@@ -9,7 +9,7 @@ use std::alloc::{AllocError, Global};
 use std::thread;
 use std::thread::Threads;
 
-/// The results of `f` at the pieces. Where no further thread can be had, the parts are computed one
+/// The results of `f` at the pieces. If no further thread can be started, the parts are computed one
 /// after another in the caller's thread.
 pub(crate) fn several_parts<
     R: Threads + Sync,

@@ -1,4 +1,4 @@
-//! Worked examples of runners.
+//! Test cases of runners.
 ghost use Rattle.std.specs.Prelude.{◌≡◌, ◌*◌, ◌<◌, ◌≤◌, ◌^◌, IfOk, All, map};
 
 use crate::{Gate, NoGate, OneThread, PoolFault, Pooled, Runner, Scoped};
@@ -9,7 +9,7 @@ use std::thread;
 use std::thread::Threads;
 use std::time::{Clock, Duration};
 
-/// Each of the numbers twice. A caller that knows nothing of its runner proves its own answer.
+/// Each of the numbers doubled. A caller that knows nothing of its runner proves its own answer.
 fn doubled<R: Runner>(runner: &R, alloc: Global, numbers: &[u32]) -> Result<Vec<u32>, PoolFault>
     requires { All (λ number. 2 * number < 2 ^ 32) numbers.now }
     ensures { IfOk result (λ doubled. doubled.items ≡ map (λ number. 2 * number) numbers.now) }
@@ -24,7 +24,7 @@ fn doubled<R: Runner>(runner: &R, alloc: Global, numbers: &[u32]) -> Result<Vec<
     )
 }
 
-/// The runners of the worked example `trees-and-runners`.
+/// A test of any runner: a level of four pieces, and an empty one.
 fn trees_and_runners<R: Runner>(
     rt: &impl Abort,
     alloc: Global,
@@ -52,10 +52,10 @@ fn trees_and_runners_pooled(rt: HostRuntime) -> Result<(), PoolFault> {
     trees_and_runners(&rt, rt.alloc(), &Pooled::new(&rt))
 }
 
-/// The turns that a piece waits at the gate before it goes on alone.
+/// How many turns a piece waits at the gate before it continues alone.
 const MOST_TURNS: u32 = 1_000_000;
 
-/// A gate where no piece goes on until two have entered, or its turns are used up.
+/// A gate that holds each piece until two have entered, or its turns are used up.
 #[derive(Drop)]
 struct Meeting<'a, C> {
     clock: &'a C,
@@ -80,7 +80,7 @@ impl<'a, C: Clock> Gate for Meeting<'a, C> {
     fn leave(&self, _piece: u32) {}
 }
 
-/// How many of the pieces 1 and 2 went on alone.
+/// How many of the pieces 1 and 2 continued alone.
 fn gone_on_alone<R: Threads + Clock + Sync>(
     rt: &R,
     alloc: Global,
@@ -105,7 +105,7 @@ fn two_workers(rt: HostRuntime) -> Result<(), PoolFault> {
     Ok(())
 }
 
-/// The gate tells one thread from two: the only worker's first piece goes on alone.
+/// The gate distinguishes one thread from two: the only worker's first piece continues alone.
 #[test]
 fn one_worker_meets_nobody(rt: HostRuntime) -> Result<(), PoolFault> {
     assert_eq!(rt; gone_on_alone(&rt, rt.alloc(), 1)?, 1);
@@ -141,7 +141,7 @@ fn each_piece_passes_the_gate(rt: HostRuntime) -> Result<(), PoolFault> {
     Ok(())
 }
 
-/// A gate that knows of each of four pieces whether it has entered, and whether it has left.
+/// A gate that records for each of four pieces whether it has entered, and whether it has left.
 #[derive(Drop)]
 struct Doors {
     turns: Vec<AtomicU64>,

@@ -22,7 +22,7 @@ impl Model for Workers {
 }
 
 impl Workers {
-    /// So many workers.
+    /// This many workers.
     pub fn new(count: usize) -> Workers
         requires some { 0 < count }
         requires few { count ≤ 16 }

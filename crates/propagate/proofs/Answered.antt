@@ -1,4 +1,4 @@
--- The states that answers tell are those of evaluation from scratch.
+-- The states of these answers are those of evaluation from scratch.
 use Rattle.std.proofs.Common.{◌≡◌, ℕ, zero, suc, ◌+◌, ◌-◌, ◌<◌, ◌≤◌, List, [], ◌∷◌, ◌++◌, Option, Some, None, length, get_or, refl, ap, sym, ◌∙◌, ⊎_elim, arith}
 use Rattle.std.proofs.Math.ListN.{get_or-append}
 use Rattle.std.proofs.Math.Seq.{get_or-append_right}
@@ -19,7 +19,7 @@ empty_pending : (step : Step) (stages : Stages) (place levels : ℕ) → stage_a
 empty_pending step stages place zero e = refl
 empty_pending step stages place (suc levels) e = ap (step_at pending (on_states step) (from_feeds pending (on_states step) stages levels)) e
 
--- the state that is told of a place
+-- the state that an answer gives a place
 told_at : (step : Step) (stages : Stages) (place : ℕ) (here : Option Stage) → stage_at stages place ≡ here → state_of (answer_for step stages place here) ≡ at step stages place
 told_at step stages place None e = sym (empty_pending step stages place (length stages) e)
 told_at step stages place (Some stage) e = refl

@@ -1,4 +1,4 @@
--- Dependents can tell two completions apart exactly where these are not equal.
+-- Dependents can distinguish two completions exactly if these are not equal.
 use Rattle.std.proofs.Common.{◌≡◌, ℕ, ℤ, true, false, ◌&&◌, List, Option, Some, None, refl, ap, sym, ◌∙◌}
 use Rattle.std.specs.Prelude.{nat_eq}
 use Rattle.std.specs.Option.{option_eq}

@@ -1,4 +1,4 @@
--- The dependents of the stage that a list's first edit speaks of.
+-- The dependents of the stage that a list's first edit names.
 use Rattle.std.proofs.Common.{◌≡◌, ℕ, List, [], ◌∷◌, Option, Some, slice_get, refl, ap}
 use Rattle.stage_graph.specs.declared.stage.Stage.{Stage}
 use Rattle.stage_graph.specs.declared.edit.Edit.{Edit}

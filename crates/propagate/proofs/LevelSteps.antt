@@ -15,7 +15,7 @@ use Rattle.propagate.proofs.Ranks.{rank_feed}
 use Rattle.propagate.proofs.Ascending.{Ascends, IsBefore, before_strict}
 use Rattle.propagate.proofs.Steps.{IsRankedChange, IsFeed, IsProgress, is_changed, stepped, comes_right}
 
--- what is still to be set of the level, and what is marked above it
+-- the rest of the level, which is still to be set, and the marks above it
 abbrev pub waits_in : List ℕ → (ℕ → Bool) → ℕ → Bool
 waits_in rest above s = is_among s rest || above s
 
@@ -25,7 +25,7 @@ pub record IsLevel (new : Stages) (level : List ℕ) (above : ℕ → Bool) : Ty
   pub level_rank : (s : ℕ) → is_among s level ≡ true → rank new s ≡ least
   pub above_rank : (s : ℕ) → above s ≡ true → least < rank new s
 
--- Each place of the level comes to what it holds in the new graph, on the states from before the level.
+-- Each place of the level gets the state that it has in the new graph, from the states before the level.
 pub level_right : {step : Step} → ReadsDecide step → {old new : Stages} {edited : ℕ → Bool} → IsRankedChange old new edited → {computed level : List ℕ} {above : ℕ → Bool} {states : ℕ → State}
     → IsProgress step old new edited computed (waits_in level above) states → IsLevel new level above → (u : ℕ) → is_among u level ≡ true → come_to step (stage_at new u) states ≡ at step new u
 level_right law {new = new} edit {level = level} {above = above} progress one u here =
@@ -36,7 +36,7 @@ level_right law {new = new} edit {level = level} {above = above} progress one u 
     (λ r. let theirs : one.least < rank new m = one.above_rank m r in omega arith)
     (or_cases (is_among m level) (above m) h))
 
--- The next place of the level is set: it is the least of what waits.
+-- The next place of the level is set: it is the least of the remaining ones.
 pub record IsLevelStep (step : Step) (old new : Stages) (edited : ℕ → Bool) (u : ℕ) (rest : List ℕ) (above : ℕ → Bool) (states : ℕ → State) (above_then : ℕ → Bool) (states_then : ℕ → State) : Type 0 where
   pub before_rest : (m : ℕ) → is_among m rest ≡ true → IsBefore new u m
   pub before_above : (m : ℕ) → above m ≡ true → IsBefore new u m
@@ -78,7 +78,7 @@ level_step {step} law {old} {new} {edited} edit {computed} rest above states u a
       waiting false false c true false same h k = absurd (true≢false same)
       waiting false false c false false same h k = refl
 
--- The same told another way.
+-- The same in another form.
 pub progress_told : {step : Step} {old new : Stages} {edited : ℕ → Bool} (computed listed : List ℕ) (marked told : ℕ → Bool) (states shown : ℕ → State) → listed ≡ computed → ((s : ℕ) → told s ≡ marked s) → ((s : ℕ) → shown s ≡ states s)
     → IsProgress step old new edited computed marked states → IsProgress step old new edited listed told shown
 progress_told {step} {old} {new} {edited} computed listed marked told states shown e h k progress =
@@ -90,7 +90,7 @@ progress_told {step} {old} {new} {edited} computed listed marked told states sho
       each_touched = progress.each_touched;
     })
 
--- whether u holds something else, and s, which may read it, read it
+-- whether u holds something else, and s, which may read it, has read it
 abbrev pub tells : Step → Stages → Stages → (ℕ → ℕ → Bool) → ℕ → ℕ → Bool
 tells step old new reads_it s u = is_changed step old new u && (is_among u (feeds_at new s) && reads_it u s)
 
@@ -106,7 +106,7 @@ module _ {step : Step} (law : ReadsDecide step) {old new : Stages} {edited : ℕ
       let less : rank new u < rank new s = rank_feed new edit.new_ranked s u (among_contains u (feeds_at new s) feed.0) in
       omega arith
 
-  -- All places of a level are computed, and what was told is marked.
+  -- All places of a level are computed, and the readers of those that changed are marked.
   pub level_set : (computed level : List ℕ) (above : ℕ → Bool) (states : ℕ → State)
       → IsProgress step old new edited computed (waits_in level above) states
       → ((u : ℕ) → is_among u level ≡ true → rank new u ≡ least) → ((s : ℕ) → above s ≡ true → least < rank new s) → Ascends (λ one other. one < other) level

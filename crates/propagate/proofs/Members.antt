@@ -1,4 +1,4 @@
--- Tests on lists of places, and what they say.
+-- Tests on lists of places, and what they imply.
 use Rattle.std.proofs.Common.{◌≡◌, ℕ, ◌<◌, ◌≤◌, Bool, true, false, List, [], ◌∷◌, ◌++◌, length, get_or, refl, ap, sym, ◌∙◌, inl, inr, ⊎_elim}
 use Rattle.std.specs.Prelude.{Contains, slice_get, nat_eq, ◌==◌, ◌||◌, ◌⊎◌}
 use Rattle.std.specs.Option.{option_to_list}
@@ -77,7 +77,7 @@ pub or_nothing : (b : Bool) → (b || false) ≡ b
 or_nothing true = refl
 or_nothing false = refl
 
--- what is picked from a list is the element there
+-- the picked element of a list is the element at that index
 pub picked_within : (s i : ℕ) (xs : List ℕ) → i < length xs → is_among s (option_to_list (slice_get xs i)) ≡ (s == get_or xs i 0)
 picked_within s i xs h = ap (λ o. is_among s (option_to_list o)) (slice_get-get_or xs i 0 h) ∙ or_nothing (s == get_or xs i 0)
 

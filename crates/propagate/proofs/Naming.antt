@@ -1,4 +1,4 @@
--- The places of the stages that a list of edits speaks of.
+-- The places of the stages that a list of edits names.
 use Rattle.std.proofs.Common.{◌≡◌, ℕ, ◌+◌, ◌<◌, ◌≤◌, length, get_or, arith, Bool, true, false, List, [], ◌∷◌, ◌++◌, Option, Some, None, refl, ap, sym, ◌∙◌, subst, inr, ⊎_elim}
 use Rattle.std.specs.Prelude.{nat_eq, ◌&&◌, ◌||◌, ◌==◌, ◌⊎◌, is_some, filter, All, Result, Ok}
 use Rattle.std.specs.List.{list_any, flat_map}
@@ -40,7 +40,7 @@ is_listed place (Some k) e = or_left (place == k) false (eq-eqb place k (sym (th
   the a b e = cc
 
 module _ (old new : Stages) (place : ℕ) (name : List ℕ) where
-  -- where each stage that stood or stands at the place has the name, the list speaks of it exactly where the place is listed
+  -- where each stage that stood or stands at the place has the name, the list names it exactly if the place is listed
   listed_named : ((other : List ℕ) → place_named old other ≡ Some place → other ≡ name) → ((other : List ℕ) → place_named new other ≡ Some place → other ≡ name)
       → (edits : List Edit) → is_among place (edited_places edits old new) ≡ true → list_any (λ edit. bytes_eq (edited_name edit) name) edits ≡ true
   listed_named before after [] h = h
@@ -112,7 +112,7 @@ module _ (edits : List Edit) (old new : PlainGraph) (sound : IsSound new) (chang
       (same_function (λ place.
       same_touch (list_any (λ read. differ (seen_at (at step old.places) read) (seen_at (at step new.places) read)) (reads_at step old.places place)) place (stage_at new.places place) refl))
 
--- the places of the stages that the list speaks of are places of the new graph
+-- the places of the stages that the list names are places of the new graph
 pub edited_within : (old new : Stages) → length old ≤ length new → (edits : List Edit) (place : ℕ) → is_among place (edited_places edits old new) ≡ true → place < length new
 edited_within old new longer [] place h = absurd (impossible h) where
   impossible : false ≡ true → ⊥
@@ -134,7 +134,7 @@ all_edited_within old new longer edits places e k d l =
     edited_within old new longer edits (get_or places k d)
     (ap (is_among (get_or places k d)) (sym e) ∙ contains_among (get_or places k d) places (Contains-get_or places k d l))
 
--- the graph changes at these places alone
+-- the graph changes only at these places
 pub change_between : (edits : List Edit) (old new : PlainGraph) (places : List ℕ) → IsSound old → IsSound new → IsChangeBy edits old new → places ≡ edited_places edits old.places new.places
     → IsChange old.places new.places (λ place. is_among place places)
 change_between edits old new places sound_old sound_new change e = record {
@@ -142,7 +142,7 @@ change_between edits old new places sound_old sound_new change e = record {
   elsewhere = λ place none. same_elsewhere edits old new sound_old sound_new change place (ap (is_among place) (sym e) ∙ none);
 }
 
--- the changed graph is ranked, and no less is counted than before, and no more than there is touched
+-- the changed graph is ranked, and the count has not fallen, and has risen by no more than the touched stages
 pub count_of_ranked : (touches : PlainGraph → List ℕ) (answer : Result PlainGraph Refused) (graph : PlainGraph) (before after : ℕ) → answer ≡ Ok graph → IsRanked graph.places → (before ≤ after) × (after ≤ before + length (touches graph))
     → IsCountOf touches answer before after
 count_of_ranked touches answer graph before after is ranked both = subst (λ (answer : Result PlainGraph Refused). IsCountOf touches answer before after) (sym is) (inr (ranked, both))

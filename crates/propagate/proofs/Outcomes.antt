@@ -1,4 +1,4 @@
--- What clauses say of results.
+-- What postconditions say of results.
 use Rattle.std.specs.Prelude.{Result, Ok, Err, OnOk, OnErr}
 
 pub on_ok : {X E : Type 0} (r : Result X E) (P Q : Type 0) → (P → Q) → OnOk r P → OnOk r Q

@@ -12,7 +12,7 @@ use Rattle.stage_ops.specs.States.{pending, state_at}
 use Rattle.rank_order.specs.Lists.{is_among}
 use Rattle.propagate.proofs.Members.{flip_eq}
 
--- a pending state more changes nothing
+-- one more pending state changes nothing
 pub pending_more : (states : List State) (s : ℕ) → state_at (states ++ pending ∷ []) s ≡ state_at states s
 pending_more states s =
     ⊎_elim
@@ -51,7 +51,7 @@ emptied_next live place s among was empty =
       spread a false true h = refl
       spread a false false h = refl
 
--- and one that is a stage: it stays
+-- and one with a stage, whose state stays
 pub filled_next : (live : ℕ → Bool) (place s : ℕ) (among : Bool) (was : State) → live place ≡ true
     → (if among && not (live s) then pending else was) ≡ (if (among || (place == s)) && not (live s) then pending else was)
 filled_next live place s among was here =

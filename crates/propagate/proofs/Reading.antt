@@ -1,4 +1,4 @@
--- Marks of stages that read a place.
+-- Marks of the stages that read a place.
 use Rattle.std.proofs.Common.{◌≡◌, ℕ, ◌+◌, ◌<◌, Bool, true, false, List, length, get_or, take, refl, ap, sym, ◌∙◌, arith, subst}
 use Rattle.std.specs.Prelude.{◌==◌, ◌&&◌, ◌||◌, Option, Some, None, Ok, Err, is_some, slice_get}
 use Rattle.std.proofs.lemmas.Option.{get_or_from_slice_get}
@@ -60,18 +60,18 @@ first_next live edited i s within =
         and_false true = refl
         and_false false = refl
 
--- whether s is among the users, and has read the place
+-- whether s is among the dependents, and has read the place
 abbrev pub among_readers : (ℕ → Bool) → List ℕ → ℕ → Bool
 among_readers reads_it users s = list_any (λ user. (s == user) && reads_it user) users
 
--- what has read something is a stage
+-- only a stage reads anything
 pub reader_live : (stages : Stages) (states : ℕ → State) (feed place : ℕ) → has_read stages states feed place ≡ true → is_some (stage_at stages place) ≡ true
 reader_live stages states feed place h = live (stage_at stages place) h where
   live : (here : Option Stage) → is_among feed (reads_of here (states place).reads) ≡ true → is_some here ≡ true
   live None e = absurd (false≢true e)
   live (Some stage) e = refl
 
--- one more user, which has read the place
+-- one more dependent, which has read the place
 pub readers_more : (reads_it live : ℕ → Bool) (users : List ℕ) (i s : ℕ) (was : Bool) → i < length users → reads_it (get_or users i 0) ≡ true → live (get_or users i 0) ≡ true
     → ((was || among_readers reads_it (take i users) s) || (live (get_or users i 0) && s == get_or users i 0)) ≡ (was || among_readers reads_it (take (i + 1) users) s)
 readers_more reads_it live users i s was within r l =
@@ -84,7 +84,7 @@ readers_more reads_it live users i s was within r l =
       turn false b c e f = absurd (false≢true e)
       turn true b false e f = absurd (false≢true f)
 
--- and one that has not
+-- and one that has not read it
 pub readers_same : (reads_it : ℕ → Bool) (users : List ℕ) (i s : ℕ) (was : Bool) → i < length users → reads_it (get_or users i 0) ≡ false
     → (was || among_readers reads_it (take i users) s) ≡ (was || among_readers reads_it (take (i + 1) users) s)
 readers_same reads_it users i s was within r =
@@ -99,7 +99,7 @@ uses_among : (place : ℕ) (here : Option Stage) → uses place here ≡ is_amon
 uses_among place None = refl
 uses_among place (Some stage) = refl
 
--- the users of a place that read it, in the words of the place's feeds
+-- the dependents of a place that have read it, in terms of the place's feeds
 pub among_readers_all : (stages : Stages) (reads_it : ℕ → Bool) (u s : ℕ) → among_readers reads_it (dependents stages u) s ≡ (is_among u (feeds_at stages s) && reads_it s)
 among_readers_all stages reads_it u s =
     same_tests (among_readers reads_it (dependents stages u) s) (is_among u (feeds_at stages s) && reads_it s)
@@ -121,7 +121,7 @@ module _ (stages : Stages) (before : ℕ → State) (after : ℕ → State) (lev
   more : list_any (is_told stages before after s) (take (i + 1) level) ≡ (list_any (is_told stages before after s) (take i level) || is_told stages before after s (get_or level i 0))
   more = list_any_more (is_told stages before after s) level i 0 within
 
-  -- one more place of the level, which comes to something else
+  -- one more place of the level, whose state changes
   pub told_more : (now : Bool) → now ≡ (was || list_any (is_told stages before after s) (take i level)) → differ (seen_at before (get_or level i 0)) (seen_at after (get_or level i 0)) ≡ true
       → (now || (is_among (get_or level i 0) (feeds_at stages s) && has_read stages before (get_or level i 0) s)) ≡ (was || list_any (is_told stages before after s) (take (i + 1) level))
   told_more now so_far changed =
@@ -131,7 +131,7 @@ module _ (stages : Stages) (before : ℕ → State) (after : ℕ → State) (lev
       ∙ ap (λ b. was || (list_any (is_told stages before after s) (take i level) || (b && reads))) (sym changed)
       ∙ ap (λ b. was || b) (sym more)
 
-  -- and one that does not
+  -- and one whose state stays
   pub told_same : (now : Bool) → now ≡ (was || list_any (is_told stages before after s) (take i level)) → differ (seen_at before (get_or level i 0)) (seen_at after (get_or level i 0)) ≡ false
       → now ≡ (was || list_any (is_told stages before after s) (take (i + 1) level))
   told_same now so_far same =

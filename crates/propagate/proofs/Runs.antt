@@ -1,4 +1,4 @@
--- A whole propagation: how it begins, and what it ends with.
+-- A whole propagation: its initial state and its result.
 use Rattle.std.proofs.Common.{◌≡◌, ℕ, ◌<◌, Bool, true, false, cond, List, [], Option, Some, None, length, refl, ap, sym, ◌∙◌, arith, ⊎_elim}
 use Rattle.std.specs.Prelude.{not, ◌&&◌, ◌||◌, suc, is_some, if◌then◌else◌}
 use Rattle.std.specs.List.{list_any}
@@ -59,7 +59,7 @@ begun {step} law {old} {new} {edited} edit marked states m h = record {
 pub touched_live : (step : Step) (old new : Stages) (edited : ℕ → Bool) (s : ℕ) → is_touched step old new edited s ≡ true → is_some (stage_at new s) ≡ true
 touched_live step old new edited s t = (and_parts (is_some (stage_at new s)) (is_reached step old edited (seen_at (at step new)) s) t).0
 
--- what is touched is listed
+-- the touched stages are listed
 pub touched_listed : (step : Step) {old new : Stages} {edited : ℕ → Bool} → IsRankedChange old new edited → (s : ℕ) → is_touched step old new edited s ≡ true → is_among s (touched step old new edited) ≡ true
 touched_listed step {old} {new} {edited} edit s t =
     let live : is_some (stage_at new s) ≡ true = touched_live step old new edited s t in
@@ -74,7 +74,7 @@ module _ {step : Step} (law : ReadsDecide step) {old new : Stages} {edited : ℕ
   all_computed s t =
       touched_below law edit progress (suc (rank new s)) (λ m h. absurd (true≢false (sym h ∙ unmarked m))) (suc (rank new s)) s (omega arith) (omega arith) t
 
-  -- in the end each place holds what it does in the new graph
+  -- in the end each place has its state in the new graph
   pub ended_states : (s : ℕ) → states s ≡ at step new s
   ended_states s = holds_below law edit progress (suc (rank new s)) (λ m h. absurd (true≢false (sym h ∙ unmarked m))) s (omega arith)
 
@@ -88,7 +88,7 @@ module _ {step : Step} (law : ReadsDecide step) {old new : Stages} {edited : ℕ
       (λ c. touched_listed step edit s (progress.each_touched s c))
       (λ c. let (low, within, t) = among_levels new (is_touched step old new edited) (all_places new) 0 (length new) s c in all_computed s t))
 
--- what is not among the touched places stays what it was
+-- a place that is not touched keeps its state
 pub stays_untouched : {step : Step} → ReadsDecide step → {old new : Stages} {edited : ℕ → Bool} → IsRankedChange old new edited → (found : List ℕ) → found ≡ touched step old new edited
     → StaysUntouched (at step) (at step) old new found
 stays_untouched {step} law {old} {new} {edited} edit found is s live elsewhere =

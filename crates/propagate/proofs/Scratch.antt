@@ -1,4 +1,4 @@
--- What evaluation from scratch comes to depends on what is read alone.
+-- The result of evaluation from scratch depends only on what is read.
 use Rattle.std.proofs.Common.{◌≡◌, ℕ, List, [], Option, Some, None, refl, ap, ◌∙◌, inl, inr, ⊎_elim, arith}
 use Rattle.std.specs.Prelude.{Contains, slice_get}
 use Rattle.std.specs.Option.{option_to_list}
@@ -15,7 +15,7 @@ use Rattle.stage_ops.specs.States.{pending, seen_at, IsReadBy}
 use Rattle.stage_ops.specs.Evaluation.{at, on_states, ReadsDecide}
 use Rattle.propagate.specs.Reach.{Stages, Step, come_to, read_places, reads_of}
 
--- what is picked from a list is in it
+-- a picked element of a list is in the list
 picked : (xs : List ℕ) (i s : ℕ) (o : Option ℕ) → slice_get xs i ≡ o → o ≡ Some s → Contains xs s
 picked xs i s o e h = let here : slice_get xs i ≡ Some s = e ∙ h in (i, slice_get_within xs i s here, get_or_from_slice_get xs i s s here)
 
@@ -56,7 +56,7 @@ pub reads_are_feeds : (here : Option Stage) (reads : Reads) (s : ℕ) → Contai
 reads_are_feeds None reads s h = h
 reads_are_feeds (Some stage) reads s h = read_is_feed stage reads s (listed_read stage reads s h)
 
--- what a place comes to depends on what it read alone
+-- the state of a place depends only on what it read
 pub same_on_reads : {step : Step} → ReadsDecide step → (here : Option Stage) (states others : ℕ → State)
     → ((read : ℕ) → Contains (reads_of here (come_to step here states).reads) read → seen_at states read ≡ seen_at others read) → come_to step here states ≡ come_to step here others
 same_on_reads law None states others same = refl

@@ -20,7 +20,7 @@ use Rattle.propagate.proofs.Scratch.{scratch_meets, reads_are_feeds, same_on_rea
 use Rattle.propagate.proofs.Ranks.{HasLiveFeeds, rank_feed}
 use Rattle.propagate.proofs.Ascending.{IsBefore}
 
--- From a ranked graph to a ranked graph, which differ at the edited places alone.
+-- From a ranked graph to a ranked graph, which differ only at the edited places.
 pub record IsRankedChange (old new : Stages) (edited : ℕ → Bool) : Type 0 where
   pub old_ranked : IsRanked old
   pub new_ranked : IsRanked new
@@ -47,15 +47,15 @@ has_feed_live stages s feed h = has (stage_at stages s) h where
   has None c = absurd (omega arith)
   has (Some stage) c = refl
 
--- whether s holds something else in the new graph
+-- whether s has another state in the new graph
 abbrev pub is_changed : Step → Stages → Stages → ℕ → Bool
 is_changed step old new s = differ (seen_at (at step old) s) (seen_at (at step new) s)
 
--- whether s holds what it does in the new graph: it was computed, or is empty
+-- whether s has its state of the new graph: it was computed, or is empty
 abbrev pub is_settled : Stages → List ℕ → ℕ → Bool
 is_settled new computed s = is_among s computed || not (is_some (stage_at new s))
 
--- whether the place was computed, and holds something else in the new graph
+-- whether the place was computed, and has another state in the new graph
 abbrev pub is_computed_change : Step → Stages → Stages → List ℕ → ℕ → Bool
 is_computed_change step old new computed s = is_among s computed && is_changed step old new s
 
@@ -71,7 +71,7 @@ pub record IsProgress (step : Step) (old new : Stages) (edited : ℕ → Bool) (
   pub ascending : AllPairs (IsBefore new) computed
   pub each_touched : (s : ℕ) → is_among s computed ≡ true → is_touched step old new edited s ≡ true
 
--- A place that is not reached comes to what it came to in the old graph.
+-- A place that is not reached has the state that it had in the old graph.
 kept : {step : Step} → ReadsDecide step → {old new : Stages} {edited : ℕ → Bool} → IsRankedChange old new edited → (s : ℕ) → is_reached step old edited (seen_at (at step new)) s ≡ false
     → at step old s ≡ come_to step (stage_at new s) (at step new)
 kept {step} law {old} {new} {edited} edit s h =
@@ -84,11 +84,11 @@ kept {step} law {old} {new} {edited} edit s h =
     (false_unless (is_changed step old new read) (λ d. true≢false (sym (passes (is_changed step old new) (reads_at step old s) read c d) ∙ parts.1)))))
     ∙ ap (λ p. come_to step p (at step new)) (sym (edit.change.elsewhere s parts.0))
 
--- What is not touched holds what it did.
+-- A place that is not touched keeps its state.
 pub untouched_same : {step : Step} → ReadsDecide step → {old new : Stages} {edited : ℕ → Bool} → IsRankedChange old new edited → (s : ℕ) → is_reached step old edited (seen_at (at step new)) s ≡ false → at step old s ≡ at step new s
 untouched_same {step} law {old} {new} edit s h = kept law edit s h ∙ sym (scratch_meets law new edit.new_ranked s)
 
--- What holds something else in the new stages is touched.
+-- A place with another state in the new stages is touched.
 changed_touched : {step : Step} → ReadsDecide step → {old new : Stages} {edited : ℕ → Bool} → IsRankedChange old new edited → (s : ℕ) → is_some (stage_at new s) ≡ true → is_changed step old new s ≡ true → is_touched step old new edited s ≡ true
 changed_touched {step} law {old} {new} {edited} edit s live d =
     and_from (is_some (stage_at new s)) (is_reached step old edited (seen_at (at step new)) s) live
@@ -135,14 +135,14 @@ touched_below {step} law {old} {new} {edited} edit {computed} {marked} progress 
     absurd (omega arith))
     (cases_Bool (is_among s computed))
 
--- where s holds what it does in the new graph
+-- where s has its state of the new graph
 hold_new : {step : Step} {old new : Stages} {edited : ℕ → Bool} {computed : List ℕ} {marked : ℕ → Bool} {states : ℕ → State} → IsProgress step old new edited computed marked states → (s : ℕ) → is_settled new computed s ≡ true → states s ≡ at step new s
 hold_new {step} {old} {new} {edited} {computed} progress s h = progress.hold s ∙ cond-true (is_settled new computed s) (at step new s) (at step old s) h
 
 hold_old : {step : Step} {old new : Stages} {edited : ℕ → Bool} {computed : List ℕ} {marked : ℕ → Bool} {states : ℕ → State} → IsProgress step old new edited computed marked states → (s : ℕ) → is_settled new computed s ≡ false → states s ≡ at step old s
 hold_old {step} {old} {new} {edited} {computed} progress s h = progress.hold s ∙ cond-false (is_settled new computed s) (at step new s) (at step old s) h
 
--- A place of a rank below all marks holds what it does in the new graph.
+-- A place of a rank below all marks has its state of the new graph.
 pub holds_below : {step : Step} → ReadsDecide step → {old new : Stages} {edited : ℕ → Bool} → IsRankedChange old new edited → {computed : List ℕ} {marked : ℕ → Bool} {states : ℕ → State} → IsProgress step old new edited computed marked states
     → (bound : ℕ) → ((m : ℕ) → marked m ≡ true → bound ≤ rank new m) → (s : ℕ) → rank new s < bound → states s ≡ at step new s
 holds_below {step} law {old} {new} {edited} edit {computed} progress bound low s below =
@@ -161,7 +161,7 @@ holds_below {step} law {old} {new} {edited} edit {computed} progress bound low s
     (cases_Bool (is_reached step old edited (seen_at (at step new)) s)))
     (cases_Bool (is_settled new computed s))
 
--- What a place of the least marked rank comes to now is what it holds in the new graph.
+-- The state that is now computed for a place of the least marked rank is that of the new graph.
 pub comes_right : {step : Step} → ReadsDecide step → {old new : Stages} {edited : ℕ → Bool} → IsRankedChange old new edited → {computed : List ℕ} {marked : ℕ → Bool} {states : ℕ → State} → IsProgress step old new edited computed marked states
     → (u : ℕ) → ((m : ℕ) → marked m ≡ true → rank new u ≤ rank new m) → come_to step (stage_at new u) states ≡ at step new u
 comes_right {step} law {old} {new} edit {computed} {marked} {states} progress u low =
@@ -223,7 +223,7 @@ before_lower : (stages : Stages) (a b c : ℕ) → IsBefore stages a b → rank 
 before_lower stages a b c (inl h) lower = inl (omega arith)
 before_lower stages a b c (inr (h, l)) lower = inl (omega arith)
 
--- a user of a marked place is not computed yet, nor then
+-- a dependent of a marked place is not computed before it
 pub user_waits : {step : Step} {old new : Stages} {edited : ℕ → Bool} → IsRankedChange old new edited → {computed : List ℕ} {marked : ℕ → Bool} {states : ℕ → State} → IsProgress step old new edited computed marked states
     → (u : ℕ) → marked u ≡ true → (s : ℕ) → IsFeed new s u → is_among s (computed ++ u ∷ []) ≡ false
 user_waits {step} {old} {new} edit {computed} progress u here s f =
@@ -240,7 +240,7 @@ pub waiting_old : {step : Step} {old new : Stages} {edited : ℕ → Bool} {comp
 waiting_old {step} {old} {new} {edited} {computed} progress s a live =
     hold_old progress s (or_from (is_among s computed) (not (is_some (stage_at new s))) a (not_from_true (is_some (stage_at new s)) live))
 
--- a user of a marked place is as it was
+-- a dependent of a marked place is as it was
 pub user_old : {step : Step} {old new : Stages} {edited : ℕ → Bool} → IsRankedChange old new edited → {computed : List ℕ} {marked : ℕ → Bool} {states : ℕ → State} → IsProgress step old new edited computed marked states
     → (u : ℕ) → marked u ≡ true → (s : ℕ) → IsFeed new s u → states s ≡ at step old s
 user_old {step} {old} {new} edit {computed} progress u here s f =
@@ -248,7 +248,7 @@ user_old {step} {old} {new} edit {computed} progress u here s f =
     (false_unless (is_among s computed) (λ e. true≢false (sym (among_push_left s u computed e) ∙ user_waits edit progress u here s f)))
     (has_feed_live new s u f)
 
--- The marks once u is computed: the others, and the users of u that read it, if it holds something else now.
+-- The marks once u is computed: the others, and the dependents of u that read it, if its state has changed.
 abbrev pub marks_after : Step → Stages → Stages → ℕ → (ℕ → Bool) → (ℕ → Bool) → ℕ → Bool
 marks_after step old new u marked reads_it s = (marked s && not (u == s)) || (is_changed step old new u && (is_among u (feeds_at new s) && reads_it s))
 
@@ -264,7 +264,7 @@ pub record IsStep (step : Step) (old new : Stages) (edited : ℕ → Bool) (u : 
 module _ {step : Step} (law : ReadsDecide step) {old new : Stages} {edited : ℕ → Bool} (edit : IsRankedChange old new edited) {computed : List ℕ} {marked : ℕ → Bool} {states : ℕ → State}
     (progress : IsProgress step old new edited computed marked states) {u : ℕ} {marked_after : ℕ → Bool} {states_after : ℕ → State}
     (one : IsStep step old new edited u marked states marked_after states_after) where
-  -- a mark after the stepped was one before, or is a user of u that read it
+  -- a mark after the step was one before, or is a dependent of u that read it
   mark_cases : (s : ℕ) → marked_after s ≡ true → ((marked s ≡ true) × (u ≢ s)) ⊎ ((is_changed step old new u ≡ true) × IsFeed new s u × (one.reads_it s ≡ true))
   mark_cases s h =
       ⊎_elim
@@ -288,7 +288,7 @@ module _ {step : Step} (law : ReadsDecide step) {old new : Stages} {edited : ℕ
       (and_from (is_changed step old new u) (is_among u (feeds_at new s) && one.reads_it s) c
       (and_from (is_among u (feeds_at new s)) (one.reads_it s) (contains_among u (feeds_at new s) f) r))
 
-  -- what a place must be to be marked after the stepped
+  -- the conditions on a place that is marked after the step
   waits : ℕ → Bool
   waits s = not (is_among s (computed ++ u ∷ [])) && (is_some (stage_at new s) && is_reached_so_far step old new edited (computed ++ u ∷ []) s)
 

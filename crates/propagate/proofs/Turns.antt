@@ -1,4 +1,4 @@
--- One turn of the propagation: the least level is computed on the states as they are, and then set.
+-- One turn of the propagation: the least level is computed from the states as they are, and then set.
 use Rattle.std.proofs.Common.{◌≡◌, ℕ, ◌+◌, ◌*◌, ◌^◌, ◌<◌, ◌≤◌, Bool, true, false, List, [], ◌∷◌, ◌++◌, length, get_or, refl, ap, sym, ◌∙◌, arith, subst, ⊎_elim, length-append}
 use Rattle.std.specs.Prelude.{AllPairs, All, Contains, not, ◌&&◌, ◌||◌, zero, suc, Option, Some, None, is_some, map, if◌then◌else◌}
 use Rattle.std.specs.List.{list_any}
@@ -66,7 +66,7 @@ in_time step moments graph ranked sound s =
 
 module _ {step : Step} {old new : Stages} {edited : ℕ → Bool} (edit : IsRankedChange old new edited) {computed : List ℕ} {marked : ℕ → Bool} {states : ℕ → State}
     (progress : IsProgress step old new edited computed marked states) where
-  -- what is computed is touched
+  -- each computed place is touched
   pub within_touched : length computed ≤ length (touched step old new edited)
   within_touched =
       no_longer (IsBefore new) (before_strict new) computed (touched step old new edited)
@@ -110,7 +110,7 @@ module _ {step : Step} (law : ReadsDecide step) {old new : Stages} {edited : ℕ
         (λ r. let theirs : one.least < rank new m = one.above_rank m r in omega arith)
         (or_cases (is_among m level) (above m) (sym (one.split m) ∙ c)))
 
-    -- the places of the level come to what they do in the new graph
+    -- the places of the level get their states of the new graph
     pub level_results : (results : List State) → results ≡ map (λ u. come_to step (stage_at new u) states) level → results ≡ map (at step new) level
     level_results results e = e ∙ same_map (λ u. come_to step (stage_at new u) states) (at step new) level (λ u c. level_comes u (contains_among u level c))
 

@@ -1,4 +1,4 @@
--- Whether dependents can tell two completions apart.
+-- Whether dependents can distinguish two completions.
 use Rattle.std.specs.Prelude.{Bool, true, false, not, ◌&&◌, nat_eq, Option}
 use Rattle.std.specs.Ordering.{int_eq}
 use Rattle.std.specs.Option.{option_eq}
@@ -30,6 +30,6 @@ same_outcome (Wrapped name) (Bare other) = false
 abbrev pub same_completion : Completion → Completion → Bool
 same_completion one other = same_outcome one.outcome other.outcome && (nat_eq one.moment other.moment && option_eq nat_eq one.from other.from)
 
--- one alone is pending, or the completions differ
+-- exactly one is pending, or the completions differ
 abbrev pub differ : Option Completion → Option Completion → Bool
 differ before after = not (option_eq same_completion before after)

@@ -1,4 +1,4 @@
--- What a change of a graph touches.
+-- The stages that a change of a graph touches.
 use Rattle.std.specs.Prelude.{◌≡◌, ℕ, ◌<◌, ◌≤◌, Bool, true, false, not, List, [], ◌++◌, length, Option, Some, None, ◌==◌, ◌&&◌, ◌||◌, filter, is_some, slice_get, slice_index_or}
 use Rattle.std.specs.List.{list_any, flat_map}
 use Rattle.std.specs.Option.{option_to_list}
@@ -22,7 +22,7 @@ Stages = List (Option Stage)
 abbrev pub Seen : Type 0
 Seen = ℕ → Option Completion
 
--- what a stage comes to, by what it sees at its feeds
+-- the state of a stage, by what it sees at its feeds
 abbrev pub Step : Type 0
 Step = Stage → Seen → State
 
@@ -37,7 +37,7 @@ abbrev pub reads_of : Option Stage → Reads → List ℕ
 reads_of None reads = []
 reads_of (Some stage) reads = read_places stage reads
 
--- what a place comes to, by the states of its feeds
+-- the state of a place, by the states of its feeds
 abbrev pub come_to : Step → Option Stage → (ℕ → State) → State
 come_to step here states = step_at pending (on_states step) states here
 
@@ -68,7 +68,7 @@ pub record IsChange (old new : Stages) (edited : ℕ → Bool) : Type 0 where
 abbrev pub is_emptied : Stages → List ℕ → ℕ → Bool
 is_emptied new edited place = is_among place edited && not (is_some (stage_at new place))
 
--- whether the place has read the other, where its state has these reads
+-- the place is among the reads of the other one
 abbrev pub has_read : Stages → (ℕ → State) → ℕ → ℕ → Bool
 has_read stages states read place = is_among read (reads_of (stage_at stages place) (states place).reads)
 
@@ -86,7 +86,7 @@ pub record AreStates (step : Step) (stages : Stages) (states : List State) : Typ
   pub count : length states ≡ length stages
   pub each : (place : ℕ) → state_at states place ≡ at step stages place
 
--- a stage that is not among the touched ones stays what it was, and comes to what it came to
+-- a stage that is not among the touched ones stays as it was, and keeps its state
 abbrev pub StaysUntouched : (Stages → ℕ → State) → (Stages → ℕ → State) → Stages → Stages → List ℕ → Type 0
 StaysUntouched came comes old new touched = (place : ℕ) → is_some (stage_at new place) ≡ true → is_among place touched ≡ false
     → (stage_at new place ≡ stage_at old place) × (comes new place ≡ came old place)

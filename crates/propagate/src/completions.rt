@@ -1,4 +1,4 @@
-//! Whether dependents can tell two states of a stage apart.
+//! Whether dependents can distinguish two states of a stage.
 ghost use Rattle.std.specs.Prelude.{◌≡◌};
 ghost use Rattle.stage_ops.specs.States.{seen_of};
 ghost use Rattle.propagate.specs.Completions.{differ, same_outcome};
@@ -13,7 +13,7 @@ fn is_same_outcome(one: &Outcome, other: &Outcome) -> bool
     *one == *other
 }
 
-/// Whether one state alone is pending, or they differ in outcome, moment or blamed source.
+/// Whether exactly one state is pending, or they differ in outcome, moment or blamed source.
 pub(crate) fn differ(before: &State, after: &State) -> bool
     ensures { result ≡ differ (seen_of before.now) (seen_of after.now) }
 {

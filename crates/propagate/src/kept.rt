@@ -1,4 +1,4 @@
-//! States as lists keep them.
+//! States as lists store them.
 ghost use Rattle.std.specs.Prelude.{◌≡◌, IfOk};
 
 use act_expr::{Outcome, Value};
@@ -8,7 +8,7 @@ use std::alloc::{AllocError, Global};
 use std::marker::Model;
 use std::ops::Deref;
 
-/// A state in as little room as most need. An exception's name has much more, so a state with one stands apart.
+/// A compact state. The name of an exception is much larger than a number, so it is stored apart.
 #[derive(Drop)]
 enum Form {
     Pending(Reads),
@@ -21,7 +21,7 @@ enum Form {
     Other(Held<State>),
 }
 
-/// A state, as a list keeps it. Contracts see the state.
+/// A state, as a list stores it. Contracts see the state.
 #[derive(Drop)]
 pub struct KeptState {
     form: Form,
@@ -37,7 +37,7 @@ impl Model for KeptState {
 }
 
 impl KeptState {
-    /// Keeps a state.
+    /// Stores a state.
     pub fn new(alloc: Global, state: State) -> Result<KeptState, AllocError>
         ensures { IfOk result (λ kept. kept ≡ state) }
     {
@@ -68,7 +68,7 @@ impl KeptState {
         }
     }
 
-    /// The state.
+    /// The stored state.
     pub fn state(&self) -> State
         ensures { result ≡ self.now }
     {

@@ -45,7 +45,7 @@ fn pass_at<'a, N>(level: &[u32], passes: &'a [Pass<N>], place: u32) -> &'a Pass<
     }
 }
 
-/// What the stage at a place of a level comes to, by its pass.
+/// The state of the stage at a place of a level, computed by its pass.
 fn compute_at<R: StateRepresentation, N, O: StageOps<N>>(
     graph: &Graph<R>,
     level: &[u32],
@@ -68,7 +68,7 @@ fn compute_at<R: StateRepresentation, N, O: StageOps<N>>(
     ops.compute(graph.mode(), stage, pass_at(level, passes, place), states)
 }
 
-/// What the stages of a level come to, each on the states before the level and by a pass of its own.
+/// The states of the stages of a level, each computed from the states before the level, by a pass of its own.
 pub(crate) fn compute_level<R: StateRepresentation, N: Sync, O: StageOps<N> + Sync, W: Runner>(
     alloc: Global,
     runner: &W,

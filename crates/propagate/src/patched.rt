@@ -29,7 +29,7 @@ pub struct Old<'a, R: StateRepresentation> {
     pub states: &'a States<R>,
 }
 
-/// What a list of edits makes of a graph, its order and its states.
+/// A graph with a list of edits applied, its order and its states.
 #[derive(Drop)]
 pub struct Patched<R: StateRepresentation> {
     pub graph: Held<Graph<R>>,
@@ -39,7 +39,7 @@ pub struct Patched<R: StateRepresentation> {
     pub touched: Vec<u32>,
 }
 
-/// The dependents of the stage that the first edit speaks of.
+/// The dependents of the stage that the first edit names.
 fn first_dependents<'a, R: StateRepresentation>(
     graph: &Graph<R>,
     order: &'a Order<R>,
@@ -76,10 +76,10 @@ fn changed_order<R: StateRepresentation>(
 }
 
 /// The graph that a list of edits makes, with its order and its states. The stages that the edits can reach are computed again, each
-/// once, and no others: a stage is reached if an edit speaks of it, or if it read one whose outcome, moment or blamed source changed.
+/// once, and no others: a stage is reached if an edit names it, or if it read one whose outcome, moment or blamed source changed.
 ///
-/// It is refused as [`Graph::apply`] is, or for want of memory. The meter then stays, but where memory ran out after all checks had
-/// passed: then it has not fallen, and has risen by no more than there is touched.
+/// Refused as [`Graph::apply`] is, or out of memory. The meter then stays, unless memory ran out after all checks had
+/// passed: then it has risen by no more than the number of touched stages.
 pub fn propagate<R: StateRepresentation, N: Sync, O: StageOps<N> + Sync, W: Runner>(
     alloc: Global,
     old: Old<'_, R>,
@@ -99,7 +99,7 @@ pub fn propagate<R: StateRepresentation, N: Sync, O: StageOps<N> + Sync, W: Runn
     ensures states { IfOk result (λ patched. AreStates (O.step ops.now patched.graph.mode) patched.graph.places patched.states) }
     ensures touched { IfOk result (λ patched. patched.touched.items
         ≡ touched_by (O.step ops.now patched.graph.mode) edits.now old.entry.graph.now.places patched.graph.places) }
-    // A stage that is not touched stays what it was, and comes to what it came to.
+    // A stage that is not touched stays as it was, and keeps its state.
     ensures untouched { IfOk result (λ patched. StaysUntouched (at (O.step ops.now old.entry.graph.now.mode)) (at (O.step ops.now patched.graph.mode))
         old.entry.graph.now.places patched.graph.places patched.touched.items) }
     // One pass was taken for each touched stage.

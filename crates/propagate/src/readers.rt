@@ -1,4 +1,4 @@
-//! Marks of what has to be computed: the edited stages, and those that read a stage which changed.
+//! Marks of the places that have to be computed: the edited stages, and those that read a stage which changed.
 ghost use Rattle.std.specs.Prelude.{◌≡◌, ◌<◌, ◌&&◌, ◌||◌, ◌==◌, ℕ, List, IfOk, OnOk, All, is_some, length, map};
 ghost use Rattle.std.specs.List.{list_any};
 ghost use Rattle.stage_graph.specs.Plain.{stage_at, feeds_at, IsLive};
@@ -19,7 +19,7 @@ use stage_graph::Graph;
 use stage_ops::{Look, State};
 use std::alloc::{AllocError, Global};
 
-/// The places whose stages have the stage at a place as a feed.
+/// The dependents of a place: the places whose stages have it as a feed.
 pub(crate) fn users_of<R: OrderRepresentation>(order: &Order<R>, place: u32) -> &[u32]
     requires { IsLive order.now.graph.places place }
     ensures { result.now ≡ dependents order.now.graph.places place }
@@ -104,7 +104,7 @@ fn mark_readers<R: StateRepresentation>(
     Ok(())
 }
 
-/// Marks the stages that have read a place of the level which comes to something else than before.
+/// Marks the stages that have read a place of the level whose state has changed.
 pub(crate) fn mark_level<R: StateRepresentation>(
     marks: &mut Marks,
     graph: &Graph<R>,

@@ -32,7 +32,7 @@ fn laws<N, O: StageOps<N>>(_ops: &O)
     ensures soon { (mode : Mode) → IsSoon (O.step _ops.now mode) }
 {}
 
-/// The states of a graph from those of the graph before, which differs from it at the edited places alone. Each touched stage is
+/// The states of a graph from those of the graph before, which differs from it only at the edited places. Each touched stage is
 /// computed once, and no other: level by level, one rank after the other.
 pub(crate) fn propagate_change<R: StateRepresentation, N: Sync, O: StageOps<N> + Sync, W: Runner>(
     alloc: Global,
@@ -60,7 +60,7 @@ pub(crate) fn propagate_change<R: StateRepresentation, N: Sync, O: StageOps<N> +
     // The computed stages are the touched ones, in their order, and each was computed once.
     ensures touched { IfOk result (λ reached. reached.touched.items
         ≡ touched (O.step ops.now graph.now.mode) old.now.places graph.now.places (λ place. is_among place edited.now)) }
-    // All others stay what they were.
+    // All others keep their states.
     ensures untouched { IfOk result (λ reached. StaysUntouched (at (O.step ops.now graph.now.mode)) (at (O.step ops.now graph.now.mode))
         old.now.places graph.now.places reached.touched.items) }
     ensures counted { IfOk result (λ reached. meter.new ≡ meter.old + vec_len reached.touched) }

@@ -1,4 +1,4 @@
-//! The states of a graph's places, in a list that keeps its old self.
+//! The states of a graph's places, in a persistent list.
 ghost use Rattle.std.specs.Prelude.{◌≡◌, ◌<◌, ◌≤◌, ◌++◌, ◌∷◌, [], ℕ, length, slice_get, slice_set, IfOk, OnOk, All, map, if◌then◌else◌};
 ghost use Rattle.rank_order.specs.Lists.{is_among};
 ghost use Rattle.stage_ops.specs.declared.state.State.{State};
@@ -34,7 +34,7 @@ impl<R: StateRepresentation> Model for States<R> {
 impl<R: StateRepresentation> Look for States<R> {
     ghost states = { λ states. states };
 
-    /// Takes no memory.
+    /// Allocates nothing.
     fn state(&self, place: u32) -> State {
         match self.list.get(place as usize) {
             Some(kept) => kept.state(),
@@ -43,7 +43,7 @@ impl<R: StateRepresentation> Look for States<R> {
     }
 }
 
-/// The state that answers tell of a place: pending where no stage stands.
+/// The state that an answer gives a place: pending where no stage stands.
 fn told(answers: &Answers, place: u32) -> State
     ensures { result ≡ state_of (answer_at answers.now place) }
 {
@@ -79,7 +79,7 @@ impl<R: StateRepresentation> States<R> {
         Ok(states)
     }
 
-    /// How many places there are. Takes no memory.
+    /// How many places there are. Allocates nothing.
     pub fn len(&self) -> usize
         ensures count { result ≡ length self.now }
         ensures limit { result ≤ 65536 }
@@ -87,7 +87,7 @@ impl<R: StateRepresentation> States<R> {
         self.list.len()
     }
 
-    /// The state at a place; none past the end. Takes no memory.
+    /// The state at a place; none past the end. Allocates nothing.
     pub fn get(&self, place: u32) -> Option<State>
         ensures { result ≡ slice_get self.now place }
     {

@@ -61,7 +61,7 @@ module _ (places : List (Option Stage)) where
           | inr apart ↦ inl (get_or-set_other ranks place other told 0 apart)
         ]
 
-  -- when the order has come to its end, all are right
+  -- when all places of the order are done, all ranks are right
   pub found_all : (order : List ℕ) (i : ℕ) (ranks : List ℕ) → IsFeedsFirst places order → length order ≤ i → AreRanksSoFar places (take i order) ranks → ranks ≡ map (rank places) (all_places places)
   found_all order i ranks first past are =
       ranks_listed places ranks are.long (λ place. by_stage place (stage_at places place) refl) where

@@ -1,4 +1,4 @@
--- What the lists of an order have at a place.
+-- What the lists of an order contain at a place.
 use Rattle.std.proofs.Common.{◌≡◌, ℕ, zero, suc, ◌<◌, ◌≤◌, true, List, [], ◌∷◌, length, map, Option, Some, None, get_or, refl, ap, sym, ◌∙◌, inl, inr, arith}
 use Rattle.std.specs.Prelude.{Contains}
 use Rattle.std.proofs.lemmas.Bool.{cases_lt}
@@ -18,7 +18,7 @@ use Rattle.stage_graph.proofs.Placing.{place_from_live}
 
 -- ---- ranks
 
--- the greatest of the ranks asks of no place but these
+-- the greatest of the ranks depends on no place but these
 pub same_above : (ranks others : ℕ → ℕ) (feeds : List ℕ) → ((feed : ℕ) → Contains feeds feed → ranks feed ≡ others feed) → above_all ranks feeds ≡ above_all others feeds
 same_above ranks others [] same = refl
 same_above ranks others (feed ∷ feeds) same =
@@ -60,7 +60,7 @@ module _ (places : List (Option Stage)) where
   pub empty_rank : (place : ℕ) → stage_at places place ≡ None → rank places place ≡ 0
   empty_rank place empty = empty_rank_at (length places) place empty
 
-  -- what the list of the ranks has at any place
+  -- the entry of the list of ranks at any place
   pub rank_listed : (place : ℕ) → get_or (map (rank places) (all_places places)) place 0 ≡ rank places place
   rank_listed place = elim (cases_lt place (length places)) [
     | inl within ↦ get_or-map-range_with_len (rank places) 0 (length places) place place 0 within (omega arith)

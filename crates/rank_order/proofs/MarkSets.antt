@@ -1,4 +1,4 @@
--- Marks as they are kept: in a set, by rank and then by place.
+-- Marks as they are stored: in a set, by rank and then by place.
 use Rattle.std.proofs.Common.{◌≡◌, ℕ, ◌+◌, ◌<◌, ◌≤◌, ◌⊎◌, Bool, true, false, cond, List, [], ◌∷◌, map, length, refl, ap, sym, ◌∙◌, subst, inl, inr, arith}
 use Rattle.std.specs.Prelude.{not, ◌==◌, ◌&&◌, ◌||◌}
 use Rattle.std.specs.List.{list_any}
@@ -21,7 +21,7 @@ mark_cmp one other = ordering_then (nat_cmp one.rank other.rank) (nat_cmp one.pl
 abbrev pub mark_of : ℕ → ℕ → Mark
 mark_of rank place = record { rank = rank; place = place }
 
--- what contracts see of a mark, and of a set of them
+-- how contracts see a mark, and a set of them
 abbrev pub pair_of : Mark → ℕ × ℕ
 pair_of mark = (mark.rank, mark.place)
 
@@ -38,7 +38,7 @@ same_mark mark = grind (arith, nat_tests)
 not_above : (one other : Mark) → is_gt (mark_cmp one other) ≡ false → (one.rank < other.rank) ⊎ ((one.rank ≡ other.rank) × (one.place ≤ other.place))
 not_above one other le = grind (arith, nat_tests)
 
--- a mark compares equal to itself alone
+-- a mark compares equal only to itself
 at_mark : (rank place : ℕ) (mark : Mark) → is_at (mark_cmp (mark_of rank place)) mark ≡ (mark.rank == rank && mark.place == place)
 at_mark rank place mark =
     let own = mark_of rank place in
@@ -51,7 +51,7 @@ at_mark rank place mark =
     subst (λ p. is_at (mark_cmp (mark_of rank place)) (mark_of mark.rank p) ≡ true) (sym (eqb-true mark.place place same_place))
     (subst (λ r. is_at (mark_cmp (mark_of rank place)) (mark_of r place) ≡ true) (sym (eqb-true mark.rank rank same_rank)) ((Equal-is (mark_cmp own own)).1 (same_mark own))))
 
--- the marks that contracts see are those of the set
+-- the marks that contracts see are those in the set
 has_in_keys : (rank place : ℕ) (keys : List Mark) → has_mark (map pair_of keys) rank place ≡ list_any (is_at (mark_cmp (mark_of rank place))) keys
 has_in_keys rank place [] = refl
 has_in_keys rank place (mark ∷ keys) =
@@ -73,7 +73,7 @@ module _ (old new : BTreeSet Mark) (rank place : ℕ) where
       ∙ ap (λ b. cond b has (contains mark_cmp old (mark_of other_rank other))) (at_mark rank place (mark_of other_rank other))
       ∙ ap (λ b. cond (other_rank == rank && other == place) has b) (sym (has_in old other_rank other))
 
-  -- a mark more
+  -- one more mark
   pub has_more : IsUpdate old new (mark_of rank place) true → (other_rank other : ℕ) → has_mark (marks_in new) other_rank other ≡ (has_mark (marks_in old) other_rank other || (other_rank == rank && other == place))
   has_more update other_rank other =
       updated true update other_rank other ∙ turn (other_rank == rank && other == place) (has_mark (marks_in old) other_rank other) where
@@ -83,7 +83,7 @@ module _ (old new : BTreeSet Mark) (rank place : ℕ) where
         turn false true = refl
         turn false false = refl
 
-  -- a mark less
+  -- one mark less
   has_less : IsUpdate old new (mark_of rank place) false → (other_rank other : ℕ) → has_mark (marks_in new) other_rank other ≡ (has_mark (marks_in old) other_rank other && not (other_rank == rank && other == place))
   has_less update other_rank other =
       updated false update other_rank other ∙ turn (other_rank == rank && other == place) (has_mark (marks_in old) other_rank other) where
@@ -100,7 +100,7 @@ least_is set mark member low = (
   λ rank place has. elim (not_above mark (mark_of rank place) (low (mark_of rank place) (sym (has_in set rank place) ∙ has))) [ inl lower ↦ omega arith | inr (same, le) ↦ omega arith ],
 )
 
--- the least mark is taken out
+-- the least mark is removed
 pub popped : (old new : BTreeSet Mark) (mark : Mark) → IsLowerBound mark_cmp old mark → IsUpdate old new mark false → old.keys ≡ mark ∷ new.keys → contains mark_cmp old mark ≡ true
     → IsPopped (marks_in old) (marks_in new) mark.rank mark.place
 popped old new mark low update keys member = record {

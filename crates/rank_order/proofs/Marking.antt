@@ -1,4 +1,4 @@
--- Marks by any ranks: one more, one less, and those of the least rank taken out.
+-- Marks by any ranks: one more, one less, and those of the least rank removed.
 use Rattle.std.proofs.Common.{◌≡◌, ℕ, ◌<◌, ◌≤◌, ◌≢◌, ◌⊎◌, Bool, true, false, List, [], ◌∷◌, ◌++◌, length, get_or, refl, ap, sym, ◌∙◌, subst, inl, inr, arith}
 use Rattle.std.specs.Prelude.{not, ◌==◌, ◌&&◌, ◌||◌, AllPairs}
 use Rattle.std.proofs.lemmas.Bool.{eqb-true, eq-eqb, eqb-false, cases_order, or_cases, and_parts, and_from, not-true, false≢true}
@@ -36,7 +36,7 @@ IsMore marks more rank place = (other_rank other : ℕ) → has_mark more other_
 
 module _ (ranks : ℕ → ℕ) (old new : List (ℕ × ℕ)) (rank place : ℕ) where
   module _ (told : IsMore old new rank place) (own : rank ≡ ranks place) where
-    -- a mark more
+    -- one more mark
     pub marked_more : (other : ℕ) → is_marked ranks new other ≡ (is_marked ranks old other || other == place)
     marked_more other = told (ranks other) other ∙ ap (λ b. is_marked ranks old other || b) (own_mark ranks rank place other own)
 
@@ -59,7 +59,7 @@ module _ (ranks : ℕ → ℕ) (old new : List (ℕ × ℕ)) (rank place : ℕ) 
       | inr apart ↦ elim apart [ inl below ↦ inr (inr (sym own ∙ same, below)) | inr above ↦ absurd (omega arith) ]
     ]
 
-    -- a mark less
+    -- one mark less
     pub first_taken : IsFirst ranks (is_marked ranks old) (is_marked ranks new) place
     first_taken = record {
       here = subst (λ r. has_mark old r place ≡ true) own popped.here;
@@ -67,7 +67,7 @@ module _ (ranks : ℕ → ℕ) (old new : List (ℕ × ℕ)) (rank place : ℕ) 
       rest = λ other. popped.rest (ranks other) other ∙ ap (λ b. is_marked ranks old other && not b) (own_mark ranks rank place other own);
     }
 
--- Some of the marks of the least rank are taken out, and stand in the level in ascending order.
+-- Some of the marks of the least rank are removed, and are in the level in ascending order.
 pub record IsTaking (ranks : ℕ → ℕ) (was now : List (ℕ × ℕ)) (rank : ℕ) (level : List ℕ) : Type 0 where
   pub are : AreMarks ranks now
   pub split : (place : ℕ) → is_marked ranks was place ≡ (is_among place level || is_marked ranks now place)
@@ -75,7 +75,7 @@ pub record IsTaking (ranks : ℕ → ℕ) (was now : List (ℕ × ℕ)) (rank : 
   pub before : (one other : ℕ) → is_among one level ≡ true → is_marked ranks now other ≡ true → ranks other ≡ rank → one < other
   pub ascends : AllPairs (λ one other. one < other) level
 
--- one more mark of the rank is taken out
+-- one more mark of the rank is removed
 pub taking_more : (ranks : ℕ → ℕ) (was old new : List (ℕ × ℕ)) (rank place : ℕ) (level : List ℕ) → IsTaking ranks was old rank level → IsPopped old new rank place → IsTaking ranks was new rank (level ++ place ∷ [])
 taking_more ranks was old new rank place level taking popped =
     let first = first_taken ranks old new rank place popped taking.are in

@@ -1,4 +1,4 @@
--- Tests on lists of places, and what they say.
+-- Tests on lists of places, and what they imply.
 use Rattle.std.proofs.Common.{◌≡◌, ℕ, zero, suc, ◌+◌, ◌<◌, ◌≤◌, ◌≢◌, ◌⊎◌, Bool, true, false, List, [], ◌∷◌, ◌++◌, length, take, get_or, refl, ap, sym, ◌∙◌, subst, inl, inr, arith}
 use Rattle.std.specs.Prelude.{Contains, AllPairs, filter, nat_eq, ◌==◌, ◌||◌}
 use Rattle.std.specs.List.{range_with_len}
@@ -61,7 +61,7 @@ among_push_cases s u places among = elim (among_append_cases s places (u ∷ [])
   | inr right ↦ elim (among_cases s u [] right) [ inl same ↦ inr same | inr none ↦ absurd (false≢true none) ]
 ]
 
--- one more of the list
+-- one more element of the list
 pub among_more : (s i : ℕ) (xs : List ℕ) → i < length xs → is_among s (take (i + 1) xs) ≡ (is_among s (take i xs) || (s == get_or xs i 0))
 among_more s i xs within = list_any_more (nat_eq s) xs i 0 within
 

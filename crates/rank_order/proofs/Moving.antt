@@ -1,4 +1,4 @@
--- The places whose feeds a list of edits may move: at all others the feeds stay.
+-- The places whose feeds a list of edits may change: at all others the feeds stay.
 use Rattle.std.proofs.Common.{◌≡◌, ℕ, ◌+◌, ◌<◌, ◌≤◌, ◌⊎◌, Bool, true, false, cond, List, [], ◌∷◌, length, get_or, Option, Some, None, is_some, refl, ap, sym, ◌∙◌, subst, inl, inr, arith}
 use Rattle.std.specs.Prelude.{All, IsTrue, IsSome, slice_index}
 use Rattle.std.specs.List.{list_any, cons_option}
@@ -32,7 +32,7 @@ same_name one other equal = (bytes_eq-Decides one other).0 equal
 same_text : (text : List ℕ) → bytes_eq text text ≡ true
 same_text text = (bytes_eq-Decides text text).1 refl
 
--- one more of the places, where there is one
+-- one more of the places, if there is one
 listed_here : (found : Option ℕ) (places : List ℕ) (place : ℕ) → found ≡ Some place → is_among place (cons_option found places) ≡ true
 listed_here None places place is = absurd (none-some place is)
 listed_here (Some other) places place is = subst (λ x. is_among place (x ∷ places) ≡ true) (sym (same_Some other place is)) (among_here place places)
@@ -168,7 +168,7 @@ module _ (old : PlainGraph) (order : PlainOrder) (is : IsOrder order) (same : or
   old_ranked : IsRanked old.places
   old_ranked = subst (λ (graph : PlainGraph). IsRanked graph.places) same is.ranked
 
-  -- the ranks before are right but where feeds have moved
+  -- the ranks before are right except where feeds have changed
   pub old_right : (new : List (Option Stage)) (moved : List ℕ) → ((place : ℕ) → is_among place moved ≡ false → feeds_at new place ≡ feeds_at old.places place) → AreRanksBut moved (feeds_at new) (slice_index before)
   old_right new moved elsewhere place apart =
       old_rank place ∙ rank_is_above old.places old_ranked place

@@ -1,4 +1,4 @@
--- Stages that are taken out of a graph, and put back one by one.
+-- Stages that are removed from a graph, and put back one by one.
 use Rattle.std.proofs.Common.{◌≡◌, ℕ, zero, suc, ◌+◌, ◌-◌, ◌<◌, ◌≤◌, true, false, List, [], ◌∷◌, length, take, drop, get_or, Option, ap, sym, ◌∙◌, subst, inl, inr, arith}
 use Rattle.std.specs.Prelude.{Contains, All, ◌||◌, ◌==◌, slice_index, if◌then◌else◌}
 use Rattle.std.proofs.lemmas.Bool.{cases_lt, cond-true, cond-false, true≢false, false≢true, or_parts}
@@ -21,7 +21,7 @@ module _ (places : List (Option Stage)) where
   pub left_stays : (out : List ℕ) (place : ℕ) → is_among place out ≡ false → feeds_left places out place ≡ feeds_at places place
   left_stays out place is = cond-false (is_among place out) [] (feeds_at places place) is
 
-  -- what has a feed is not taken out, and has it in the graph
+  -- a stage with a feed is not removed, and has the feed in the graph
   pub left_in : (out : List ℕ) (place feed : ℕ) → Contains (feeds_left places out place) feed → is_among place out ≡ false
   left_in out place feed has = false_unless (is_among place out) (λ is. let (k, within, at) = subst (λ xs. Contains xs feed) (left_out out place is) has in absurd (omega arith))
 
@@ -43,21 +43,21 @@ module _ (places : List (Option Stage)) where
         lower = λ feed has. trace.lower feed (subst (λ xs. Contains xs feed) (sym stays) has);
       }
 
-  -- with none taken out it is the graph
+  -- with none removed it is the graph
   pub left_none : (ranks : ℕ → ℕ) → AreRanks (feeds_left places []) ranks → AreRanks (feeds_at places) ranks
   left_none ranks are place = are place
 
-  -- ranks that are right but at the moved places stay so where these are taken out
+  -- ranks that are right except at the moved places stay so when these are removed
   pub taken_out : (moved : List ℕ) (before : ℕ → ℕ) → AreRanksBut moved (feeds_at places) before → AreRanksBut moved (feeds_left places moved) before
   taken_out moved before are place other = are place other ∙ ap (above_all before) (sym (left_stays moved place other))
 
-  -- one alone need not be taken out
+  -- one alone need not be removed
   pub one_alone : (moved : List ℕ) (before : ℕ → ℕ) → length moved < 2 → AreRanksBut moved (feeds_at places) before → AreRanksBut (take 1 moved) (feeds_left places (drop 1 moved)) before
   one_alone [] before few are place other = are place other
   one_alone (one ∷ []) before few are place other = are place other
   one_alone (one ∷ two ∷ moved) before few are place other = absurd (omega arith)
 
-  -- the next stage is put back: the ranks are right but there
+  -- the next stage is put back: the ranks are right except there
   pub put_next : (moved : List ℕ) (turn : ℕ) (ranks : ℕ → ℕ) → AreRanks (feeds_left places (drop turn moved)) ranks → AreRanksBut (take 1 (drop turn moved)) (feeds_left places (drop (turn + 1) moved)) ranks
   put_next moved turn ranks are place other = elim (cases_lt turn (length moved)) [
     | inl within ↦
@@ -76,7 +76,7 @@ module _ (places : List (Option Stage)) where
   all_back moved turn ranks past are place =
       are place (ap (λ xs. is_among place (take 1 xs)) (drop_all turn moved past)) ∙ ap (λ xs. above_all ranks (feeds_left places xs place)) (drop_all (turn + 1) moved (omega arith))
 
-  -- nothing stops while all moved stages are taken out
+  -- no rank is wrong while all moved stages are removed
   pub no_stop : (moved path : List ℕ) → IsStop places moved moved path → ⊥
   no_stop moved path stop = true≢false (sym stop.begins ∙ stop.stays)
 

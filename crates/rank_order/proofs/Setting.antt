@@ -1,4 +1,4 @@
--- Lists that are kept: read at a place, and grown.
+-- Stored lists: read at a place, and extended.
 use Rattle.std.proofs.Common.{◌≡◌, ℕ, zero, suc, List, [], ◌∷◌, ◌++◌, None, refl, get_or}
 use Rattle.std.specs.Prelude.{slice_get}
 
@@ -8,7 +8,7 @@ read_none [] place default is = refl
 read_none (x ∷ xs) zero default is = cc
 read_none (x ∷ xs) (suc place) default is = read_none xs place default is
 
--- one more of the default
+-- one more default at the end
 pub push_default : {A : Type 0} (xs : List A) (default : A) (place : ℕ) → get_or (xs ++ default ∷ []) place default ≡ get_or xs place default
 push_default [] default zero = refl
 push_default [] default (suc place) = refl

@@ -1,4 +1,4 @@
--- One turn of settling ranks: the first of the marked places is looked at.
+-- One turn of settling ranks: the first of the marked places is processed.
 use Rattle.std.proofs.Common.{◌≡◌, ◌≢◌, ℕ, ◌<◌, ◌⊎◌, Bool, true, false, List, [], length, map, get_or, set, Option, refl, ap, sym, ◌∙◌, subst, inl, inr}
 use Rattle.std.specs.Prelude.{Contains, slice_index, not, ◌==◌, ◌&&◌, ◌||◌, if◌then◌else◌}
 use Rattle.std.proofs.lemmas.Bool.{cases_eq, true≢false, false≢true, eq-eqb, ne_eqb, eqb-true, cond-true, cond-false, and_parts, and_from, or_cases, or_parts, not-true, not_from_false, eqb-false}
@@ -21,16 +21,16 @@ rank_set ranks place rank within other = elim (cases_eq other place) [
   | inr apart ↦ get_or-set_other ranks place other rank 0 apart ∙ sym (cond-false (other == place) rank (slice_index ranks other) (ne_eqb other place apart))
 ]
 
--- the list that is kept of a place's users
+-- the stored list of a place's dependents
 pub users_are : (places : List (Option Stage)) (lists : List (List ℕ)) (place : ℕ) (users : List ℕ) → lists ≡ map (dependents places) (all_places places) → place < length places → users ≡ get_or lists place [] → users ≡ dependents places place
 users_are places lists place users kept within is = is ∙ ap (λ (xs : List (List ℕ)). get_or xs place []) kept ∙ dependents_listed places place within
 
--- what is marked at first
+-- the places that are marked at first
 pub only_these : (was told among : Bool) → was ≡ false → told ≡ (was || (among && not false)) → told ≡ among
 only_these was told true none is = is ∙ ap (λ b. b || true) none
 only_these was told false none is = is ∙ ap (λ b. b || false) none
 
--- one more of the places, which is not taken out, is marked
+-- one more of the places, which is not removed, is marked
 pub mark_joined : (was among same kept : Bool) → (same ≡ true → kept ≡ true) → ((was || (among && kept)) || same) ≡ (was || ((among || same) && kept))
 mark_joined true among same kept told = refl
 mark_joined false true same true told = refl
@@ -39,7 +39,7 @@ mark_joined false true false false told = refl
 mark_joined false false true kept told = sym (told refl)
 mark_joined false false false kept told = refl
 
--- the place that was taken out of the marks, and no other
+-- exactly this place was removed from the marks
 gone : (marked left same : Bool) → left ≡ (marked && not same) → left ≡ false → (marked ≡ false) ⊎ (same ≡ true)
 gone true left true is none = inr refl
 gone true left false is none = absurd (true≢false (sym is ∙ none))
@@ -71,7 +71,7 @@ module _ (places : List (Option Stage)) (out moved : List ℕ) (before now : ℕ
     users_marked = λ other none has. same;
   }
 
-  -- the rank changes, and the users that are left are marked
+  -- the rank changes, and the dependents that are in the graph are marked
   pub rank_changes : (count : ℕ) (now_marked : ℕ → Bool) (next : ℕ → ℕ) (users : List ℕ) → above_all now (feeds_left places out place) ≢ now place → users ≡ dependents places place
       → ((user : ℕ) → is_among user users ≡ true → is_among user out ≡ false → is_among user moved ≡ false)
       → ((other : ℕ) → next other ≡ (if other == place then above_all now (feeds_left places out place) else now other))

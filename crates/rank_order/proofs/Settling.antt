@@ -1,4 +1,4 @@
--- Ranks that are put right place by place, in the order of the ranks before.
+-- Ranks that are corrected place by place, in the order of the ranks before.
 use Rattle.std.proofs.Common.{◌≡◌, ◌≢◌, ℕ, ◌+◌, ◌<◌, ◌≤◌, ◌⊎◌, Bool, true, false, List, [], ◌∷◌, ◌++◌, length, refl, ap, sym, ◌∙◌, subst, inl, inr, arith, length-append}
 use Rattle.std.specs.Prelude.{Contains, All, ◌==◌, if◌then◌else◌}
 use Rattle.std.proofs.lemmas.Bool.{cases_Bool, cases_eq, true≢false, false≢true, eq-eqb, ne_eqb, cond-true, cond-false}
@@ -26,7 +26,7 @@ comes_strict ranks one other (inr (equal, below)) (inl higher) = omega arith
 comes_strict ranks one other (inr (equal, below)) (inr (same, above)) = omega arith
 
 module _ (feeds : ℕ → List ℕ) (count : ℕ) (moved : List ℕ) (before : ℕ → ℕ) where
-  -- the places that were looked at have their new ranks, and only at marked places a rank may be wrong
+  -- the processed places have their new ranks, and a rank may be wrong only at marked places
   pub record IsSettling (looked : List ℕ) (marked : ℕ → Bool) (now : ℕ → ℕ) : Type 0 where
     pub right : (place : ℕ) → marked place ≡ false → now place ≡ above_all now (feeds place)
     pub kept : (place : ℕ) → is_among place looked ≡ false → now place ≡ before place
@@ -36,7 +36,7 @@ module _ (feeds : ℕ → List ℕ) (count : ℕ) (moved : List ℕ) (before : �
     pub small : (place : ℕ) → now place ≤ count + length looked
     pub traces : (place : ℕ) → (is_among place looked ≡ true) ⊎ (marked place ≡ true) → is_among place moved ≡ false → IsTraced feeds before now place
 
-  -- the first of the marked places is looked at, and if its rank changes its users are marked
+  -- the first of the marked places is processed, and if its rank changes its dependents are marked
   pub record IsStep (marked now_marked : ℕ → Bool) (now next : ℕ → ℕ) (place : ℕ) : Type 0 where
     pub here : marked place ≡ true
     pub least : (other : ℕ) → marked other ≡ true → (place ≡ other) ⊎ ComesBefore before place other
@@ -45,7 +45,7 @@ module _ (feeds : ℕ → List ℕ) (count : ℕ) (moved : List ℕ) (before : �
     pub go : (other : ℕ) → now_marked other ≡ false → (marked other ≡ false) ⊎ (other ≡ place)
     pub users_marked : (other : ℕ) → now_marked other ≡ false → Contains (feeds other) place → above_all now (feeds place) ≡ now place
 
-  -- as many places were looked at as there were turns
+  -- as many places were processed as there were turns
   pub record IsSettlingAfter (turns : ℕ) (marked : ℕ → Bool) (now : ℕ → ℕ) : Type 0 where
     pub looked : List ℕ
     pub count_is : length looked ≡ turns
@@ -55,7 +55,7 @@ module _ (feeds : ℕ → List ℕ) (count : ℕ) (moved : List ℕ) (before : �
     old_lower : (place feed : ℕ) → is_among place moved ≡ false → Contains (feeds place) feed → before feed < before place
     old_lower place feed other has = subst (λ r. before feed < r) (sym (are place other)) (below_above before (feeds place) feed has)
 
-    -- at the moved places alone a rank may be wrong
+    -- a rank may be wrong only at the moved places
     pub settling_begins : (marked : ℕ → Bool) → ((place : ℕ) → marked place ≡ is_among place moved) → All (λ place. place < count) moved → ((place : ℕ) → before place ≤ count) → IsSettling [] marked before
     settling_begins marked told within small = record {
       right = λ place unmarked. are place (sym (told place) ∙ unmarked);
@@ -73,7 +73,7 @@ module _ (feeds : ℕ → List ℕ) (count : ℕ) (moved : List ℕ) (before : �
       ];
     }
 
-    -- what changed was looked at
+    -- each place whose rank changed was processed
     pub traced : (looked : List ℕ) (marked : ℕ → Bool) (now : ℕ → ℕ) → IsSettling looked marked now → AreTraced moved feeds before now
     traced looked marked now settling place changed other = elim (cases_Bool (is_among place looked)) [
       | inl here ↦ settling.traces place (inl here) other
@@ -97,7 +97,7 @@ module _ (feeds : ℕ → List ℕ) (count : ℕ) (moved : List ℕ) (before : �
           let apart : trace.feed ≢ place = λ same. trace.changed (subst (λ x. now x ≡ before x) (sym same) was_kept) in
           record { feed = trace.feed; is_feed = trace.is_feed; changed = λ same. trace.changed (sym (elsewhere trace.feed apart) ∙ same); lower = trace.lower }
 
-      -- what changed can still be traced
+      -- each change can still be traced
       traced_then : AreTraced moved feeds before next
       traced_then other changed unmoved = elim (cases_eq other place) [
         | inl same ↦ trace_stays other (settling.traces other (inr (subst (λ x. marked x ≡ true) (sym same) here)) unmoved)
@@ -215,7 +215,7 @@ module _ (feeds : ℕ → List ℕ) (count : ℕ) (moved : List ℕ) (before : �
     pub after_small : (turns : ℕ) (marked : ℕ → Bool) (now : ℕ → ℕ) → IsSettlingAfter turns marked now → (place : ℕ) → now place ≤ count + turns
     after_small turns marked now after place = let low = after.settling.small place in omega (arith, after.count_is)
 
-    -- a marked place has its rank yet
+    -- a marked place still has its rank from before
     pub marked_kept : (turns : ℕ) (marked : ℕ → Bool) (now : ℕ → ℕ) → IsSettlingAfter turns marked now → (place : ℕ) → marked place ≡ true → now place ≡ before place
     marked_kept turns marked now after place here =
         after.settling.kept place (false_unless (is_among place after.looked) (λ among. comes_apart before place place (after.settling.in_order place place among here) refl))

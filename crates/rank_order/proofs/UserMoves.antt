@@ -1,4 +1,4 @@
--- Lists of users under a change, one moved place and one feed at a time.
+-- Lists of dependents under a change, one moved place and one feed at a time.
 use Rattle.std.proofs.Common.{◌≡◌, ℕ, ◌+◌, ◌<◌, ◌≤◌, Bool, true, false, List, [], ◌∷◌, ◌++◌, length, map, take, get_or, set, refl, ap, sym, ◌∙◌, subst, inl, inr, arith}
 use Rattle.std.specs.Prelude.{Option, filter, nat_lt, ◌||◌, ◌&&◌, ◌==◌, if◌then◌else◌}
 use Rattle.std.proofs.lemmas.Bool.{cases_eq, cases_lt, cond-true, cond-false, true≢false, false≢true, eq-eqb, ne_eqb, ltb-true, lt-ltb, or_right}
@@ -88,7 +88,7 @@ module _ (test : ℕ → Bool) (place : ℕ) (is_user : Bool) (users : List ℕ)
         ]
   ]
 
-  -- the users, with the place among them or without it
+  -- the dependents, with the place among them or without it
   pub users_with : AreUsers (λ user. if user == place then is_user else test user) (with_user place is_user users)
   unfolding low here high
   users_with = record { ascending = ascending; each = λ user. same_tests (is_among user ((low ++ here) ++ high)) (if user == place then is_user else test user) (there user) (back user) }
@@ -124,7 +124,7 @@ module _ (uses : ℕ → ℕ → Bool) (moved : ℕ) (feeds : List ℕ) where
         now true was false told used all = absurd (false≢true all)
         now false was is told used all = refl
 
-  -- all lists are set that may have the place
+  -- all lists are set in which the place may be
   pub moving_all : (done : List ℕ) (i count : ℕ) (lists : List (List ℕ)) → length done ≤ i → ((place : ℕ) → uses place moved ≡ true → is_among place done ≡ true) → ((place : ℕ) → is_among place feeds ≡ true → is_among place done ≡ true)
       → AreUserLists (moving uses moved feeds (take i done)) count lists → AreUserLists (with_moved uses moved feeds) count lists
   moving_all done i count lists past old new are =
@@ -147,7 +147,7 @@ module _ (old new : List (Option Stage)) where
   between_none : (place user : ℕ) → uses_by_feeds old place user ≡ uses_between old new [] place user
   between_none place user = refl
 
-  -- the lists before, of which there are more now
+  -- the lists from before, extended to the new length
   pub grown_lists : (lists longer : List (List ℕ)) → ((feed user : ℕ) → is_among feed (feeds_at old user) ≡ true → feed < length old) → length old ≤ length new
       → lists ≡ map (dependents old) (all_places old) → length longer ≡ length new → ((place : ℕ) → get_or longer place [] ≡ get_or lists place []) → AreUserLists (uses_between old new []) (length new) longer
   grown_lists lists longer within more are long each = record {
@@ -182,14 +182,14 @@ module _ (old new : List (Option Stage)) where
     or_none true = refl
     or_none false = refl
 
-  -- the next place uses its old feeds, or its new ones
+  -- the next place depends on its old feeds, or on its new ones
   pub between_feeds : (done : List ℕ) (moved feed : ℕ) → uses_between old new done feed moved ≡ true → is_among feed (feeds_at old moved ++ feeds_at new moved) ≡ true
   between_feeds done moved feed holds = by_case (is_among moved done) holds where
     by_case : (b : Bool) → is_among feed (if b then feeds_at new moved else feeds_at old moved) ≡ true → is_among feed (feeds_at old moved ++ feeds_at new moved) ≡ true
     by_case true has = among_append_right feed (feeds_at old moved) (feeds_at new moved) has
     by_case false has = among_append_left feed (feeds_at old moved) (feeds_at new moved) has
 
-  -- all have moved, and elsewhere nothing has
+  -- all have moved, and nothing else has
   pub between_all : (moved : List ℕ) (i : ℕ) (lists : List (List ℕ)) → length moved ≤ i → ((place : ℕ) → is_among place moved ≡ false → feeds_at new place ≡ feeds_at old place)
       → AreUserLists (uses_between old new (take i moved)) (length new) lists → lists ≡ map (dependents new) (all_places new)
   between_all moved i lists past elsewhere are =

@@ -1,4 +1,4 @@
--- Lists of users, one user and one list at a time.
+-- Lists of dependents, one dependent and one list at a time.
 use Rattle.std.proofs.Common.{◌≡◌, ℕ, zero, suc, ◌+◌, ◌-◌, ◌<◌, ◌≤◌, ◌≢◌, Bool, true, false, List, [], ◌∷◌, ◌++◌, length, map, take, get_or, set, refl, ap, sym, ◌∙◌, subst, inl, inr, arith, length-set, get_or-set_same, get_or-set_other}
 use Rattle.std.specs.Prelude.{All, Contains, ◌||◌, ◌&&◌, ◌==◌, nat_lt, Vec, Option}
 use Rattle.std.specs.Global.{Global}
@@ -14,7 +14,7 @@ use Rattle.rank_order.specs.UserLists.{AreUsers, AreUserLists, uses_by_feeds, us
 use Rattle.rank_order.proofs.Members.{same_tests, false_unless, among_contains, contains_among, among_append, among_append_left, among_append_right, among_append_cases, among_more, ascends_push, pairs_from_ascends}
 use Rattle.rank_order.proofs.Listed.{user_within, among_dependents, dependents_ascend, dependents_are, dependents_listed}
 
--- the same users by another test that says the same
+-- the same dependents by an equivalent test
 pub same_users : (uses others : ℕ → Bool) (users : List ℕ) → ((user : ℕ) → uses user ≡ others user) → AreUsers uses users → AreUsers others users
 same_users uses others users same are = record { ascending = are.ascending; each = λ user. are.each user ∙ same user }
 
@@ -94,7 +94,7 @@ listed_at vectors place vector within is =
 pub listed_set : (vectors : List (Vec ℕ Global)) (place : ℕ) (vector : Vec ℕ Global) → listed (set vectors place vector) ≡ set (listed vectors) place vector.items
 listed_set vectors place vector = map-set (λ (v : Vec ℕ Global). v.items) vectors place vector
 
--- ---- one user added to one list
+-- ---- one dependent added to one list
 
 module _ (uses : ℕ → ℕ → Bool) (user : ℕ) (low : (place other : ℕ) → uses place other ≡ true → other ≤ user) where
   pub with_feeds_low : (feeds : List ℕ) (place other : ℕ) → with_feeds uses user feeds place other ≡ true → other ≤ user
@@ -130,7 +130,7 @@ module _ (places : List (Option Stage)) where
   pub before_low : (end place other : ℕ) → uses_before places end place other ≡ true → other ≤ end
   before_low end place other holds = let below : other < end = ltb-true other end (and_parts (nat_lt other end) (uses_by_feeds places place other) holds).0 in omega arith
 
-  -- of the stages before the first there is none
+  -- the stages before the first have no dependents
   pub before_none : (count : ℕ) (lists : List (List ℕ)) → length lists ≡ count → ((place : ℕ) → get_or lists place [] ≡ []) → AreUserLists (uses_before places 0) count lists
   before_none count lists long empty = record {
     long = long;
@@ -173,7 +173,7 @@ module _ (places : List (Option Stage)) where
         here at has = and_from (nat_lt user (end + 1)) (uses_by_feeds places place user) (lt-ltb user (end + 1) (omega arith))
             (ap (uses_by_feeds places place) at ∙ ap (is_among place) feeds ∙ has)
 
-  -- an empty place uses nothing
+  -- an empty place depends on nothing
   pub before_empty : (end : ℕ) → feeds_at places end ≡ [] → (place user : ℕ) → uses_before places end place user ≡ uses_before places (end + 1) place user
   before_empty end none place user = same_tests (uses_before places end place user) (uses_before places (end + 1) place user)
       (λ holds.

@@ -10,7 +10,7 @@ use Rattle.rank_order.specs.Lists.{is_among}
 use Rattle.rank_order.specs.Ranking.{IsStop}
 
 module _ (places : List (Option Stage)) (before now : ℕ → ℕ) (first : ℕ) where
-  -- it has come from the first place to this one, whose rank has changed
+  -- it leads from the first place to this one, whose rank has changed
   pub record IsOnWalk (place : ℕ) (path : List ℕ) : Type 0 where
     pub steps : 1 < length path
     pub walk : IsWalk places path

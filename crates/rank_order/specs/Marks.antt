@@ -23,7 +23,7 @@ AreLeft marks left = (rank place : ℕ) → has_mark left rank place ≡ true �
 abbrev pub ComesBefore : (ℕ → ℕ) → ℕ → ℕ → Type 0
 ComesBefore ranks one other = (ranks one < ranks other) ⊎ ((ranks one ≡ ranks other) × (one < other))
 
--- the place was marked, as the first of all, and is marked no more
+-- the place was the first of all marked ones, and is no longer marked
 pub record IsFirst (ranks : ℕ → ℕ) (marked left : ℕ → Bool) (place : ℕ) : Type 0 where
   pub here : marked place ≡ true
   pub least : (other : ℕ) → marked other ≡ true → (place ≡ other) ⊎ ComesBefore ranks place other
@@ -49,7 +49,7 @@ AreAbove marks least = (rank place : ℕ) → has_mark marks rank place ≡ true
 abbrev pub IsLeastRank : List (ℕ × ℕ) → ℕ → Type 0
 IsLeastRank marks least = ((place : ℕ) × (has_mark marks least place ≡ true)) × AreFrom marks least
 
--- the mark was the least of all, and is there no more
+-- the mark was the least of all, and is no longer there
 pub record IsPopped (marks left : List (ℕ × ℕ)) (rank place : ℕ) : Type 0 where
   pub here : has_mark marks rank place ≡ true
   pub least : (other_rank other : ℕ) → has_mark marks other_rank other ≡ true → (rank < other_rank) ⊎ ((rank ≡ other_rank) × (place ≤ other))

@@ -1,4 +1,4 @@
--- The ranks of a graph's places, and who depends on whom.
+-- The ranks of a graph's places, and the dependents of each.
 use Rattle.std.specs.Prelude.{ℕ, ◌≡◌, List, map, Option, Some, None, Result, Ok, Err}
 use Rattle.stage_graph.specs.declared.stage.Stage.{Stage}
 use Rattle.stage_graph.specs.Plain.{PlainGraph, all_places, dependents}
@@ -23,7 +23,7 @@ pub record IsOrder (order : PlainOrder) : Type 0 where
   pub ranked : IsRanked order.graph.places
   pub whole : order ≡ order_of order.graph
 
--- the answer where a stage stands
+-- the answer for a place with a stage
 abbrev pub at_live : {A : Type 0} → Option Stage → A → Result A NoStage
 at_live None answer = Err (record {})
 at_live (Some stage) answer = Ok answer

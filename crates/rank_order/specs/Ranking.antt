@@ -8,7 +8,7 @@ use Rattle.rank_order.specs.declared.fault.PatchFault.{PatchFault}
 use Rattle.rank_order.specs.declared.fault.PatchFault.TheVariants.{Cycle, Memory}
 use Rattle.rank_order.specs.Lists.{is_among}
 
--- the feeds of a place, where the stages at some places are taken out
+-- the feeds of a place, where the stages at some places are removed
 abbrev pub feeds_left : List (Option Stage) → List ℕ → ℕ → List ℕ
 feeds_left places out place = if is_among place out then [] else feeds_at places place
 
@@ -16,7 +16,7 @@ feeds_left places out place = if is_among place out then [] else feeds_at places
 abbrev pub AreRanks : (ℕ → List ℕ) → (ℕ → ℕ) → Type 0
 AreRanks feeds ranks = (place : ℕ) → ranks place ≡ above_all ranks (feeds place)
 
--- each place but these
+-- each place except these
 abbrev pub AreRanksBut : List ℕ → (ℕ → List ℕ) → (ℕ → ℕ) → Type 0
 AreRanksBut moved feeds ranks = (place : ℕ) → is_among place moved ≡ false → ranks place ≡ above_all ranks (feeds place)
 
@@ -27,11 +27,11 @@ pub record IsTraced (feeds : ℕ → List ℕ) (before now : ℕ → ℕ) (place
   pub changed : now feed ≢ before feed
   pub lower : (other : ℕ) → Contains (feeds place) other → before other < before place
 
--- each place that has another rank now is one of these, or can be traced to a feed
+-- each place whose rank has changed is one of these, or can be traced to a feed
 abbrev pub AreTraced : List ℕ → (ℕ → List ℕ) → (ℕ → ℕ) → (ℕ → ℕ) → Type 0
 AreTraced moved feeds before now = (place : ℕ) → now place ≢ before place → is_among place moved ≡ false → IsTraced feeds before now place
 
--- a walk from one of the moved places, which is not taken out, to one of them
+-- a walk from one of the moved places, which is not removed, to one of them
 pub record IsStop (places : List (Option Stage)) (out moved path : List ℕ) : Type 0 where
   pub steps : 1 < length path
   pub walk : IsWalk places path

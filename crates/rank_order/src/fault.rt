@@ -1,4 +1,4 @@
-//! Why an order has no answer, and why it is not patched.
+//! Why a query of an order is refused, and why an order is not patched.
 ghost use Rattle.std.specs.Prelude.{◌≡◌};
 ghost use Rattle.rank_order.specs.Faults.{patch_number};
 

@@ -1,10 +1,10 @@
-//! Lists that are kept, grown in place.
+//! Lists that are extended in place.
 ghost use Rattle.std.specs.Prelude.{◌≡◌, ◌<◌, ◌≤◌, ◌∷◌, ◌++◌, [], ℕ, length, slice_index_or, IfOk, OnOk};
 
 use share_tree::{Again, KeepFault, Keeps};
 use std::alloc::AllocError;
 
-/// Adds one more item to a list, of which no list of places is full.
+/// Adds one more item to a list; no list of places is full.
 pub(crate) fn add<T: Again, K: Keeps<T>>(list: &mut K, item: T) -> Result<(), AllocError>
     requires { length (K.items list.old) < 65536 }
     ensures { OnOk result (K.items list.new ≡ K.items list.old ++ item ∷ []) }
@@ -16,7 +16,7 @@ pub(crate) fn add<T: Again, K: Keeps<T>>(list: &mut K, item: T) -> Result<(), Al
     }
 }
 
-/// The list, and after it the same item up to a length.
+/// The list, extended with copies of the item up to a length.
 pub(crate) fn grown<T: Again, K: Keeps<T>>(
     list: &K,
     item: &T,

@@ -1,4 +1,4 @@
-//! Marks: places that are still to be looked at, by rank and then by place.
+//! Marks: places that have still to be processed, by rank and then by place.
 ghost use Rattle.std.specs.Prelude.{◌≡◌, ◌<◌, ◌↔◌, ℕ, List, [], ◌||◌, ◌==◌, false, length, vec_len, IsTrue, IfNone, IfSome, IfOk, OnOk, OnErr};
 ghost use Rattle.rank_order.specs.Marks.{is_marked, AreMarks, AreLeft, AreFrom, AreAbove, IsFirst, IsLeastRank, IsLevel, IsPopped};
 
@@ -44,7 +44,7 @@ impl Marks {
         self.set.is_empty()
     }
 
-    /// Marks a place, which has this rank. Where memory is refused the marks stay as they are.
+    /// Marks a place, which has this rank. If out of memory, the marks stay as they are.
     pub fn insert(&mut self, rank: u32, place: u32) -> Result<(), AllocError>
         ensures marked { OnOk result ((ranks : ℕ → ℕ) (other : ℕ) → rank ≡ ranks place
             → is_marked ranks self.new other ≡ (is_marked ranks self.old other || other == place)) }
@@ -55,7 +55,7 @@ impl Marks {
         Ok(())
     }
 
-    /// Takes out the first of the marked places, by rank and then by place.
+    /// Removes the first of the marked places, by rank and then by place, and returns it.
     pub fn pop_first(&mut self) -> Option<u32>
         ensures first { IfSome result (λ place. (ranks : ℕ → ℕ) → AreMarks ranks self.old → IsFirst ranks (is_marked ranks self.old) (is_marked ranks self.new) place) }
         ensures left { AreLeft self.old self.new }
@@ -66,7 +66,7 @@ impl Marks {
         Some(mark.place)
     }
 
-    /// Takes out the least mark.
+    /// Removes the least mark, and returns it.
     fn pop_mark(&mut self) -> Option<Mark>
         ensures some { IfSome result (λ mark. IsPopped self.old self.new mark.rank mark.place) }
         ensures none { IfNone result (length self.old ≡ 0) }
@@ -84,7 +84,7 @@ impl Marks {
         Some(first.rank)
     }
 
-    /// Takes out the least mark, if it has this rank, and answers its place.
+    /// Removes the least mark if it has this rank, and returns its place.
     fn pop_at(&mut self, rank: u32) -> Option<u32>
         ensures some { IfSome result (IsPopped self.old self.new rank) }
         ensures none { IfNone result (AreFrom self.old rank → AreAbove self.old rank) }
@@ -97,8 +97,8 @@ impl Marks {
         Some(mark.place)
     }
 
-    /// Takes out the marks of the least rank, and answers their places in ascending order; none where nothing is marked.
-    /// Where memory is refused the marks stay as they are.
+    /// Removes the marks of the least rank, and returns their places in ascending order; none if nothing is marked.
+    /// If out of memory, the marks stay as they are.
     pub fn take_level(&mut self, alloc: Global) -> Result<Vec<u32>, AllocError>
         ensures some { IfOk result (λ level. 0 < length self.old → 0 < vec_len level) }
         ensures left { AreLeft self.old self.new }
@@ -106,7 +106,7 @@ impl Marks {
             → IsLevel ranks (is_marked ranks self.old) level.items (is_marked ranks self.new)) }
         ensures refused { OnErr result (self.new ≡ self.old) }
     {
-        // With room for all marks, nothing is refused once one of them is taken out.
+        // Capacity for all marks is reserved first, so nothing fails once one of them is removed.
         let mut level = Vec::with_capacity(alloc, self.set.len())?;
         let Some(rank) = self.least_rank() else {
             return Ok(level);

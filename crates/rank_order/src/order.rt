@@ -12,7 +12,7 @@ use share_tree::Held;
 use stage_graph::Graph;
 use std::marker::Model;
 
-/// The rank of each place of a ranked graph, and the places that depend on it.
+/// The rank of each place of a ranked graph, and the dependents of each place.
 #[derive(Drop)]
 pub struct Order<R: OrderRepresentation> {
     pub(crate) graph: Held<Graph<R>>,
@@ -36,7 +36,7 @@ impl<R: OrderRepresentation> Model for Order<R> {
 }
 
 impl<R: OrderRepresentation> Order<R> {
-    /// The rank of the stage at a place: 0 without feeds, else 1 above the greatest rank of a feed. Takes no memory.
+    /// The rank of the stage at a place: 0 without feeds, else 1 above the greatest rank of a feed. Allocates nothing.
     pub fn rank(&self, place: u32) -> Result<u32, NoStage>
         ensures rank { result ≡ at_live (stage_at self.now.graph.places place) (rank self.now.graph.places place) }
         ensures order { IsOrder self.now }
@@ -47,7 +47,7 @@ impl<R: OrderRepresentation> Order<R> {
         }
     }
 
-    /// The places whose stages have the stage at a place as a feed, in order. Takes no memory.
+    /// The dependents of the stage at a place: the places with it as a feed, in order. Allocates nothing.
     pub fn dependents(&self, place: u32) -> Result<&[u32], NoStage>
         ensures { MatchResult result (λ users. (users.now ≡ dependents self.now.graph.places place) × IsLive self.now.graph.places place) (λ fault. stage_at self.now.graph.places place ≡ None) }
     {

@@ -16,7 +16,7 @@ use stage_graph::{Edit, Edits, Graph, Representation};
 use std::alloc::{AllocError, Global};
 use std::ops::Deref;
 
-/// A place, where nothing stands there.
+/// The place, if nothing stands there.
 fn emptied<R: Representation>(graph: &Graph<R>, place: Option<u32>) -> Option<u32>
     ensures { result ≡ emptied graph.now.places place }
 {
@@ -27,7 +27,7 @@ fn emptied<R: Representation>(graph: &Graph<R>, place: Option<u32>) -> Option<u3
     }
 }
 
-/// The place of the stage that an edit adds or rewires, or of the one that it takes away.
+/// The place of the stage that an edit adds or rewires, or of the one that it removes.
 fn moved_by<R: Representation>(old: &Graph<R>, changed: &Graph<R>, edit: &Edit) -> Option<u32>
     ensures { result ≡ moved_by old.now.places changed.now.places edit.now }
 {
@@ -39,7 +39,7 @@ fn moved_by<R: Representation>(old: &Graph<R>, changed: &Graph<R>, edit: &Edit) 
     }
 }
 
-/// The places whose feeds the edits may have moved.
+/// The places whose feeds the edits may have changed.
 fn moved_places<R: Representation>(
     alloc: Global,
     old: &Graph<R>,
@@ -55,7 +55,7 @@ fn moved_places<R: Representation>(
 }
 
 impl<R: OrderRepresentation> Order<R> {
-    /// The order of the graph that a list of edits makes of this order's graph. The work goes with the moved stages,
+    /// The order of the graph that a list of edits makes of this order's graph. The work grows with the moved stages,
     /// with the stages above them, which are ranked again for each moved one, and with the dependents of their feeds,
     /// and not with the rest of the graph. This order stays as it is.
     pub fn patch(

@@ -6,7 +6,7 @@ ghost use Rattle.stage_graph.specs.Walk.{above_all};
 use share_tree::Keeps;
 use stage_graph::{Graph, Representation};
 
-/// What a list of ranks has at a place, and 0 past its end.
+/// The entry of a list of ranks at a place, and 0 past its end.
 #[tactic(auto, using(crate::proofs::Setting::read_none))]
 pub(crate) fn rank_at<K: Keeps<u32>>(ranks: &K, place: u32) -> u32
     ensures { result ≡ slice_index (K.items ranks.now) place }

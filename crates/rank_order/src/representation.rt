@@ -1,13 +1,13 @@
-//! How an order's lists are kept, by the type parameter that chooses how a graph's lists are.
+//! How an order's lists are stored, by the type parameter that selects the type of a graph's lists.
 use share_tree::{Flat, Held, Keeps, Shared};
 use stage_graph::{InFlat, InShared, Places, Representation};
 use std::marker::{Send, Sync};
 
-/// What keeps each of an order's lists.
+/// The type of each of an order's lists.
 pub trait OrderRepresentation: Representation {
     /// The rank of each place.
     type Ranks: Keeps<u32> + Send + Sync;
-    /// The places that depend on each place.
+    /// The dependents of each place.
     type Dependents: Keeps<Held<Places>> + Send + Sync;
 }
 

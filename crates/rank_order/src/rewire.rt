@@ -1,4 +1,4 @@
-//! Dependents under a change: only the lists of the feeds that the moved places had or have are looked at.
+//! Dependents under a change: only the lists of the feeds that the moved places had or have are processed.
 ghost use Rattle.std.specs.Prelude.{◌≡◌, ◌<◌, ◌≤◌, ◌∷◌, ◌++◌, true, false, ℕ, Bool, nat_lt, if◌then◌else◌, [], length, map, filter, All, slice_index_or, slice_set, IfOk, OnOk};
 ghost use Rattle.stage_graph.specs.Plain.{all_places, dependents, feeds_of, feeds_at};
 ghost use Rattle.rank_order.specs.Lists.{is_among};
@@ -21,7 +21,7 @@ fn earlier(alloc: Global, places: &[u32], place: u32) -> Result<Vec<u32>, AllocE
         .collect(alloc)
 }
 
-/// Adds a place, where it is wanted.
+/// Adds a place, if it is to be included.
 fn add_wanted(list: &mut Vec<u32>, place: u32, wanted: bool) -> Result<(), AllocError>
     ensures { OnOk result (list.new.items ≡ list.old.items ++ (if wanted then place ∷ [] else [])) }
 {
@@ -43,7 +43,7 @@ fn add_later(list: &mut Vec<u32>, places: &[u32], place: u32) -> Result<(), Allo
     Ok(())
 }
 
-/// The users with a place among them, in order, or without it.
+/// The dependents with a place among them, in order, or without it.
 fn with_user(
     alloc: Global,
     users: &[u32],
@@ -58,7 +58,7 @@ fn with_user(
     Ok(changed)
 }
 
-/// Sets the list of a feed, so that one place is among its users, or is not.
+/// Sets the list of a feed, so that one place is among its dependents, or is not.
 fn set_user<K: Keeps<Held<Places>>>(
     alloc: Global,
     lists: &mut K,

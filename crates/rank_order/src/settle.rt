@@ -1,6 +1,6 @@
-//! Ranks under a change. The moved stages are taken out, and put back one by one: each graph on the way is a
-//! part of the changed one, so one of them has a cycle only if the changed one has. Each pass looks at
-//! places in the order of the ranks before, and goes on only from those whose rank changes.
+//! Ranks under a change. The moved stages are removed, and put back one by one: each graph on the way is a
+//! part of the changed one, so one of them has a cycle only if the changed one has. Each pass processes
+//! places in the order of the ranks before, and continues only from those whose rank changes.
 ghost use Rattle.std.specs.Prelude.{◌≡◌, ◌≢◌, ◌<◌, ◌≤◌, ◌&&◌, ◌||◌, not, true, false, ℕ, List, [], ◌∷◌, length, map, take, drop, All, Contains, slice_index, IfSome, IfNone, IfOk, IfErr, OnOk};
 ghost use Rattle.stage_graph.specs.Plain.{all_places, dependents, feeds_at};
 ghost use Rattle.stage_graph.specs.Walk.{above_all, rank, IsRanked};
@@ -23,7 +23,7 @@ fn is_among(place: u32, places: &[u32]) -> bool
     places.iter().any(|other| place == *other)
 }
 
-/// The rank of a place by those of its feeds, where the stages at some places are taken out.
+/// The rank of a place by those of its feeds, where the stages at some places are removed.
 fn rank_left<R: Representation, K: Keeps<u32>>(
     ranks: &K,
     graph: &Graph<R>,
@@ -104,7 +104,7 @@ fn walk_back<R: Representation, K: Keeps<u32>>(
     Ok(Places::from_vec(path))
 }
 
-/// The first of the users, of those that are not taken out, that is a moved place.
+/// The first of the dependents that is a moved place, and is not removed.
 fn first_stop(users: &[u32], out: &[u32], moved: &[u32]) -> Option<u32>
     ensures found { IfSome result (λ user. (is_among user users.now ≡ true) × (is_among user out.now ≡ false) × (is_among user moved.now ≡ true)) }
     ensures none { IfNone result ((user : ℕ) → is_among user users.now ≡ true → is_among user out.now ≡ false → is_among user moved.now ≡ false) }
@@ -117,7 +117,7 @@ fn first_stop(users: &[u32], out: &[u32], moved: &[u32]) -> Option<u32>
     None
 }
 
-/// Marks the places that are not taken out, by their ranks before.
+/// Marks the places that are not removed, by their ranks before.
 fn mark_left<K: Keeps<u32>>(
     marks: &mut Marks,
     before: &K,
@@ -178,7 +178,7 @@ fn settled<R: Representation, K: Keeps<u32>, L: Keeps<Held<Places>>>(
     Ok(ranks)
 }
 
-/// The ranks while all moved stages but the first are taken out, which may be wrong at the first.
+/// The ranks while all moved stages but the first are removed, which may be wrong at the first.
 fn ranks_without<R: Representation, K: Keeps<u32>, L: Keeps<Held<Places>>>(
     alloc: Global,
     before: &K,

@@ -31,7 +31,7 @@ fn ends_with(users: &[u32], user: u32) -> bool
     }
 }
 
-/// Adds a user that is no earlier than the others, unless it is the last of them already.
+/// Adds a dependent that is no earlier than the others, unless it is the last of them already.
 fn add_once(users: &mut Vec<u32>, user: u32) -> Result<(), AllocError>
     ensures { OnOk result ((uses : ℕ → Bool) → ((other : ℕ) → uses other ≡ true → other ≤ user)
         → AreUsers uses users.old.items → AreUsers (λ other. uses other || other == user) users.new.items) }
@@ -42,7 +42,7 @@ fn add_once(users: &mut Vec<u32>, user: u32) -> Result<(), AllocError>
     Ok(())
 }
 
-/// Adds a user to the lists of its feeds.
+/// Adds a dependent to the lists of its feeds.
 fn add_user(lists: &mut Vec<Vec<u32>>, feeds: &[u32], user: u32) -> Result<(), AllocError>
     requires { All (λ feed. feed < length lists.old.items) feeds.now }
     ensures long { OnOk result (length lists.new.items ≡ length lists.old.items) }
@@ -73,7 +73,7 @@ fn add_stage<R: OrderRepresentation>(
     Ok(())
 }
 
-/// The lists of a graph's dependents, each in a vector.
+/// The lists of a graph's dependents, each as a vector.
 fn lists_of<R: OrderRepresentation>(
     alloc: Global,
     graph: &Graph<R>,

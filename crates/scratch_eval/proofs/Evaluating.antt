@@ -1,4 +1,4 @@
--- Evaluation in an order of the stages after their feeds gives what the definitions say.
+-- Evaluation in an order in which each stage comes after its feeds gives what the definitions say.
 use Rattle.std.proofs.Common.{ℕ, zero, suc, ◌+◌, ◌*◌, ◌^◌, ◌≤◌, ◌<◌, ◌≡◌, inl, inr, max, List, [], ◌∷◌, ◌++◌, length, take, Option, Some, None, refl, sym, ap, ◌∙◌, subst, arith, get_or}
 use Rattle.std.specs.Prelude.{Contains, All, is_some, replicate}
 use Rattle.std.proofs.Math.ListN.{set, length-set, get_or-map}
@@ -31,7 +31,7 @@ by_later : (done : Option Completion) (early late : ℕ) → early ≤ late → 
 by_later None early late before by = tt
 by_later (Some done) early late before by = omega (arith, before, by)
 
--- a bound on all answers bounds what the states tell at a place
+-- a bound on all answers bounds the states at a place
 by_at : (answers : List (Option Answer)) (moment : ℕ) → All (λ answer. IsBy moment (seen_of (state_of answer))) answers → (place : ℕ)
     → IsBy moment (seen_at (state_at (states_of answers)) place)
 by_at answers moment all place =
@@ -50,7 +50,7 @@ read_is_feed stage (Picked index) feed (inr picked) =
     let within : index < length stage.inner = slice_get_within stage.inner index feed picked in
     Contains-append_right stage.sources stage.inner feed (index, within, get_or_from_slice_get stage.inner index feed feed picked)
 
--- a step that what it reads decides asks of no place but the feeds
+-- a step that is determined by what it reads asks of no place but the feeds
 pub asks_feeds : (step : Stage → (ℕ → Option Completion) → State) → ReadsDecide step → AsksFeeds (on_states step)
 asks_feeds step decide stage inputs others same =
     decide stage (seen_at inputs) (seen_at others)
@@ -94,7 +94,7 @@ module _ (step : Stage → (ℕ → Option Completion) → State) (decide : Read
   rank_empty : (place : ℕ) → stage_at places place ≡ None → rank places place ≡ 0
   rank_empty place here = found_meets_each 0 rank_step places ranks_ask_feeds ranked place ∙ ap (step_at 0 rank_step (rank places)) here
 
-  -- what an answer by the definitions tells is the state and the rank
+  -- the state and the rank of an answer by the definitions
   told_at : (place : ℕ) (here : Option Stage) → stage_at places place ≡ here → state_of (answer_for step places place here) ≡ at step places place
   told_at place None here = sym (at_empty place here)
   told_at place (Some stage) here = refl
@@ -165,7 +165,7 @@ module _ (step : Stage → (ℕ → Option Completion) → State) (decide : Read
           ];
         }
 
--- before a stage of the order is evaluated, what its evaluation asks for holds
+-- before a stage of the order is evaluated, the preconditions of its evaluation hold
 module _ (step : Stage → (ℕ → Option Completion) → State) (places : List (Option Stage)) (order : List ℕ) (first : IsFeedsFirst places order) (few : length places ≤ 65536)
     (k : ℕ) (answers : List (Option Answer)) (so_far : AreSoFar step places (take k order) answers) where
   pub few_done : length (take k order) ≤ 65536

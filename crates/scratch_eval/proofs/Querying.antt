@@ -114,7 +114,7 @@ nothing_at : (step : Stage → (ℕ → Option Completion) → State) (places : 
 nothing_at step places place nothing zero = refl
 nothing_at step places place nothing (suc levels) = ap (step_at pending (on_states step) (from_feeds pending (on_states step) places levels)) nothing
 
--- the answers tell the states of the definitions
+-- the answers have the states of the definitions
 module _ (step : Stage → (ℕ → Option Completion) → State) (places : List (Option Stage)) (answers : List (Option Answer)) (are : AreAnswers step places answers) where
   pub told_state_at : (place : ℕ) → state_at (states_of answers) place ≡ at step places place
   told_state_at place = get_or-map state_of answers place None ∙ ap state_of (are.answer place) ∙ of_stage (stage_at places place) refl where
@@ -217,7 +217,7 @@ module _ (step : Stage → (ℕ → Option Completion) → State) (decide : Read
     unfolded None nothing = ap (λ (state : State). chain_of place state.done (chain step graph.places)) (sym (nothing_at step graph.places place nothing (length graph.places)))
     unfolded (Some stage) here = ap (λ place. chain_of place (at step graph.places place).done (chain step graph.places)) (sound.stages place stage here).own_place
 
-  -- chains that go on as the states say, from level to level
+  -- chains that continue as the states say, from level to level
   chains_agree : (chains : ℕ → List ℕ) → ((place : ℕ) → chains place ≡ chain_of place (at step graph.places place).done chains)
       → (levels place : ℕ) → (Walk graph.places levels place → ⊥) → chains place ≡ from_feeds [] (chain_step (at step graph.places)) graph.places levels place
   chains_agree chains goes zero place short =
@@ -234,6 +234,6 @@ module _ (step : Stage → (ℕ → Option Completion) → State) (decide : Read
             ∙ ap (λ place. chain_of place (at step graph.places place).done chains) (sym (sound.stages place stage here).own_place)
             ∙ same_chains stage place here chains _ (λ feed among. same feed (subst (λ (feeds : List ℕ). Contains feeds feed) (sym (ap feeds_of_place here)) among))
 
-  -- chains that go on as the states say are those of the graph
+  -- chains that continue as the states say are those of the graph
   pub chains_alone : (chains : ℕ → List ℕ) → ((place : ℕ) → chains place ≡ chain_of place (at step graph.places place).done chains) → (place : ℕ) → chain step graph.places place ≡ chains place
   chains_alone chains goes place = sym (chains_agree chains goes (length graph.places) place (ranked place))

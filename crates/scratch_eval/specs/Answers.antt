@@ -1,4 +1,4 @@
--- What evaluation from scratch gives.
+-- The answers of evaluation from scratch.
 use Rattle.std.specs.Prelude.{ℕ, ◌≡◌, ◌+◌, ◌*◌, ◌^◌, ◌≤◌, All, Contains, List, length, map, Option, Some, None, Result, Ok, Err, slice_index_or}
 use Rattle.stage_graph.specs.declared.stage.Stage.{Stage}
 use Rattle.act_expr.specs.declared.outcome.Mode.{Mode}
@@ -18,17 +18,17 @@ use Rattle.scratch_eval.specs.declared.fault.NoStage.{NoStage}
 abbrev pub answer_at : List (Option Answer) → ℕ → Option Answer
 answer_at answers place = slice_index_or answers place None
 
--- the state that an answer tells
+-- the state of an answer
 abbrev pub state_of : Option Answer → State
 state_of None = pending
 state_of (Some answer) = answer.state
 
--- the rank that an answer tells
+-- the rank of an answer
 abbrev pub rank_of : Option Answer → ℕ
 rank_of None = 0
 rank_of (Some answer) = answer.rank
 
--- what is told of a place: its state or its rank, or that no stage stands there
+-- what is known of a place: its state or its rank, or that no stage stands there
 abbrev pub told_state : Option Answer → Result State NoStage
 told_state None = Err record {}
 told_state (Some answer) = Ok answer.state
@@ -50,7 +50,7 @@ pub record AreAnswers (step : Stage → (ℕ → Option Completion) → State) (
   pub each : length answers ≡ length places
   pub answer : (place : ℕ) → answer_at answers place ≡ answer_for step places place (stage_at places place)
 
--- the rank told at each place
+-- the rank at each place
 abbrev pub rank_at : List (Option Answer) → ℕ → ℕ
 rank_at answers place = rank_of (answer_at answers place)
 
@@ -78,7 +78,7 @@ MomentsFollowRanksUnqueued step =
     (graph : PlainGraph) → IsSound graph → IsRanked graph.places → NoneQueued graph.places
     → (place : ℕ) → IsBy (2 ^ 41 + rank graph.places place * 2 ^ 40) (seen_of (at step graph.places place))
 
--- by the operations of a completion stage, where no action is queued: all but the starts is as with one duration
+-- by the operations of a completion stage, where no action is queued: all but the starts are as by the definitions with one duration
 abbrev pub TellOneDuration : (Stage → (ℕ → Option Completion) → State) → Mode → List (Option Stage) → List (Option Answer) → Type 0
 TellOneDuration step mode places answers =
     step ≡ java_step mode → NoneQueued places

@@ -32,13 +32,13 @@ chain_step states stage chains = chain_of stage.place (states stage.place).done 
 abbrev pub chain : (Stage → (ℕ → Option Completion) → State) → List (Option Stage) → ℕ → List ℕ
 chain step places place = from_feeds [] (chain_step (at step places)) places (length places) place
 
--- on a ranked graph each chain goes on as the state at its place says
+-- on a ranked graph each chain continues as the state at its place says
 abbrev pub ChainsFollowBlame : (Stage → (ℕ → Option Completion) → State) → Type 0
 ChainsFollowBlame step =
     (graph : PlainGraph) → IsSound graph → IsRanked graph.places
     → (place : ℕ) → chain step graph.places place ≡ chain_of place (at step graph.places place).done (chain step graph.places)
 
--- the first so many of a chain, followed by the states alone
+-- the first stages of a chain, up to a count, determined by the states only
 abbrev pub followed : (ℕ → State) → ℕ → ℕ → List ℕ
 followed states zero place = []
 followed states (suc most) place = chain_of place (states place).done (followed states most)

@@ -22,14 +22,14 @@ abbrev pub path_after : (ℕ → List ℕ) → Option ℕ → List ℕ
 path_after paths None = []
 path_after paths (Some feed) = paths feed
 
--- the feed that the cause of a stage names, by what its feeds came to
+-- the feed that the cause of a stage names, by the states of its feeds
 abbrev pub next_feed : Mode → (ℕ → State) → Stage → Option ℕ
 next_feed mode states stage = feed_in (reason mode stage (seen_at states)).cause
 
 abbrev pub path_step : Mode → (ℕ → State) → Stage → (ℕ → List ℕ) → List ℕ
 path_step mode states stage paths = stage.place ∷ path_after paths (next_feed mode states stage)
 
--- the path of a stage, by what the places of its graph came to
+-- the path of a stage, by the states of its graph's places
 abbrev pub path_by : Mode → (ℕ → State) → List (Option Stage) → ℕ → List ℕ
 path_by mode states places place = from_feeds [] (path_step mode states) places (length places) place
 
@@ -37,7 +37,7 @@ path_by mode states places place = from_feeds [] (path_step mode states) places 
 abbrev pub path : PlainGraph → ℕ → List ℕ
 path graph place = path_by graph.mode (at (java_step graph.mode) graph.places) graph.places place
 
--- ---- what a graph tells of each place on a path
+-- ---- what a graph says of each place on a path
 
 abbrev pub state_in : PlainGraph → ℕ → State
 state_in graph place = at (java_step graph.mode) graph.places place
@@ -45,7 +45,7 @@ state_in graph place = at (java_step graph.mode) graph.places place
 abbrev pub reason_in : PlainGraph → Stage → Reason
 reason_in graph stage = reason graph.mode stage (seen_at (state_in graph))
 
--- what led to the state of the stage at a place
+-- the cause of the state of the stage at a place
 abbrev pub reason_of_place : PlainGraph → Option Stage → Reason
 reason_of_place graph None = at_once Open
 reason_of_place graph (Some stage) = reason_in graph stage
@@ -94,7 +94,7 @@ pub record IsPath (graph : PlainGraph) (place : ℕ) (path : List ℕ) : Type 0 
       → (feed_in (reason_at graph one).cause ≡ Some next) × HasRead graph one next
   -- .. and the cause of the last one names none
   pub ends : IfSome (last_or None path) (λ one. feed_in (reason_at graph one).cause ≡ None)
-  -- each of its stages has completed just where the stage has
+  -- each of its stages has completed if and only if the stage has
   pub alike : All (λ one. is_some (state_in graph one).done ≡ is_some (state_in graph place).done) path
   -- nothing that a stage of the path waited for came later than its trigger
   pub latest : All (IsLatestAt graph) path
@@ -105,7 +105,7 @@ pub record IsPath (graph : PlainGraph) (place : ℕ) (path : List ℕ) : Type 0 
 abbrev pub PathsAddUp : Type 0
 PathsAddUp = (graph : PlainGraph) → IsSound graph → IsRanked graph.places → (place : ℕ) → IsLive graph.places place → IsPath graph place (path graph place)
 
--- where a stage has one path in two graphs, which begins at one tick and takes some ticks more in the second, it completes so many ticks later there
+-- where a stage has one path in two graphs, which begins at one tick and takes some ticks more in the second, it completes that many ticks later there
 abbrev pub PathsMove : Type 0
 PathsMove =
     (old new : PlainGraph) → IsSound old → IsRanked old.places → IsSound new → IsRanked new.places

@@ -1,4 +1,4 @@
--- What is asked of a graph stage by stage.
+-- Queries about one stage of a graph.
 use Rattle.std.specs.Prelude.{ℕ, ◌≡◌, List, Option, Some, None, Result, Ok, Err}
 use Rattle.stage_graph.specs.declared.stage.Stage.{Stage}
 use Rattle.stage_graph.specs.Plain.{stage_at, dependents}
@@ -17,7 +17,7 @@ abbrev pub list_at : (ℕ → List ℕ) → ℕ → Option Stage → Result (Lis
 list_at list place None = Err NoStage
 list_at list place (Some stage) = Ok (list place)
 
--- the answer that is due, or want of memory
+-- the expected answer, or out of memory
 abbrev pub AnswersOrMemory : Result (List ℕ) QueryFault → Result (List ℕ) QueryFault → Type 0
 AnswersOrMemory due (Err Memory) = Unit {0}
 AnswersOrMemory due answer = answer ≡ due

@@ -48,11 +48,11 @@ impl Answers {
     ghost use Rattle.scratch_eval.specs.Blame.{failure_of};
     ghost use Rattle.stage_ops.specs.States.{state_at};
 
-    /// As many empty places.
+    /// This many empty places.
     pub(crate) fn empty(alloc: Global, places: usize) -> Result<Self, AllocError>
         ensures { IfOk result (λ answers. answers ≡ replicate places None) }
     {
-        // The check has to be shown the types inside `Answer`.
+        // This line shows the checker the types inside `Answer`.
         let _outcome: Option<Outcome> = None;
         let _done: Option<Done> = None;
         let _state: Option<State> = None;

@@ -18,7 +18,7 @@ pub fn moments_follow_ranks()
     ensures { (step : Stage → (ℕ → Option Completion) → State) → ReadsDecide step → IsSoon step → MomentsFollowRanks step }
 {}
 
-/// A stage completes sooner in a graph where no action is queued.
+/// The bound by its rank is lower in a graph where no action is queued.
 pub fn moments_follow_ranks_unqueued()
     ensures { (step : Stage → (ℕ → Option Completion) → State) → ReadsDecide step → IsPrompt step → MomentsFollowRanksUnqueued step }
 {}
@@ -29,7 +29,7 @@ pub fn chains_follow_blame()
 {}
 
 /// The path of a stage is the stage, and then the path of the feed that its cause names. A completed stage completed the
-/// ticks of its path after the tick at which the path began, and the path of a pending one is of pending stages.
+/// ticks of its path after the tick at which the path began, and the path of a pending one has pending stages only.
 ///
 /// While a stage keeps its path and the tick at which it begins, it completes later by as many ticks as the actions on
 /// the path take longer.

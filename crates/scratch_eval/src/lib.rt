@@ -1,4 +1,4 @@
-//! Evaluation of a graph from scratch: what each stage comes to, its rank, who is to blame and who uses it.
+//! Evaluation of a graph from scratch: the state of each stage, its rank, who is to blame, and its dependents.
 #![tactic(auto)]
 
 mod answers;

@@ -1,4 +1,4 @@
-//! What is asked of a graph stage by stage: who is to blame, and who uses it.
+//! Queries about one stage of a graph: who is to blame, and which stages depend on it.
 ghost use Rattle.std.specs.Prelude.{◌≡◌, ℕ, ◌<◌, length, Option, Some, IfOk};
 ghost use Rattle.stage_graph.specs.declared.stage.Stage.{Stage};
 ghost use Rattle.stage_graph.specs.Plain.{PlainGraph, uses, dependents, stage_at};
@@ -14,7 +14,7 @@ use crate::fault::QueryFault;
 use stage_graph::{Graph, Places, Representation, Stage};
 use std::alloc::{AllocError, Global};
 
-/// The chain of blame from a place, as the states tell it.
+/// The chain of blame from a place, by the states of the stages.
 fn follow(alloc: Global, answers: &Answers, place: u32) -> Result<Places, AllocError>
     ensures { IfOk result (λ chain. chain ≡ followed (state_at (states_of answers.now)) (length answers.now) place) }
 {
@@ -52,7 +52,7 @@ fn has_feed(stage: &Stage, place: u32) -> bool
     stage.sources.as_slice().contains(&place) || stage.inner.as_slice().contains(&place)
 }
 
-/// The places whose stages have a place among their feeds.
+/// The dependents of a place: the places whose stages have it among their feeds.
 fn all_users<R: Representation>(
     alloc: Global,
     graph: &Graph<R>,
@@ -72,7 +72,7 @@ fn all_users<R: Representation>(
     Ok(Places::from_vec(users))
 }
 
-/// The stages that have a live stage among their feeds, each once, in the order of their places.
+/// The dependents of a live stage: those that have it among their feeds, each once, in the order of their places.
 pub fn users<R: Representation>(
     alloc: Global,
     graph: &Graph<R>,

@@ -1,6 +1,6 @@
 //! Evaluation from scratch: the state and the rank of each stage, which is computed once and after its feeds.
 //!
-//! All that grows is made before the first stage is computed, so a refused allocation leaves the meter as it was.
+//! All lists are allocated before the first stage is computed, so a failed allocation leaves the meter as it was.
 ghost use Rattle.std.specs.Prelude.{◌≡◌, ℕ, ◌+◌, ◌<◌, ◌≤◌, ◌^◌, All, IfOk, OnOk, OnErr, length, count_by, is_some};
 ghost use Rattle.stage_graph.specs.Plain.{feeds_of};
 ghost use Rattle.stage_ops.specs.Among.{IsSoundAmong};

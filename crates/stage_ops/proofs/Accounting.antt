@@ -1,4 +1,4 @@
--- A stage's reason accounts for its state.
+-- The reason of a stage accounts for its state.
 use Rattle.std.proofs.Common.{ℕ, suc, zero, pos, negsuc, ◌+◌, ◌≤◌, ◌≡◌, inl, inr, max, Bool, true, false, cond, List, [], ◌∷◌, ◌++◌, Option, Some, None, refl, sym, ap, ◌∙◌, subst, arith}
 use Rattle.std.proofs.lemmas.Bool.{eqb-true, cases_lt, cond_below, cond_above}
 use Rattle.std.proofs.lemmas.Bool.Decides.{eqb_tells}
@@ -147,9 +147,9 @@ module _ (mode : Mode) (stage : Stage) (inputs : ℕ → Option Completion) wher
   is_timed AllOf = timed_all AllOf
   is_timed op = timed_earliest op
 
--- ---- the sources that are waited for
+-- ---- the sources that the operation waits for
 
--- a source that has completed is what its place shows
+-- a source that has completed is the completion at its place
 shown : (inputs : ℕ → Option Completion) (place : ℕ) (sources : List Source) (source : Source) (here : Option Source) → source_at inputs place ≡ here
     → (Contains sources source → source_at inputs source.place ≡ Some source)
     → Contains (cons_option here sources) source → source_at inputs source.place ≡ Some source
@@ -206,7 +206,7 @@ first_at_is : (tick : ℕ) (sources : List Source) → IfSome (first_at tick sou
 first_at_is tick [] = tt
 first_at_is tick (first ∷ sources) = at_first tick first sources (first_at tick sources) (first_at_is tick sources) (first.moment == tick) refl
 
--- where none of them completed at the latest tick, it is the creation's
+-- if none of them completed at the latest tick, it is the creation's
 none_at_latest : (created : ℕ) (sources : List Source) → first_at (latest created sources) sources ≡ None → latest created sources ≡ created
 none_at_latest created [] none = refl
 none_at_latest created (first ∷ sources) none =
@@ -346,7 +346,7 @@ module _ (stage : Stage) (inputs : ℕ → Option Completion) where
 
 -- ---- after its ends
 
--- the earliest of a list that is looked at through another
+-- the earliest of a list of mapped elements
 sooner_map : {A B : Type 0} (f : A → B) (moment : B → ℕ) (first : A) (rest : Option A) → f (sooner (λ x. moment (f x)) first rest) ≡ sooner moment (f first) (option_map f rest)
 sooner_map f moment first None = refl
 sooner_map f moment first (Some other) = either (nat_lt (moment (f other)) (moment (f first))) where
@@ -426,7 +426,7 @@ each_accounts mode stage inputs =
     (with_pins stage.pin_result stage.pin_moment (natural mode stage inputs)) (with_pins_reason stage.pin_result stage.pin_moment (natural mode stage inputs) (natural_reason mode stage inputs))
     (pinned_account stage inputs stage.pin_result stage.pin_moment refl (read_on progress) (natural mode stage inputs) (natural_reason mode stage inputs) natural_account)
 
--- ---- what holds of each cause that there may be
+-- ---- what holds of each possible cause
 
 module _ (mode : Mode) (stage : Stage) (inputs : ℕ → Option Completion) (P : Cause → Type 0)
     (by_trigger : P (trigger_cause stage inputs)) (taken : (place : ℕ) → P (Inner place)) (pinned : P Pinned) (ended : (index : ℕ) → P (Ended index))

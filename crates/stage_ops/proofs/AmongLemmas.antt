@@ -1,4 +1,4 @@
--- A sound stage of a graph has its feeds among the graph's places.
+-- The feeds of a sound stage of a graph are among the graph's places.
 use Rattle.std.proofs.Common.{ℕ, ◌<◌, List, length, Option}
 use Rattle.std.proofs.lemmas.List.Elements.{All-weaker}
 use Rattle.stage_graph.specs.declared.stage.Stage.{Stage}

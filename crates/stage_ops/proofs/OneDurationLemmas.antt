@@ -1,4 +1,4 @@
--- Where no action is queued, a stage comes to what it comes to with one duration, but for its start.
+-- Where no action is queued, a stage has the state that it has with one duration, except for its start.
 use Rattle.std.proofs.Common.{ℕ, zero, suc, length, pos, negsuc, ◌+◌, ◌≡◌, max, Bool, true, false, cond, nat_lt, List, [], ◌∷◌, ◌++◌, Option, Some, None, refl, ap, ◌∙◌, arith}
 use Rattle.std.specs.Prelude.{map, slice_get}
 use Rattle.std.specs.Option.{option_map, option_to_list}
@@ -48,7 +48,7 @@ seen_progress Waits = waits
 seen_progress (Completes done) = completes (seen done)
 seen_progress (Awaits pick) = awaits pick.index pick.place pick.end
 
--- the table, row by row
+-- the table, case by case
 module _ (mode : Mode) (stage : Stage) (idle : stage.queued ≡ 0) where
   ends_after : (trigger : ℕ) → end_of stage trigger ≡ trigger + stage.runs
   ends_after trigger = omega (arith, idle)

@@ -1,4 +1,4 @@
--- A cause is open just for a pending stage that names no source.
+-- A cause is open exactly for a pending stage that waits for no source.
 use Rattle.std.proofs.Common.{ℕ, suc, zero, pos, negsuc, ◌+◌, ◌≡◌, max, Bool, true, false, cond, List, [], ◌∷◌, ◌++◌, Option, Some, None, refl, sym, ap, ◌∙◌, arith}
 use Rattle.std.specs.Prelude.{IsTrue, is_some, length, map, slice_get, ◌==◌}
 use Rattle.std.specs.Option.{option_map, option_to_list}
@@ -148,7 +148,7 @@ module _ (mode : Mode) (stage : Stage) (inputs : ℕ → Option Completion) wher
   waits_for_none RunAfterEither arity is none = waits_on_earliest RunAfterEither (λ trigger value. refl) stage.sources is none
   waits_for_none AnyOf arity is none = waits_on_earliest AnyOf (λ trigger value. refl) stage.sources is none
 
-  -- ---- an operation without sources awaits no inner stage
+  -- ---- an operation without sources waits for no inner stage
 
   not_values : (op : Op) (trigger : ℕ) (first second : Value) → awaits_inner (after_values op mode stage trigger first second) ≡ false
   not_values ThenCombine trigger first second = refl

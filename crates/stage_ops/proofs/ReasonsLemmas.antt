@@ -1,4 +1,4 @@
--- Steps of the code that finds a stage's reason.
+-- Steps of the code that computes a stage's reason.
 use Rattle.std.proofs.Common.{ℕ, inl, inr, ◌+◌, ◌<◌, ◌≤◌, ◌≡◌, cond, List, [], ◌∷◌, ◌++◌, length, take, Option, Some, None, sym, ap, ◌∙◌, arith, get_or, append_assoc, length-take}
 use Rattle.std.specs.Prelude.{max}
 use Rattle.std.specs.Option.{option_map, option_to_list}

@@ -1,4 +1,4 @@
--- What a stage's reason accounts for.
+-- How a stage's reason accounts for its state.
 use Rattle.std.specs.Prelude.{ℕ, ◌≡◌, ◌≤◌, All, [], length, IsTrue, Option, None, IfSome, is_some}
 use Rattle.std.specs.Option.{option_map}
 use Rattle.act_expr.specs.declared.outcome.Mode.{Mode}
@@ -20,7 +20,7 @@ pub record IsAccount (stage : Stage) (inputs : ℕ → Option Completion) (reads
   pub adds_up : option_map done_moment done ≡ option_map (later_by reason) (tick_of stage inputs reason.cause)
   -- the feed that the cause names was read
   pub read : IfSome (feed_in reason.cause) (IsReadBy stage reads)
-  -- it has completed just where the stage has
+  -- it has completed if and only if the stage has
   pub alike : IfSome (feed_in reason.cause) (λ feed. is_some (inputs feed) ≡ is_some done)
 
 -- each stage's reason accounts for its state
@@ -43,7 +43,7 @@ IsLatest stage inputs Open = Unit {0}
 abbrev pub EachIsLatest : Type 0
 EachIsLatest = (mode : Mode) (stage : Stage) (inputs : ℕ → Option Completion) → IsLatest stage inputs (reason mode stage inputs).cause
 
--- the cause is open just for a pending stage that names no source: a stage whose cause is open names none, and one that names none and is pending has that cause
+-- the cause is open exactly for a pending stage that names no source: a stage whose cause is open names none, and one that names none and is pending has that cause
 abbrev pub EachIsOpen : Type 0
 EachIsOpen =
     (mode : Mode) (stage : Stage) (inputs : ℕ → Option Completion) → IsTrue (has_arity stage.op (length stage.sources) (length stage.inner))

@@ -1,4 +1,4 @@
--- One stage of a sound graph, as far as its own evaluation asks.
+-- One stage of a sound graph, as far as its own evaluation depends on it.
 use Rattle.std.specs.Prelude.{ℕ, ◌<◌, ◌≤◌, ◌^◌, length, All}
 use Rattle.std.specs.Option.{ForSome}
 use Rattle.stage_graph.specs.declared.end.End.{End}

@@ -1,4 +1,4 @@
--- The limits that the tests of a sound stage stand for.
+-- The limits that the tests of a sound stage imply.
 use Rattle.std.proofs.Common.{ℕ, ◌≤◌, ◌^◌, ◌≡◌, Bool, true, false, ◌&&◌, List, [], ◌∷◌, length, Option, Some, None, refl, arith}
 use Rattle.std.specs.Prelude.{All, nat_le}
 use Rattle.std.specs.List.{list_all}

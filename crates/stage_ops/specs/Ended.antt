@@ -1,4 +1,4 @@
--- What a stage comes to after its ends.
+-- The state of a stage after its ends.
 use Rattle.std.specs.Prelude.{ℕ, List, Option, codes, ◌+◌, ◌++◌, map}
 use Rattle.act_expr.specs.declared.outcome.Outcome.{Outcome}
 use Rattle.act_expr.specs.declared.outcome.Outcome.TheVariants.{Value as Normal, Bare}
@@ -18,11 +18,11 @@ cancellation = codes "java.util.concurrent.CancellationException"
 abbrev pub timeout : List ℕ
 timeout = codes "java.util.concurrent.TimeoutException"
 
--- when an end acts: a timeout its delay after `at`
+-- when an end acts: a timeout acts `delay` ticks after `at`
 abbrev pub acts_at : End → ℕ
 acts_at end = end.at + delay_of end.act
 
--- what an end sets
+-- the completion that an end sets
 abbrev pub outcome_set : Act → Outcome
 outcome_set (Complete value) = Normal value
 outcome_set (CompleteExceptionally name) = Bare name

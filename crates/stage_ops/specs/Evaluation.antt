@@ -1,4 +1,4 @@
--- Evaluation from scratch, for any step of one stage, and what is asked of a step.
+-- Evaluation from scratch, for any step of one stage, and the conditions on a step.
 use Rattle.std.specs.Prelude.{ℕ, ◌≡◌, ◌+◌, ◌≤◌, ◌^◌, List, length, Option, IfSome}
 use Rattle.stage_graph.specs.declared.stage.Stage.{Stage}
 use Rattle.stage_ops.specs.Among.{IsSoundAmong}

@@ -50,7 +50,7 @@ module _ (P : Done → Type 0) where
       found (option_to_list completion ++ map set_by stage.ends) (earliest done_moment (option_to_list completion ++ map set_by stage.ends))
       (earliest_in done_moment (option_to_list completion ++ map set_by stage.ends)) (each_candidate completion stage.ends here each)
 
--- an operation that reads at all reads its sources
+-- an operation that reads anything reads its sources
 sources_read : (stage : Stage) (progress : Progress) (feed : ℕ) → Contains stage.sources feed → IsReadBy stage (read_on progress) feed
 sources_read stage Waits feed here = here
 sources_read stage (Completes done) feed here = here
@@ -90,7 +90,7 @@ module _ (mode : Mode) (stage : Stage) (inputs others : ℕ → Option Completio
 pub java_reads_decide : (mode : Mode) → ReadsDecide (java_step mode)
 java_reads_decide mode stage inputs others agree = decide mode stage inputs others stage.pin_result stage.pin_moment agree
 
--- Who is blamed was read.
+-- The blamed source was read.
 module _ (stage : Stage) where
   abbrev Blames : Reads → Done → Type 0
   Blames reads done = IfSome done.from (IsReadBy stage reads)

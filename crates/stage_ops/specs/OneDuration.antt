@@ -1,4 +1,4 @@
--- Stages whose actions have one duration: a second set of definitions, without a wait for a thread and without starts.
+-- Stages whose actions have one duration: a second set of definitions, without queueing and without starts.
 use Rattle.std.specs.Prelude.{if◌then◌else◌, ℕ, pos, negsuc, ◌+◌, ◌++◌, max, map, List, length, Option, Some, None, slice_get}
 use Rattle.std.specs.Option.{option_map, option_to_list}
 use Rattle.act_expr.specs.declared.outcome.Mode.{Mode}
@@ -28,7 +28,7 @@ use Rattle.stage_ops.specs.AfterAll.{value_named}
 use Rattle.stage_ops.specs.Natural.{blamed}
 use Rattle.stage_ops.specs.Ended.{outcome_set, acts_at}
 
--- how far an operation comes by its sources: it waits, it completes, or it waits for the inner stage
+-- the progress of an operation, by its sources: it waits, it completes, or it waits for the inner stage
 -- that its function has picked by its end
 pub data Course : Type 0 where
   waits : Course
@@ -49,7 +49,7 @@ hands_on trigger source = completes_at trigger (wrap source.outcome) (Some sourc
 abbrev pub runs : Mode → Stage → ℕ → Answer → Course
 runs mode stage trigger answer = completes_at (trigger + stage.runs) (outcome_of mode answer) None
 
--- the function of a compose form picks an inner stage
+-- the function of a compose operation picks an inner stage
 abbrev pub awaits_place : Mode → Stage → ℕ → ℕ → Option ℕ → Course
 awaits_place mode stage trigger index None = runs mode stage trigger (Throws index_out_of_bounds)
 awaits_place mode stage trigger index (Some place) = awaits index place (trigger + stage.runs)
@@ -129,7 +129,7 @@ course_of RunAfterBoth mode stage inputs = after_all RunAfterBoth mode stage inp
 course_of AllOf mode stage inputs = after_all AllOf mode stage inputs
 course_of op mode stage inputs = after_earliest op mode stage inputs
 
--- what a stage comes to by its operation
+-- the state of a stage by its operation
 abbrev pub taken_over : ℕ → ℕ → Source → Completion
 taken_over place end inner = record { outcome = wrap inner.outcome; moment = max end inner.moment; from = blamed place inner.outcome }
 
@@ -167,7 +167,7 @@ completed_at completion = completion.moment
 abbrev pub ended : Stage → Option Completion → Option Completion
 ended stage completion = earliest completed_at (option_to_list completion ++ map set_by stage.ends)
 
--- what it read
+-- the feeds that it read
 abbrev pub read_on : Course → Reads
 read_on waits = Sources
 read_on (completes completion) = Sources
@@ -177,7 +177,7 @@ abbrev pub reads : Option Outcome → Option ℕ → Course → Reads
 reads (Some outcome) (Some moment) course = Nothing
 reads result moment course = read_on course
 
--- what a stage comes to: its completion without a start, none while it is pending, and what it read
+-- the state of a stage: its completion without a start, none while it is pending, and what it read
 pub record Sight : Type 0 where
   pub completion : Option Completion
   pub reads : Reads

@@ -1,4 +1,4 @@
--- What led to a stage's state: why it completed when it did, or why it is pending.
+-- The reason of a stage's state: why it completed when it did, or why it is pending.
 use Rattle.std.specs.Prelude.{ℕ, ◌+◌, List, [], ◌∷◌, ◌++◌, Option, Some, None, is_some, nat_lt, ◌==◌, if◌then◌else◌, slice_get}
 use Rattle.std.specs.Option.{option_map, option_to_list}
 use Rattle.act_expr.specs.declared.outcome.Mode.{Mode}
@@ -23,7 +23,7 @@ use Rattle.stage_ops.specs.Natural.{natural, progress_of}
 use Rattle.stage_ops.specs.Pinned.{pinned}
 use Rattle.stage_ops.specs.Sources.{completed, latest, moment_of, source_at}
 
--- the cause alone: no action of the stage came after it
+-- only the cause: no action of the stage came after it
 abbrev pub at_once : Cause → Reason
 at_once cause = record { cause = cause; queued = 0; ran = 0 }
 
@@ -33,7 +33,7 @@ by_action stage cause = record { cause = cause; queued = stage.queued; ran = sta
 
 -- ---- the trigger
 
--- the sources whose completions the trigger counts: all of them, or the earliest alone
+-- the sources whose completions the trigger counts: all of them, or only the earliest
 abbrev pub waited_for : Op → Stage → (ℕ → Option Completion) → List Source
 waited_for Async stage inputs = []
 waited_for Manual stage inputs = []
@@ -54,7 +54,7 @@ abbrev pub triggered_by : Option Source → Cause
 triggered_by None = Created
 triggered_by (Some source) = After source.place
 
--- of the sources that are waited for the one named first that completed at the trigger; the creation where none did
+-- the first of the sources, of those that are waited for, that completed at the trigger; the creation where none did
 abbrev pub trigger_cause : Stage → (ℕ → Option Completion) → Cause
 trigger_cause stage inputs =
     triggered_by (first_at (latest stage.created (waited_for stage.op stage inputs)) (waited_for stage.op stage inputs))
@@ -107,7 +107,7 @@ explained_done one = one.done
 abbrev pub explained_moment : Explained → ℕ
 explained_moment one = one.done.moment
 
--- what the ends set, the first of them with this index
+-- the completions that the ends set, the first of them with this index
 abbrev pub set_from : ℕ → List End → List Explained
 set_from index [] = []
 set_from index (end ∷ ends) = explained (at_once (Ended index)) (set_by end) ∷ set_from (index + 1) ends
@@ -116,7 +116,7 @@ abbrev pub reason_or : Reason → Option Explained → Reason
 reason_or reason None = reason
 reason_or reason (Some one) = one.reason
 
--- the completion, if there is one, and then what the ends set
+-- the completion, if there is one, and then those that the ends set
 abbrev pub candidates : Option Done → Reason → List End → List Explained
 candidates completion reason ends = option_to_list (option_map (explained reason) completion) ++ set_from 0 ends
 
@@ -124,13 +124,13 @@ candidates completion reason ends = option_to_list (option_map (explained reason
 abbrev pub ended_reason : List End → Option Done → Reason → Reason
 ended_reason ends completion reason = reason_or reason (earliest explained_moment (candidates completion reason ends))
 
--- what led to a stage's state
+-- the reason of a stage's state
 abbrev pub reason : Mode → Stage → (ℕ → Option Completion) → Reason
 reason mode stage inputs =
     ended_reason stage.ends (pinned stage (natural mode stage inputs))
     (with_pins_reason stage.pin_result stage.pin_moment (natural mode stage inputs) (natural_reason mode stage inputs))
 
--- ---- what a reason says
+-- ---- the parts of a reason
 
 -- the feed that a cause names
 abbrev pub feed_in : Cause → Option ℕ
@@ -152,6 +152,6 @@ tick_of stage inputs (Ended index) = option_map acts_at (slice_get stage.ends in
 tick_of stage inputs (Waiting place) = None
 tick_of stage inputs Open = None
 
--- a reason's own ticks later
+-- the reason's own ticks later
 abbrev pub later_by : Reason → ℕ → ℕ
 later_by reason tick = tick + reason.queued + reason.ran

@@ -10,7 +10,7 @@ use crate::state::Done;
 use act_expr::Outcome;
 use stage_graph::{Act, End, Stage};
 
-/// A completion that was set.
+/// A completion that a pin or an end sets.
 fn set_to(outcome: Outcome, moment: u64) -> Done
     ensures { result ≡ set_to outcome moment }
 {
@@ -39,7 +39,7 @@ pub(crate) fn pinned(stage: &Stage, done: Option<Done>) -> Option<Done>
     }
 }
 
-/// What an end sets.
+/// The completion that an end sets.
 pub(crate) fn set_by(end: &End) -> Done
     requires { acts_at end.now ≤ 2 ^ 41 }
     ensures { result ≡ set_by end.now }

@@ -1,4 +1,4 @@
-//! What one stage comes to, from what its feeds came to: the operations, pins and ends of a completion stage.
+//! The state of one stage, from the states of its feeds: the operations, pins and ends of a completion stage.
 #![tactic(auto)]
 
 mod actions;

@@ -1,4 +1,4 @@
-//! What a stage comes to by its operation, before its pins and ends.
+//! The progress of a stage by its operation, before its pins and ends.
 //!
 //! The documentation's rule on exceptions is `hands_on`: "if a stage's computation terminates abruptly with an
 //! (unchecked) exception or error, then all dependent stages requiring its completion complete exceptionally as well,
@@ -32,7 +32,7 @@ pub(crate) struct Pick {
     pub(crate) end: u64,
 }
 
-/// How far an operation comes by its sources.
+/// The progress of an operation, by its sources.
 #[derive(Clone, Copy)]
 pub(crate) enum Progress {
     /// It waits for a source, or for an end.
@@ -118,7 +118,7 @@ fn awaits(mode: Mode, stage: &Stage, trigger: u64, index: usize) -> Progress
     })
 }
 
-/// The number that the function of a compose form gave is the index of an inner stage.
+/// The number that the function of a compose operation gave, as the index of an inner stage.
 fn picked(mode: Mode, stage: &Stage, trigger: u64, number: Value) -> Progress
     requires end { end_of stage.now trigger < 2 ^ 64 }
     requires few { length stage.now.inner ≤ 1024 }
@@ -136,7 +136,7 @@ fn picked(mode: Mode, stage: &Stage, trigger: u64, number: Value) -> Progress
     }
 }
 
-/// The function of a compose form runs, and picks an inner stage.
+/// The function of a compose operation runs, and picks an inner stage.
 fn picks(mode: Mode, stage: &Stage, trigger: u64, answer: Answer) -> Progress
     requires end { end_of stage.now trigger < 2 ^ 64 }
     requires few { length stage.now.inner ≤ 1024 }
@@ -148,7 +148,7 @@ fn picks(mode: Mode, stage: &Stage, trigger: u64, answer: Answer) -> Progress
     }
 }
 
-/// How an operation goes on from a normal source.
+/// How an operation continues from a normal source.
 fn after_value(mode: Mode, stage: &Stage, trigger: u64, value: Value) -> Progress
     requires end { end_of stage.now trigger < 2 ^ 64 }
     requires few { length stage.now.inner ≤ 1024 }
@@ -182,7 +182,7 @@ fn after_value(mode: Mode, stage: &Stage, trigger: u64, value: Value) -> Progres
     }
 }
 
-/// How an operation goes on from an exceptional source.
+/// How an operation continues from an exceptional source.
 fn after_failure(mode: Mode, stage: &Stage, trigger: u64, source: &Source) -> Progress
     requires end { end_of stage.now trigger < 2 ^ 64 }
     requires few { length stage.now.inner ≤ 1024 }
@@ -205,7 +205,7 @@ fn after_failure(mode: Mode, stage: &Stage, trigger: u64, source: &Source) -> Pr
     }
 }
 
-/// How an operation goes on from the source that decides it.
+/// How an operation continues from the source that decides it.
 fn after_outcome(mode: Mode, stage: &Stage, trigger: u64, source: &Source) -> Progress
     requires end { end_of stage.now trigger < 2 ^ 64 }
     requires few { length stage.now.inner ≤ 1024 }
@@ -230,7 +230,7 @@ fn after_earliest<L: Look>(mode: Mode, stage: &Stage, look: &L) -> Progress
     after_outcome(mode, stage, trigger, &source)
 }
 
-/// How an operation goes on from all of its sources, where each is normal.
+/// How an operation continues from all of its sources, where each is normal.
 fn after_values(mode: Mode, stage: &Stage, trigger: u64, first: Value, second: Value) -> Progress
     requires { end_of stage.now trigger < 2 ^ 64 }
     ensures { result ≡ after_values stage.now.op mode stage.now trigger first second }
@@ -273,7 +273,7 @@ fn after_all<L: Look>(mode: Mode, stage: &Stage, look: &L) -> Progress
     }
 }
 
-/// How far an operation comes by its sources.
+/// The progress of an operation, by its sources.
 pub(crate) fn progress_of<L: Look>(mode: Mode, stage: &Stage, look: &L) -> Progress
     requires limits { IsLimited (length (L.states look.now)) stage.now }
     requires moments { All (λ state. IsBy (2 ^ 62) (seen_of state)) (L.states look.now) }
@@ -294,7 +294,7 @@ pub(crate) fn progress_of<L: Look>(mode: Mode, stage: &Stage, look: &L) -> Progr
     }
 }
 
-/// The completion, where a picked stage has completed too.
+/// The completion, if a picked stage has completed too.
 pub(crate) fn finished<L: Look>(progress: &Progress, look: &L) -> Option<Done>
     requires within { AwaitsWithin (length (L.states look.now)) progress.now }
     requires moments { All (λ state. IsBy (2 ^ 62) (seen_of state)) (L.states look.now) }

@@ -1,4 +1,4 @@
-//! What evaluation asks of the operations.
+//! What evaluation requires of the operations.
 ghost use Rattle.std.specs.Prelude.{◌≡◌, ℕ, ◌<◌, ◌^◌, List, Option, All, length, slice_get};
 ghost use Rattle.act_expr.specs.declared.outcome.Mode.{Mode};
 ghost use Rattle.stage_graph.specs.declared.stage.Stage.{Stage};
@@ -21,12 +21,12 @@ pub trait Look {
         ensures { slice_get (states self.now) place ≡ Some result };
 }
 
-/// What a stage comes to, from what its feeds came to. `N` is the marker of the meter that gives the passes.
+/// The state of a stage, from the states of its feeds. `N` is the marker of the meter that gives the passes.
 pub trait StageOps<N> {
     ghost step: { Self → Mode → Stage → (ℕ → Option Completion) → State };
 
-    /// The state of a stage of a sound graph whose feeds have the states in `look`. It takes no memory, and always
-    /// answers.
+    /// The state of a stage of a sound graph whose feeds have the states in `look`. Allocates nothing, and never
+    /// fails.
     fn compute<L: Look>(&self, mode: Mode, stage: &Stage, pass: &Pass<N>, look: &L) -> State
         requires place { pass.now ≡ stage.now.place }
         requires sound { IsSoundAmong (length (L.states look.now)) stage.now }

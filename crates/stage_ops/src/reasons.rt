@@ -1,4 +1,4 @@
-//! What led to a stage's state.
+//! The reason of a stage's state.
 ghost use Rattle.std.specs.Prelude.{◌≡◌, ◌≤◌, ◌<◌, ◌^◌, All, Option, Some, None, length};
 ghost use Rattle.std.specs.Option.{option_map, option_to_list};
 ghost use Rattle.stage_ops.specs.Among.{IsLimited, IsEarlyEnd};
@@ -17,14 +17,14 @@ use crate::sources::{earliest, source_at};
 use crate::state::Done;
 use stage_graph::{Op, Stage};
 
-/// A completion, and what led to it.
+/// A completion, and its reason.
 #[derive(Clone, Copy)]
 pub(crate) struct Explained {
     pub(crate) done: Done,
     pub(crate) reason: Reason,
 }
 
-/// The cause alone: no action of the stage came after it.
+/// Only the cause: no action of the stage came after it.
 fn at_once(cause: Cause) -> Reason
     ensures { result ≡ at_once cause }
 {
@@ -160,7 +160,7 @@ fn since_pick<L: Look>(stage: &Stage, pick: Pick, look: &L) -> Reason
     }
 }
 
-/// What led to a stage's state by its operation.
+/// The reason of a stage's state by its operation.
 pub(crate) fn reason_on<L: Look>(stage: &Stage, progress: &Progress, look: &L) -> Reason
     requires limits { IsLimited (length (L.states look.now)) stage.now }
     requires within { AwaitsWithin (length (L.states look.now)) progress.now }
@@ -225,7 +225,7 @@ fn with_ends(stage: &Stage, completion: Option<Done>, reason: &Reason) -> Reason
     }
 }
 
-/// What led to a stage's state, by what its operation came to and what led to that.
+/// The reason of a stage's state, by its operation's progress and the reason of that.
 pub(crate) fn settled(stage: &Stage, natural: Option<Done>, reason: Reason) -> Reason
     requires { All IsEarlyEnd stage.now.ends }
     ensures { result ≡ ended_reason stage.now.ends (pinned stage.now natural) (with_pins_reason stage.now.pin_result stage.now.pin_moment natural reason) }

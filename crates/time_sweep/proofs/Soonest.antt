@@ -1,4 +1,4 @@
--- A list that a stable sort made of the trials is that of the trials at each tick.
+-- A stable sort of the trials lists those of each tick in turn.
 use Rattle.std.proofs.Common.{◌≡◌, ◌≢◌, ◌+◌, ◌<◌, ◌≤◌, ℕ, zero, suc, inl, inr, List, [], ◌∷◌, ◌++◌, Bool, true, false, cond, Option, Some, None, refl, sym, ap, ◌∙◌, arith, tests}
 use Rattle.std.specs.Prelude.{All, IfSome, filter, filter_map, is_some, nat_lt, not, ◌&&◌, ◌==◌}
 use Rattle.std.specs.List.{cons_option}
@@ -49,7 +49,7 @@ same_ticks start (suc count) ones others same =
     ap (λ here. here ++ by_tick (start + 1) count ones) (same start (omega arith))
     ∙ ap (λ later. at_tick others start ++ later) (same_ticks (start + 1) count ones others (λ tick from. same tick (omega (arith, from))))
 
--- the soonest of a list that rises comes first
+-- the soonest of an ascending list comes first
 soonest_leads : (start count : ℕ) (first : Trial) (rest : List Trial) → start ≤ first.moment → first.moment < start + count → All (λ (trial : Trial). first.moment ≤ trial.moment) rest
     → by_tick start count (first ∷ rest) ≡ first ∷ by_tick start count rest
 soonest_leads start zero first rest from below rising = absurd (omega (arith, from, below))
@@ -113,7 +113,7 @@ trial_below graph target place (Some stage) =
     acting_below (is_some stage.action) (ticks_of (completion_of graph target)) (sooner_trial place (completion_of graph target) (completion_of (hurried graph stage) target))
     (sooner_below place (completion_of graph target) (completion_of (hurried graph stage) target))
 
--- what holds of all that is given holds of the list of it
+-- what holds of each input element holds of the sorted list
 all_with : {B : Type 0} (P : B → Type 0) (one : Option B) (rest : List B) → IfSome one P → All P rest → All P (cons_option one rest)
 all_with P None rest is all = all
 all_with P (Some one) rest is all = All-cons P one rest is all

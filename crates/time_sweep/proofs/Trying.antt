@@ -1,4 +1,4 @@
--- What the trials that were made give together.
+-- The result of the trials together.
 use Rattle.std.proofs.Common.{◌≡◌, ℕ, List, [], ◌∷◌, Option, Result, Ok, Err, refl, ap, ◌∙◌}
 use Rattle.std.specs.Prelude.{All, IfOk, IsOk, filter_map}
 use Rattle.std.specs.List.{AllZip, cons_option}
@@ -16,7 +16,7 @@ all_tried trial (place ∷ places) (Ok made ∷ rest) zip all =
     ∙ ap (cons_option (trial place)) (all_tried trial places rest zip.1 (All-tail (λ one. IsOk one) (Ok made) rest all))
 all_tried trial (place ∷ places) (Err error ∷ rest) zip all = let ok = All-head (λ one. IsOk one) (Err error) rest all in cc
 
--- what follows from two facts of a result that is there
+-- what follows from two facts about a result that is there
 pub both_ok : {T E : Type 0} (r : Result T E) (P Q R : T → Type 0) → ((x : T) → P x → Q x → R x) → IfOk r P → IfOk r Q → IfOk r R
 both_ok (Ok x) P Q R f p q = f x p q
 both_ok (Err e) P Q R f p q = tt

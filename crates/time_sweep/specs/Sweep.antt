@@ -28,7 +28,7 @@ abbrev pub sooner_trial : ℕ → Option Done → Option Done → Option Trial
 sooner_trial place (Some old) (Some new) = if nat_lt new.moment old.moment then Some (record { place = place; outcome = new.outcome; moment = new.moment }) else None
 sooner_trial place old new = None
 
--- what the target would come to if the action of a stage took no time, where it has one and the target would complete sooner
+-- the completion of the target if the action of a stage took no time, if it has one and the target would complete sooner
 abbrev pub trial_of : PlainGraph → ℕ → ℕ → Option Stage → Option Trial
 trial_of graph target place None = None
 trial_of graph target place (Some stage) =
@@ -61,7 +61,7 @@ ticks_of (Some done) = done.moment
 abbrev pub sweep : PlainGraph → ℕ → List Trial
 sweep graph target = by_tick 0 (ticks_of (completion_of graph target)) (trials graph target)
 
--- the same by what a sort is
+-- the same as the result of a sort
 pub record IsSweep (graph : PlainGraph) (target : ℕ) (found : List Trial) : Type 0 where
   pub permutation : IsPermutation (trials graph target) found
   pub ordered : IsNonDecreasingBy trial_moment found

@@ -1,4 +1,4 @@
--- What a trial gave.
+-- The result of a trial.
 use Rattle.std.specs.Prelude.{◌≡◌, ℕ, Option, None, Result, Ok, Err, IfOk}
 use Rattle.time_sweep.specs.declared.trial.Trial.{Trial}
 

@@ -1,4 +1,4 @@
-//! A version with one action that takes no time.
+//! A version in which one action takes no time.
 ghost use Rattle.std.specs.Prelude.{◌≡◌, IfOk, IsSome, Some};
 ghost use Rattle.stage_graph.specs.Plain.{IsLive, stage_at};
 ghost use Rattle.time_sweep.specs.Sweep.{completion_of, hurried, hurry};
@@ -11,7 +11,7 @@ use stage_ops::{Done, Meter};
 use std::alloc::{AllocError, Global};
 use version_store::{Draft, NoStage, Version};
 
-/// The marker of a trial's meter.
+/// The marker of the meter of a trial.
 #[derive(Drop)]
 struct OneTrial;
 

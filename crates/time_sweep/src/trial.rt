@@ -1,12 +1,12 @@
-//! What would come of a stage if another took no time.
+//! How a stage would complete if the action of another took no time.
 use act_expr::Outcome;
 
-/// What a stage would come to, and when, if the action of another took no time.
+/// How and when a stage would complete if the action of another took no time.
 #[derive(Clone, Copy, Debug, PartialEq, Eq)]
 pub struct Trial {
-    /// Where the other stage stands.
+    /// The place of the other stage.
     pub place: u32,
-    /// What the stage would hold.
+    /// The outcome that the stage would have.
     pub outcome: Outcome,
     /// The tick at which it would complete.
     pub moment: u64,

@@ -31,7 +31,7 @@ fn sooner_trial(place: u32, old: &Option<Done>, new: &Option<Done>) -> Option<Tr
     }
 }
 
-/// How a stage completes as it is; none while it is pending.
+/// How a stage completes in the version; none while it is pending.
 fn completion_of<R: StateRepresentation>(version: &Version<R>, target: u32) -> Option<Done>
     requires { IsLive version.now.graph.places target }
     ensures { result ≡ completion_of version.now.graph target }
@@ -42,7 +42,7 @@ fn completion_of<R: StateRepresentation>(version: &Version<R>, target: u32) -> O
     }
 }
 
-/// Whether a stage's action takes no time as it is.
+/// Whether a stage's action takes no time in the version.
 fn takes_no_time(stage: &Stage) -> bool
     ensures { IsTrue result ↔ ((stage.now.queued ≡ 0) × (stage.now.runs ≡ 0)) }
 {
@@ -74,7 +74,7 @@ fn trial_at<R: StateRepresentation, H: Threads + Sync>(
     Ok(sooner_trial(place, &old, &new))
 }
 
-/// The numbers of so many places.
+/// The numbers from 0 up to a count of places.
 fn places(alloc: Global, count: u32) -> Result<Vec<u32>, AllocError>
     ensures { IfOk result (λ places. places.items ≡ range_with_len 0 count) }
 {
@@ -120,7 +120,7 @@ fn made(one: &Result<Option<Trial>, AllocError>) -> Result<Option<Trial>, AllocE
     }
 }
 
-/// The trials that were found, where memory ran out for none.
+/// The trials that were found, if memory ran out for none of them.
 fn found_among(
     alloc: Global,
     tried: &[Result<Option<Trial>, AllocError>],

@@ -8,7 +8,7 @@ use Rattle.rank_order.specs.Marks.{AreMarks, is_marked}
 use Rattle.propagate.specs.Reach.{is_told}
 use Rattle.propagate.proofs.readers.mark_level.Given as goal
 
--- the marks from before, and what the places so far tell
+-- the marks from before, and the readers of the places so far that changed
 abbrev pub invariant-loop-at : goal.invariant-loop-at
 invariant-loop-at g l =
     let stages = l.graph.places in

@@ -6,7 +6,7 @@ use Rattle.propagate.specs.Reach.{has_read}
 use Rattle.propagate.proofs.Reading.{among_readers}
 use Rattle.propagate.proofs.readers.mark_readers.Given as goal
 
--- the marks from before, and the readers among the users so far
+-- the marks from before, and the readers among the dependents so far
 abbrev pub invariant-loop-user : goal.invariant-loop-user
 invariant-loop-user g l =
     let stages = l.graph.places in

@@ -2,7 +2,7 @@ use Rattle.std.proofs.Common.{◌≡◌, ◌≤◌, ◌+◌, ℕ, length, take, 
 use Rattle.rank_order.specs.Ranking.{feeds_left, AreRanksBut}
 use Rattle.rank_order.proofs.settle.patched_ranks.Given as goal
 
--- without the places that are still to be put back, the ranks are right but at the next of them
+-- without the places that are still to be put back, the ranks are right except at the next of them
 abbrev pub invariant-loop-turn : goal.invariant-loop-turn
 invariant-loop-turn g l =
     let ranks = slice_index (g.K.Keeps.items l.ranks) in

@@ -3,7 +3,7 @@ use Rattle.stage_ops.specs.States.{seen_at, state_at}
 use Rattle.stage_ops.specs.Reasons.{first_pending}
 use Rattle.stage_ops.proofs.reasons.first_pending.Given as goal
 
--- the first is among those that are left
+-- the first is among the remaining ones
 abbrev pub invariant-loop-place : goal.invariant-loop-place
 invariant-loop-place g l =
     first_pending (seen_at (state_at (g.L.Look.states l.look))) (drop l.place-index l.places) ≡ first_pending (seen_at (state_at (g.L.Look.states l.look))) l.places

@@ -11,7 +11,7 @@ use Rattle.time_sweep.proofs.trials.found_among.Goals.{in-Some+in_ok-push, in_de
 pub loop-one-init : goal.loop-one-init
 loop-one-init c = record { found = c.new-found.ensures.items; all = All-nil (λ one. IsOk one) }
 
--- one more is looked at
+-- one more place is tried
 more : {E : Type 0} (tried : List (Result (Option Trial) E)) (k : ℕ) (one : Result (Option Trial) E) (trial : Option Trial) → k < length tried → one ≡ get_or tried k one → one ≡ Ok trial
     → filter_map trial_in (take (k + 1) tried) ≡ filter_map trial_in (take k tried) ++ cons_option trial []
 more tried k one trial within at is =

@@ -2,7 +2,7 @@ use Rattle.std.proofs.Common.{◌≡◌, length, arith}
 use Rattle.propagate.proofs.Answered.{all_told}
 use Rattle.propagate.proofs.states.States.from_answers.Goals as goal
 
--- each place is told
+-- each place has an answer
 pub returns : goal.returns
 returns g c = λ step are.
     let stages = c.args.graph.now.places in

@@ -1,4 +1,4 @@
--- The states so far are those that the answers tell.
+-- The states so far are those of the answers.
 use Rattle.std.proofs.Common.{◌≡◌, ℕ, ◌<◌, length}
 use Rattle.stage_ops.specs.States.{state_at}
 use Rattle.scratch_eval.specs.Answers.{answer_at, state_of}

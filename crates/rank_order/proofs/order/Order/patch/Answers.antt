@@ -38,7 +38,7 @@ patched_ranks-requires-clause-moved g c κs inside =
     let longer : length c.deref-old.result.now.places ≤ length c.deref-new.result.now.places = rw (old_is, c.deref-new.ensures) c.requires.longer in
     rw (c.deref-2.ensures.value, c.in_ok-moved.ensures) (all_within c.deref-old.result.now.places c.deref-new.result.now.places longer c.as_slice.result.now)
 
--- a cycle that the code tells of begins at a stage that the list adds or rewires
+-- a cycle that the code returns begins at a stage that the list adds or rewires
 pub returns-in-Err-clause-fault : goal.returns-in-Err-clause-fault
 returns-in-Err-clause-fault g c =
     let among = rw (c.deref-2.ensures.value, c.in_ok-moved.ensures) at c.in-Err.ensures.fault in
