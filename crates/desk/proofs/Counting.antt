@@ -1,4 +1,4 @@
--- Where clients have numbers of their own, and keep as many calls as the log has entries, each entry is of just one client.
+-- If clients have different numbers, and keep as many calls as the log has entries, each entry is of exactly one client.
 use Rattle.std.proofs.Common.{◌≡◌, ◌≢◌, ℕ, zero, suc, ◌+◌, ◌<◌, ◌≤◌, ◌==◌, Bool, true, false, cond, List, [], ◌∷◌, length, get_or, refl, ap, sym, subst, ◌∙◌, arith, eq-eqb, true≢false}
 use Rattle.std.proofs.lemmas.Bool.Decides.{nat_tests}
 use Rattle.std.proofs.lemmas.List.Sums.{sum_by-cons}
@@ -80,7 +80,7 @@ most_one : (e : Entry) (clients : List ClientView) → HaveOwnNumbers clients �
 most_one e [] own = omega arith
 most_one e (c ∷ cs) own = omega (arith, hit e c cs, at_most e c cs own.0 (most_one e cs own.1) (e.who == c.number) refl)
 
--- each entry is of just one client
+-- each entry is of exactly one client
 pub each_of_one : (log : List Entry) (clients : List ClientView) → All (Agrees log) clients → HaveOwnNumbers clients → sum_by (λ c. length c.calls) clients ≡ length log → All (IsOfOne clients) log
 each_of_one log clients agree own counted =
     let same : All (λ (c : ClientView). length c.calls ≡ length (entries_of c.number log)) clients = λ k d low. ap length (agree k d low) in

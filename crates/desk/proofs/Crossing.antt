@@ -1,4 +1,4 @@
--- What may go to another thread, with a name and a representation that may.
+-- Which types may be sent to another thread, with a name and a representation that may be sent.
 use denote.RattleType.{RattleType}
 use denote.Param.Send.{IsSend, IsSync, sendable}
 use denote.Struct.Field.{u32-field}

@@ -1,4 +1,4 @@
--- What is under the lock stays so with each entry.
+-- What is guarded by the lock stays consistent with each entry.
 use Rattle.std.proofs.Common.{◌≡◌, ℕ, ◌+◌, ◌<◌, ◌≤◌, List, [], ◌∷◌, ◌++◌, length, take, Option, Some, None, IfSome, refl, ap, sym, subst, ◌∙◌, arith, length-append}
 use mathlib.Core.List.{IsPrefix}
 use Rattle.version_store.specs.Plain.{PlainVersion}
@@ -18,7 +18,7 @@ Replays-snoc : (s : State) (log : List Entry) (t : State) (e : Entry) (u : State
 Replays-snoc s [] t e u same step = (u, subst (λ (x : State). book x e.event ≡ Some (e.reply, u)) (sym same) step, refl)
 Replays-snoc s (x ∷ xs) t e u rest step = (rest.0, rest.1, Replays-snoc rest.0 xs t e u rest.2 step)
 
--- a list that goes on begins as it did
+-- a list that grows at its end keeps its elements
 first_stays : (xs ys : List PlainVersion) → IsPrefix xs ys → 0 < length xs → take 1 ys ≡ take 1 xs
 first_stays [] ys begins some = absurd (omega (arith, some))
 first_stays (x ∷ xs) [] begins some = absurd (cc (begins.1))
@@ -52,7 +52,7 @@ pub stays : (opening : State) (t u : TableView) (listed : List PlainVersion) (pu
 stays opening t u listed published counted then_counted who event reply locked books same counts =
     goes_on opening t u listed listed published published counted then_counted who event reply locked books (locked.listed_is ∙ sym same) (locked.published_is ∙ ap length (sym same)) counts
 
--- where nothing was booked
+-- where nothing was recorded
 pub same_locked : (opening : State) (t u : TableView) (listed : List PlainVersion) (published counted : ℕ) → IsLocked opening t listed published counted → u.state ≡ t.state → u.history ≡ t.history → IsLocked opening u listed published counted
 same_locked opening t u listed published counted locked state history = record {
   some = subst (λ (s : State). 0 < length s.versions) (sym state) locked.some;

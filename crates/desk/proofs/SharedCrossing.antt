@@ -1,4 +1,4 @@
--- What of the shared representation may go to another thread.
+-- Which parts of the shared representation may be sent to another thread.
 use denote.RattleType.{RattleType}
 use denote.Builtin.{u32}
 use denote.Param.Send.{IsSend, IsSync, sendable}

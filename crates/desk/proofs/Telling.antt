@@ -1,4 +1,4 @@
--- What one event of the machine does to the versions, and which version its reply names.
+-- How one event of the machine changes the versions, and which version its reply names.
 use Rattle.std.proofs.Common.{◌≡◌, ◌≢◌, ℕ, ◌+◌, ◌<◌, ◌≤◌, ◌==◌, ◌^◌, Bool, true, false, not, ◌&&◌, nat_le, nat_lt, ◌⊎◌, inl, inr, if◌then◌else◌, List, [], ◌∷◌, ◌++◌, length, Option, Some, None, IfSome, is_some, slice_get, Ok, Err, refl, ap, sym, subst, ◌∙◌, arith, true≢false, eq-eqb, length-append}
 use Rattle.std.proofs.lemmas.Bool.Decides.{nat_tests}
 use Rattle.std.specs.Prelude.{Result, All}
@@ -19,7 +19,7 @@ use Rattle.desk.specs.Clients.{head_in, named}
 use Rattle.desk.specs.Committing.{RefusesCommit}
 use Rattle.desk.proofs.Fronts.{prefix_self}
 
--- the versions stay, but for what is added, and the reply names one of them
+-- the versions stay, except for an added one, and the reply names one of them
 pub record Tells (s : State) (reply : Reply) (t : State) : Type 0 where
   pub grows : IsPrefix s.versions t.versions
   pub most : t.most ≡ s.most

@@ -1,4 +1,4 @@
--- The rule of the archive, and what a step on it tells.
+-- The rule of the archive, and the result of a step on it.
 use Rattle.std.specs.Prelude.{ℕ, ◌≡◌, ◌==◌, true, List, [], ◌∷◌, ◌++◌, length, MatchBool}
 use Rattle.logbook.specs.Pages.{Cell, Step, View, Book, Named}
 use Rattle.version_store.specs.Plain.{PlainVersion}

@@ -10,7 +10,7 @@ use Rattle.session_core.specs.declared.event.Reply.TheVariants.{Opened, At, Comm
 use Rattle.session_core.specs.declared.refusal.Refusal.{Refusal}
 use Rattle.session_core.specs.declared.refusal.Refusal.TheVariants.{Moved}
 
--- a client's number, its calls of the table with their replies, how many more there is room for, and the published versions that it has seen
+-- a client's number, its calls of the table with their replies, the capacity for more calls, and the published versions that it has seen
 pub record ClientView : Type 0 where
   pub number : ℕ
   pub calls : List Entry
@@ -33,7 +33,7 @@ Keeps c event reply d = (d.number ≡ c.number) × (d.calls ≡ c.calls ++ entry
 abbrev pub KeepsCall : ClientView → Event → Option Reply → ClientView → Type 0
 KeepsCall c event reply d = MatchOption reply (IsSameClient c d) (λ r. Keeps c event r d)
 
--- what was seen before is the beginning of what is seen now
+-- what was seen before is a prefix of what is seen now
 abbrev pub SeesOn : ClientView → ClientView → Type 0
 SeesOn c d = IsPrefix c.seen d.seen
 
@@ -68,6 +68,6 @@ IsSeen c version = slice_get c.seen version.number ≡ Some version
 abbrev pub IsNew : ℕ → List PlainVersion → ClientView → Type 0
 IsNew number seen c = (c.number ≡ number) × (c.calls ≡ []) × (c.seen ≡ seen)
 
--- so many clients, with the numbers from 1 on
+-- this many clients, with the numbers from 1 on
 abbrev pub AreNew : List PlainVersion → ℕ → List ClientView → Type 0
 AreNew seen count clients = (length clients ≡ count) × ((i : ℕ) → i < count → IsSomeAnd (slice_get clients i) (IsNew (i + 1) seen))

@@ -1,4 +1,4 @@
--- What a closed desk leaves.
+-- The result of closing a desk.
 use Rattle.std.specs.Prelude.{◌≡◌, ◌≢◌, ◌⊎◌, ◌==◌, ℕ, List, [], ◌∷◌, All, length}
 use Rattle.std.specs.List.{sum_by, count_by}
 use mathlib.Core.List.{IsPrefix}
@@ -17,17 +17,17 @@ abbrev pub HaveOwnNumbers : List ClientView → Type 0
 HaveOwnNumbers [] = Unit {0}
 HaveOwnNumbers (c ∷ cs) = All (λ d. d.number ≢ c.number) cs × HaveOwnNumbers cs
 
--- of these versions and what the client has seen, one begins the other
+-- of these versions and what the client has seen, one is a prefix of the other
 pub record GoesWith (versions : List PlainVersion) (c : ClientView) : Type 0 where
   pub one_begins : IsPrefix c.seen versions ⊎ IsPrefix versions c.seen
 
--- the entry is of just one of the clients
+-- the entry is of exactly one of the clients
 abbrev pub IsOfOne : List ClientView → Entry → Type 0
 IsOfOne clients e = count_by (λ c. e.who == c.number) clients ≡ 1
 
 -- The log is legal and has no entry of a foreign draft. Each client's calls are what the log has of it, each entry is of
--- just one client, and the calls are as many as the entries: so each entry is kept once. What each client has seen of
--- the versions goes with the log's
+-- exactly one client, and the calls are as many as the entries: so each entry is kept once. What each client has seen of
+-- the versions agrees with the log's
 pub record IsClosed (log : TableView) (clients : List ClientView) : Type 0 where
   pub replayed : IsReplayed log.history log.state
   pub agree : All (Agrees log.history) clients

@@ -1,4 +1,4 @@
--- What a commit under the lock rests on, and how it fails.
+-- The conditions of a commit under the lock, and its refusals.
 use Rattle.std.specs.Prelude.{◌≡◌, ◌≢◌, ◌⊎◌, ℕ, IsSomeAnd, slice_get}
 use Rattle.version_store.specs.Plain.{Origin, PlainVersion}
 use Rattle.session_core.specs.declared.refusal.Refusal.TheVariants.{NoSession, NoVersion, Moved, Full}
@@ -15,7 +15,7 @@ IsSeenOrigin c origin = IsSomeAnd (slice_get c.seen origin.number) (λ version. 
 abbrev pub RefusesCommit : ℕ → Refusal → Type 0
 RefusesCommit base refusal = (refusal ≡ NoSession) ⊎ (refusal ≡ NoVersion) ⊎ ((head : ℕ) × (refusal ≡ Moved head) × (head ≢ base)) ⊎ (refusal ≡ Full)
 
--- the table refuses it, or memory was wanting
+-- the table refuses it, or memory ran out
 abbrev pub RefusesToCommit : ℕ → TableFault → Type 0
 RefusesToCommit base (Refused refusal) = RefusesCommit base refusal
 RefusesToCommit base Memory = Unit {0}

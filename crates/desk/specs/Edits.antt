@@ -1,4 +1,4 @@
--- What an edit answers, and what it leaves with its client.
+-- The result of an edit, and what its client keeps of it.
 use Rattle.std.specs.Prelude.{◌≡◌, ◌≤◌, ◌≢◌, ℕ, List, length, Some, IsSomeAnd, slice_get, Result, Ok, Err}
 use Rattle.stage_graph.specs.declared.edit.Edit.{Edit}
 use Rattle.version_store.specs.Plain.{PlainVersion}
@@ -19,7 +19,7 @@ pub record IsEditOf (base : PlainVersion) (edits : List Edit) (version : PlainVe
 
 -- made: the edit of the base, whose commit the client keeps, and which it has seen under its number.
 -- A refusal of the table is kept as the commit's reply. Any other fault leaves the calls as they were:
--- no such version has been seen, the version of that number has another graph, the edits are refused, or memory is wanting
+-- no such version has been seen, the version of that number has another graph, the edits are refused, or memory ran out
 abbrev pub Edits : ClientView → ℕ → PlainVersion → List Edit → Result PlainVersion EditFault → ClientView → Type 0
 Edits c session base edits (Ok made) d =
     Keeps c (Commit session base.number edits) (Committed made.number) d × IsSeen d made × IsEditOf base edits made
@@ -31,7 +31,7 @@ Edits c session base edits (Err (fault.Foreign number)) d =
     IsSameClient c d × (number ≡ base.number) × IsSomeAnd (slice_get d.seen base.number) (λ known. known.graph ≢ base.graph)
 Edits c session base edits (Err fault.Memory) d = IsSameClient c d
 
--- the fault is no answer about the base
+-- the fault is not a refusal of the base
 abbrev pub IsOfKnown : EditFault → Type 0
 IsOfKnown fault.NoVersion = ⊥
 IsOfKnown (fault.Foreign number) = ⊥

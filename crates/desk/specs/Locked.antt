@@ -1,4 +1,4 @@
--- What lies under the lock.
+-- What the lock guards.
 use Rattle.std.specs.Prelude.{◌≡◌, ◌<◌, ℕ, List, [], ◌∷◌, length, Some}
 use Rattle.version_store.specs.Plain.{PlainVersion}
 use Rattle.session_core.specs.Log.{opening_of}

@@ -1,4 +1,4 @@
--- What the next publication shows.
+-- The number that the next publication shows.
 use Rattle.std.specs.Prelude.{◌≡◌, ℕ, List, fold}
 
 -- whatever is shown now, once what is pending is applied this number is shown: the last one that was appended

@@ -18,7 +18,7 @@ use std::marker::Model;
 use std::sync::ledger::Share;
 use version_store::{StateRepresentation, Version};
 
-/// One of the desk's clients: all that it asked of the table and was answered, and what it has seen of the versions.
+/// One of the desk's clients: its calls of the table with the replies, and the versions that it has seen.
 #[derive(Drop)]
 pub struct Client<N: Naming, R: StateRepresentation> {
     pub(crate) number: u32,
@@ -59,8 +59,8 @@ impl<N: Naming, R: StateRepresentation> Client<N, R> {
         self.front.len()
     }
 
-    /// The version with this number, by the client's own reader: no lock is taken, and it waits for nobody. Refused by
-    /// 52 where no version of that number has been seen, all those that are published just then among them.
+    /// The version with this number, by the client's own reader: takes no lock, and waits for nobody. Refused by
+    /// 52 where no version of that number has been seen; everything published by now has been seen.
     pub fn version(&mut self, number: u32) -> Result<Known<N, R>, ReadFault>
         ensures found { IfOk result (λ version. (version.number ≡ number) × IsSeen self.new version) }
         ensures none { result ≡ Err NoVersion → length self.new.seen ≤ number }
@@ -74,8 +74,8 @@ impl<N: Naming, R: StateRepresentation> Client<N, R> {
         }
     }
 
-    /// The desk's version of the number of a version that may come from elsewhere, if both have one graph, which takes
-    /// time in proportion to its places. Refused by 52 as `version`, and by 56 where the graphs differ.
+    /// The desk's version with the number of a version that may be of another desk, if both have the same graph; the
+    /// comparison takes time linear in its places. Refused by 52 as `version`, and by 56 where the graphs differ.
     pub fn recognize(&mut self, version: &Version<R>) -> Result<Known<N, R>, EditFault>
         ensures recognizes { Recognizes version.now result self.new }
         ensures later { SeesOn self.old self.new }
@@ -103,7 +103,7 @@ impl<N: Naming, R: StateRepresentation> Client<N, R> {
         known.show(&mut self.front);
     }
 
-    /// Room for one more call.
+    /// Reserves capacity for one more call.
     pub(crate) fn make_room(&mut self) -> Result<(), AllocError>
         ensures room { OnOk result (0 < self.new.room) }
         ensures calls { IsSameClient self.old self.new }
@@ -112,7 +112,7 @@ impl<N: Naming, R: StateRepresentation> Client<N, R> {
         self.calls.reserve(1)
     }
 
-    /// Whether what the client has seen begins with what is in front, or the other way round.
+    /// Whether the versions that the client has seen are a prefix of the front, or the front is a prefix of them.
     pub(crate) fn goes_with(&self, front: &Front<N, R>) -> bool
         ensures { IsTrue result ↔ GoesWith front.now self.now }
     {
@@ -120,7 +120,7 @@ impl<N: Naming, R: StateRepresentation> Client<N, R> {
         longer.len() >= self.front.len()
     }
 
-    /// Whether the calls are what the log has of this client.
+    /// Whether the calls are the log's entries of this client.
     pub(crate) fn agrees(&self, log: &[Entry]) -> bool
         ensures { IsTrue result ↔ (self.now.calls ≡ entries_of self.now.number log.now) }
     {

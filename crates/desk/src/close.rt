@@ -1,4 +1,4 @@
-//! What is compared where a desk is closed.
+//! What is compared when a desk is closed.
 ghost use Rattle.std.specs.Prelude.{◌≡◌, ◌↔◌, All, IsTrue, length};
 ghost use Rattle.desk.specs.Locked.{IsReplayed};
 ghost use Rattle.desk.specs.Closing.{Agrees, GoesWith, HaveOwnNumbers};
@@ -10,7 +10,7 @@ use session_core::{Entry, Table};
 use std::marker::Model;
 use version_store::StateRepresentation;
 
-/// The entries of a desk that is closed, in order.
+/// The entries of a closed desk, in order.
 #[derive(Drop)]
 pub struct Log<R: StateRepresentation> {
     table: Table<R>,
@@ -64,7 +64,7 @@ pub(crate) fn have_own_numbers<N: Naming, R: StateRepresentation>(clients: &[Cli
     others.iter().all(|other| other.number() != number) && have_own_numbers(others)
 }
 
-/// Whether what each client has seen goes with what is in front. It always does, by what is known of fronts.
+/// Whether each client's versions agree with this front, as far as both go. Always true, by the invariant of fronts.
 pub(crate) fn go_with<N: Naming, R: StateRepresentation>(
     clients: &[Client<N, R>],
     front: &Front<N, R>,

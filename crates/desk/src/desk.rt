@@ -1,4 +1,4 @@
-//! A table that clients share.
+//! A table that several clients share.
 ghost use Rattle.std.specs.Prelude.{◌≡◌, ◌<◌, OnOk, IfOk, IfErr, vec_len};
 ghost use Rattle.session_core.specs.Applied.{IsDrafted};
 ghost use Rattle.session_core.specs.Log.{opening_of};
@@ -82,7 +82,7 @@ impl<N: Naming, R: StateRepresentation, W: Wait + Drop> Desk<N, R, W> {
         self.shared.lock(rt).head(client, session)
     }
 
-    /// The session stands at the version before again, whose number is answered.
+    /// Takes the session back to the version before, whose number is returned.
     pub fn undo<X: Wait>(
         &self,
         rt: &X,
@@ -112,7 +112,7 @@ impl<N: Naming, R: StateRepresentation, W: Wait + Drop> Desk<N, R, W> {
         self.shared.lock(rt).close(client, session)
     }
 
-    /// Edits a version of the desk, and commits what comes of it. The edits are drafted under no lock, and no graphs are
+    /// Edits a version of the desk, and commits the result. The edits are drafted without the lock, and no graphs are
     /// compared.
     pub fn edit_known<X: Wait, Y: Runner>(
         &self,
@@ -136,7 +136,7 @@ impl<N: Naming, R: StateRepresentation, W: Wait + Drop> Desk<N, R, W> {
         self.commit_draft(rt, client, session, base, &draft, edits.again()?)
     }
 
-    /// Commits what edits of a version of the desk have come to, under the lock.
+    /// Commits the result of editing a version of the desk, under the lock.
     fn commit_draft<X: Wait>(
         &self,
         rt: &X,
@@ -164,8 +164,8 @@ impl<N: Naming, R: StateRepresentation, W: Wait + Drop> Desk<N, R, W> {
         }
     }
 
-    /// Edits a version that may come from elsewhere: refused by 52 where no version of its number has been seen, and by
-    /// 56 where the one that has been has another graph. To tell takes time in proportion to the graph's places, which
+    /// Edits a version that may be of another desk: refused by 52 where no version of its number has been seen, and by
+    /// 56 where the one that has been seen has another graph. The comparison takes time linear in the graph's places, which
     /// [`Desk::edit_known`] saves.
     pub fn edit<X: Wait, Y: Runner>(
         &self,
@@ -184,7 +184,7 @@ impl<N: Naming, R: StateRepresentation, W: Wait + Drop> Desk<N, R, W> {
         self.edit_known(rt, alloc, client, session, &base, edits, runner)
     }
 
-    /// Ends the desk, once each client that was started is back.
+    /// Ends the desk, once each client that was started has been given back.
     pub fn close(
         self,
         clients: Vec<Client<N, R>>,

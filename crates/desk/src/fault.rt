@@ -1,4 +1,4 @@
-//! Why a desk gives nothing.
+//! Why a call of a desk fails.
 ghost use Rattle.std.specs.Prelude.{◌≡◌};
 ghost use Rattle.desk.specs.Faults.{close_number, edit_number, read_number};
 
@@ -6,7 +6,7 @@ use session_core::Refusal;
 use std::alloc::AllocError;
 use thiserror::Error;
 
-/// Why a version is not read.
+/// Why a version cannot be read.
 #[derive(Clone, Copy, PartialEq, Eq, Debug, Error)]
 pub enum ReadFault {
     #[error("no version of that number is published")]
@@ -64,7 +64,7 @@ impl EditFault {
 /// Why a desk stays open.
 #[derive(Clone, Copy, PartialEq, Eq, Debug, Error)]
 pub enum CloseFault {
-    /// A client that was started is not there.
+    /// A client that was started is missing.
     #[error("a client is missing")]
     Missing,
     /// Clients or their calls disagree with the history.

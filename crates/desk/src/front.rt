@@ -1,4 +1,4 @@
-//! What is known of the list of versions, in any thread: a beginning of it.
+//! What any thread knows of the list of versions: a prefix of it.
 ghost use Rattle.std.specs.Prelude.{◌≡◌, ◌==◌, ◌+◌, ◌<◌, ◌≤◌, ◌^◌, ◌++◌, ◌∷◌, ◌⊎◌, [], length, MatchBool};
 ghost use mathlib.Core.List.{IsPrefix};
 ghost use Rattle.desk.specs.Archive.{head_of};
@@ -63,7 +63,7 @@ pub(crate) struct Archive<N: Naming, R: StateRepresentation> {
     ghost head_is: { head ≡ head_of N.book },
 }
 
-/// A beginning of a desk's list of versions that was seen. It takes no memory to copy.
+/// The prefix of a desk's list of versions that was seen. Copying it allocates nothing.
 #[derive(Drop)]
 pub(crate) struct Front<N: Naming, R: StateRepresentation> {
     count: u64,
@@ -143,7 +143,7 @@ impl<N: Naming, R: StateRepresentation> Front<N, R> {
         }
     }
 
-    /// The longer of two fronts, which the other begins.
+    /// The longer of two fronts, of which the other is a prefix.
     pub(crate) fn longer(&self, other: &Front<N, R>) -> Front<N, R>
         ensures one { (result ≡ self.now) ⊎ (result ≡ other.now) }
         ensures this { IsPrefix self.now result }
@@ -158,7 +158,7 @@ impl<N: Naming, R: StateRepresentation> Front<N, R> {
         }
     }
 
-    /// Adds a version to all that was seen, and says whether it did. It did not where the list is longer.
+    /// Adds a version after all that was seen, and says whether it did. It did not if the list is longer.
     pub(crate) fn add(&mut self, archive: &Archive<N, R>, version: &Version<R>) -> bool
         requires { length self.old < 2 ^ 62 }
         ensures { MatchBool result (self.new ≡ self.old ++ version.now ∷ []) (length self.old < length self.new) }

@@ -43,7 +43,7 @@ impl<N: Naming, R: StateRepresentation> Known<N, R> {
         }
     }
 
-    /// The version once more. Want of memory is the only refusal.
+    /// A clone of the version. Out of memory is the only error.
     pub fn again(&self) -> Result<Known<N, R>, AllocError>
         ensures { IfOk result (λ same. same ≡ self.now) }
     {
@@ -53,7 +53,7 @@ impl<N: Naming, R: StateRepresentation> Known<N, R> {
         })
     }
 
-    /// The front goes on to where the version stands in it.
+    /// Extends the front up to where the version stands.
     pub(crate) fn show(&self, front: &mut Front<N, R>)
         ensures seen { slice_get front.new self.now.number ≡ Some self.now }
         ensures later { IsPrefix front.old front.new }

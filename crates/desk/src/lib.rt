@@ -1,4 +1,4 @@
-//! A table that the clients of several threads share.
+//! A table that several clients in several threads share.
 #![tactic(auto)]
 
 mod client;

@@ -1,10 +1,10 @@
-//! Which desk it is.
+//! The identity of a desk.
 ghost use Rattle.std.specs.Prelude.{ℕ};
 
 use std::marker::Brand;
 use std::sync::ledger::Ledger;
 
-/// Which desk it is. Whoever starts a desk picks it.
+/// The identity of a desk. Whoever starts a desk picks it.
 pub trait Naming: Ledger {
     /// How many clients it has.
     ghost clients: { ℕ };

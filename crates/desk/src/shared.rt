@@ -1,4 +1,4 @@
-//! What lies under the lock.
+//! What the lock guards.
 ghost use Rattle.std.specs.Prelude.{◌≡◌, ◌+◌, ◌<◌, length, IfOk, IfErr, OnOk};
 ghost use Rattle.std.specs.List.{sum_by};
 ghost use mathlib.Core.List.{IsPrefix};
@@ -55,7 +55,7 @@ impl<N: Naming, R: StateRepresentation, W: Wait + Drop> Model for Shared<N, R, W
     ghost invariant = { λ s. IsLocked N.opening s.table s.front (shown s.published).0 s.entries.total × (s.rest.parts ≡ 0) × (s.rest.amount ≡ 0) };
 }
 
-/// The client keeps the call, counts it, and learns what is in front.
+/// The client keeps the call, counts it, and learns the versions of the front.
 fn keep<N: Naming, R: StateRepresentation>(
     entries: &mut Book<N>,
     front: &Front<N, R>,
@@ -175,8 +175,8 @@ impl<N: Naming, R: StateRepresentation, W: Wait + Drop> Shared<N, R, W> {
         answer
     }
 
-    /// Commits the draft, and publishes the version between the table's `prepare` and `finish`. What may be refused for
-    /// want of memory comes first; from the publication on nothing is.
+    /// Commits the draft, and publishes the version between the table's `prepare` and `finish`. All that may run out of
+    /// memory comes first; from the publication on nothing can fail.
     pub(crate) fn commit<X: Wait>(
         &mut self,
         rt: &X,
@@ -236,7 +236,7 @@ impl<N: Naming, R: StateRepresentation, W: Wait + Drop> Shared<N, R, W> {
     }
 }
 
-/// All that may be refused of a publication, and the version twice. Readers find nothing of it yet.
+/// All of a publication that can fail, and the version twice. Readers see nothing of it yet.
 fn make_room<N: Naming, R: StateRepresentation, W: Wait + Drop>(
     shelf: &Shelf<N, R>,
     published: &mut WriteHandle<Count, u64, W>,

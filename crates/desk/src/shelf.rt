@@ -1,4 +1,4 @@
-//! Where readers find the published versions, with no lock.
+//! Where readers find the published versions, without a lock.
 ghost use Rattle.std.specs.Prelude.{◌≡◌, Some, IfSome, IfOk, OnOk, slice_get};
 ghost use Rattle.left_right.specs.Handles.{published as shown, pending};
 ghost use Rattle.desk.specs.Publishing.{WillShow};
@@ -41,7 +41,7 @@ impl<N: Naming, R: StateRepresentation> Keeps<Known<N, R>> for ByNumber {
     ghost holds = { λ _ index known. known.number ≡ index };
 }
 
-/// Versions by their numbers, each put once. Threads share it.
+/// Versions by their numbers, each set once. Threads share it.
 pub(crate) type Shelf<N, R> = Slots<Known<N, R>, ByNumber, Global>;
 
 /// A shelf with the first version.
@@ -59,7 +59,7 @@ pub(crate) fn first_shelf<N: Naming, R: StateRepresentation, X: Wait>(
     }
 }
 
-/// Puts the version on the shelf, where room for it was made. It takes no memory.
+/// Puts the version on the shelf, where a slot was reserved for it. Allocates nothing.
 pub(crate) fn put<N: Naming, R: StateRepresentation, X: Wait>(
     rt: &X,
     shelf: &Shelf<N, R>,
@@ -69,7 +69,7 @@ pub(crate) fn put<N: Naming, R: StateRepresentation, X: Wait>(
     let _ = shelf.set_placed(rt, number, known);
 }
 
-/// The number that the next publication is to show. Where memory is refused nothing is appended.
+/// The number that the next publication shows. If out of memory, nothing is appended.
 pub(crate) fn append<W: Wait + Drop>(
     published: &mut WriteHandle<Count, u64, W>,
     count: u64,
@@ -83,7 +83,7 @@ pub(crate) fn append<W: Wait + Drop>(
     }
 }
 
-/// Shows readers the number that was appended last, in one step. It takes no memory.
+/// Shows readers the number that was appended last, in one step. Allocates nothing.
 pub(crate) fn show<W: Wait + Drop>(published: &mut WriteHandle<Count, u64, W>, count: u64)
     requires { WillShow (pending published.old) count }
     ensures { (shown published.new).0 ≡ count }
@@ -99,7 +99,7 @@ pub(crate) struct Reader<N: Naming, R: StateRepresentation> {
 }
 
 impl<N: Naming, R: StateRepresentation> Reader<N, R> {
-    /// The front goes on to all that is published. Then the version of that number, if it is among what has been seen.
+    /// Extends the front to all that is published. Then the version of that number, if it is among what has been seen.
     pub(crate) fn find(
         &mut self,
         number: u32,
@@ -128,7 +128,7 @@ impl<N: Naming, R: StateRepresentation> Reader<N, R> {
         Some(count.0)
     }
 
-    /// The front goes on to so many versions.
+    /// Extends the front to this many versions.
     fn learn(&self, published: u64, front: &mut Front<N, R>)
         ensures { IsPrefix front.old front.new }
     {

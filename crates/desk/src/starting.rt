@@ -1,4 +1,4 @@
-//! How a desk starts.
+//! Starting a desk.
 ghost use Rattle.std.specs.Prelude.{◌≡◌, ◌≤◌, ◌^◌, [], ◌∷◌, Some, IfOk, OnOk, slice_get};
 ghost use Rattle.version_store.specs.Plain.{opening_version};
 ghost use Rattle.session_core.specs.Machine.{opening};
@@ -19,7 +19,7 @@ use std::sync::ledger::{Blank, Share};
 use std::sync::{Arc, Wait};
 use version_store::{StateRepresentation, Version};
 
-/// Starts a desk with a first version, and its clients with the numbers from 1 on. A refusal hands nothing back.
+/// Starts a desk with a first version, and its clients with the numbers from 1 on. On an error nothing is returned.
 pub fn start<N: Naming, R: StateRepresentation, W: Wait + Drop>(
     rt: W,
     alloc: Global,
@@ -58,7 +58,7 @@ pub fn start<N: Naming, R: StateRepresentation, W: Wait + Drop>(
     Ok((Desk::new(archive, shared, clients as usize), started))
 }
 
-/// So many clients, each with a part of the share.
+/// This many clients, each with a part of the share.
 fn make_clients<N: Naming, R: StateRepresentation, W: Wait + Drop>(
     alloc: Global,
     rest: &mut Share<N>,

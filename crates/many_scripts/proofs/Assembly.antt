@@ -1,4 +1,4 @@
--- The output, put together from the log and from what each client has done.
+-- The output, assembled from the log and from the results of the clients.
 use Rattle.std.proofs.Common.{◌≡◌, ℕ, zero, suc, ◌+◌, ◌<◌, ◌≤◌, ◌⊎◌, inl, inr, List, [], ◌∷◌, ◌++◌, ◌-◌, ◌^◌, length, map, slice_index_or, refl, sym, ap, ◌∙◌, subst, arith, ◌≢◌, Option, Result, Ok, Err, IsSomeAnd, IsOkAnd, IfOk, IfErr, MatchResult, slice_get, Contains}
 use Rattle.std.specs.List.{All, AllZip, flat_map, sum_by, zip}
 use Rattle.std.proofs.lemmas.List.Elements.{All-cons, All-head, All-nil, All-tail, All-weaker}
@@ -40,7 +40,7 @@ all_unmap : {X Y : Type 0} (f : Y → X) (P : X → Type 0) (ys : List Y) → Al
 all_unmap f P [] all = All-nil (λ y. P (f y))
 all_unmap f P (y ∷ ys) all = All-cons (λ z. P (f z)) y ys (All-head P (f y) (map f ys) all) (all_unmap f P ys (All-tail P (f y) (map f ys) all))
 
--- what holds of each client or script holds of each seat's
+-- what holds of each client or script holds of those of each seat
 pub all_seated : {S C R : Type 0} (seats : List S) (client : S → C) (script : S → R) (clients : List C) (scripts : List R) (P : C → Type 0) → AreSeats seats client script clients scripts → All P clients → All (λ s. P (client s)) seats
 all_seated seats client script clients scripts P are all = all_unmap client P seats (subst (All P) (sym are.clients_are) all)
 
@@ -83,7 +83,7 @@ all_ready (s ∷ ss) client script failures heard new reads = All-cons (λ t. Is
     (all_ready ss client script failures (All-tail (λ t. HasHeard (client t)) s ss heard) (All-tail (λ t. (client t).calls ≡ []) s ss new) (All-tail (λ t. failures (script t) < 2 ^ 64 - 1) s ss reads))
 
 module _ {S P R : Type 0} (seated : S → ClientView) (script : S → R) (client : P → ClientView) (text : P → List ℕ) (remaining : R → Option (List ℕ)) (failures : R → ℕ) where
-  -- what came of a seat
+  -- the result of a seat
   abbrev pub CameOf : S → Result P ManyFault → Type 0
   CameOf seat play = MatchResult play (λ done. IsPlay remaining failures (seated seat) (script seat) (client done) (text done)) (EndsReading remaining failures (script seat))
 
@@ -186,7 +186,7 @@ module _ {S P R : Type 0} (seated : S → ClientView) (script : S → R) (client
         };
       }
 
--- what came of the seats, said of the clients before and after
+-- the results of the seats, in terms of the clients before and after
 module _ {S P R : Type 0} (seated : S → ClientView) (script : S → R) (client : P → ClientView) (text : P → List ℕ) (remaining : R → Option (List ℕ)) (failures : R → ℕ) where
   of_seats : (seats : List S) (done : List P) → AllZip (CameOf seated script client text remaining failures) seats (map Ok done)
       → AllZip (λ (seat : ClientView × R) (play : ClientView × List ℕ). IsPlay remaining failures seat.0 seat.1 play.0 play.1) (zip (map seated seats) (map script seats)) (map (λ d. (client d, text d)) done)
@@ -279,7 +279,7 @@ module _ {S T R : Type 0} (client : S → ClientView) (script : S → R) (text :
   came seat c (Ok t) is = is
   came seat c (Err fault) is = is
 
-  -- what came of each seat, with its client
+  -- the result of each seat, with its client
   each_came : (seats ended : List S) → AllZip (λ before after. MatchResult (text after) (λ t. IsPlay remaining failures (client before) (script before) (client after) (items t)) (EndsReading remaining failures (script before))) seats ended
       → AllZip (CameOf client script (λ (played : ClientView × T). played.0) (λ played. items played.1) remaining failures) seats (map (λ seat. with_client (client seat) (text seat)) ended)
   each_came [] [] is = tt

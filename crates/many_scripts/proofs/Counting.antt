@@ -1,4 +1,4 @@
--- Each entry of a log is of one of the clients, if the calls of these are as many as the entries.
+-- Each entry of a log is of one of the clients, if these have as many calls as there are entries.
 use Rattle.std.proofs.Common.{◌≡◌, ℕ, ◌+◌, ◌<◌, ◌≤◌, ◌⊎◌, inl, inr, Bool, true, false, cond, ◌==◌, List, [], ◌∷◌, length, refl, arith}
 use Rattle.std.specs.List.{All}
 use Rattle.std.proofs.lemmas.Bool.Decides.{nat_tests}

@@ -1,4 +1,4 @@
--- What a seat may take to another thread.
+-- Which parts of a seat may be sent to another thread.
 use denote.RattleType.{RattleType}
 use denote.Ref.{NamedLft}
 use denote.Param.Send.{IsSend, IsSync, sendable}

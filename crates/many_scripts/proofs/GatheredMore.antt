@@ -1,4 +1,4 @@
--- What the clients have done, gathered.
+-- The clients' results, gathered one by one.
 use Rattle.std.proofs.Common.{◌≡◌, ℕ, zero, suc, ◌<◌, ◌⊎◌, inl, inr, List, [], ◌∷◌, ◌++◌, append-nil, length, slice_index_or, arith, refl, map, sym, ap, ◌∙◌, subst, Result, Ok, Err, Contains, IfOk, IfErr, IsOkAnd, MatchResult}
 use Rattle.std.specs.List.{AllZip, flat_map}
 use Rattle.std.proofs.lemmas.List.{map-append}
@@ -36,7 +36,7 @@ contains_between [] x ys = (0, omega arith, refl)
 contains_between (y ∷ xs) x ys = let (k, below, at) = contains_between xs x ys in (suc k, omega (arith, below), at)
 
 module _ {S C T E : Type 0} (client : S → C) (text : S → Result T E) (items : T → List ℕ) where
-  -- the clients and texts with those of one seat more
+  -- the clients and texts with those of one more seat
   pub seat_more : (seats : List S) (seat : S) (told : T) (clients next : List C) (output more : List ℕ)
       → AreGathered (map (λ s. with_client (client s) (text s)) seats) (λ (played : C × T). played.0) (λ played. items played.1) clients output
       → text seat ≡ Ok told → next ≡ clients ++ client seat ∷ [] → more ≡ output ++ items told
@@ -66,7 +66,7 @@ module _ {S C T E : Type 0} (client : S → C) (text : S → Result T E) (items 
   seats_done all yielded (s ∷ rest) clients output are none gathered = absurd (omega (arith, none))
 
 module _ {S C T E W : Type 0} (client : S → C) (text : S → Result T E) (items : T → List ℕ) (clients : W → List C) (texts : W → List ℕ) (memory : E) where
-  -- what the seats so far have come to
+  -- the result of the seats so far
   abbrev pub SoFar : List S → Result W E → Type 0
   SoFar seats gathered = MatchResult gathered
       (λ ended. AreGathered (map (λ s. with_client (client s) (text s)) seats) (λ (played : C × T). played.0) (λ played. items played.1) (clients ended) (texts ended))
@@ -88,7 +88,7 @@ module _ {S C T E W : Type 0} (client : S → C) (text : S → Result T E) (item
       inr (subst (λ l. Contains l (Err fault)) (sym (map-append (λ s. with_client (client s) (text s)) seats (seat ∷ [])))
       (contains_more (map (λ s. with_client (client s) (text s)) seats) (with_client (client seat) (text seat) ∷ []) (Err fault) there))
 
-  -- one seat more
+  -- one more seat
   pub one_more : (seats : List S) (seat : S) (before after : Result W E) → SoFar seats before
       → IfOk after (λ a. IsOkAnd before (λ b. (clients a ≡ clients b ++ client seat ∷ []) × IsOkAnd (text seat) (λ t. texts a ≡ texts b ++ items t)))
       → IfErr after (λ fault. (fault ≡ memory) ⊎ ((before ≡ Err fault) ⊎ (text seat ≡ Err fault)))

@@ -1,4 +1,4 @@
--- What a client has heard of, and how its answers are put together.
+-- Which versions a client knows of, and how its answers are assembled.
 use Rattle.std.proofs.Common.{◌≡◌, ℕ, ◌<◌, ◌≤◌, Bool, false, inl, inr, List, [], ◌∷◌, ◌++◌, length, refl, sym, ap, ◌∙◌, subst, arith, append-nil, Option, Some, None, IfSome, Result, Ok, Err, OnOk}
 use Rattle.std.proofs.lemmas.List.Elements.{All-push, All-same, All-weaker}
 use Rattle.std.specs.Io.KnownBytes.{Appends}
@@ -24,7 +24,7 @@ below (Some k) m n more less = omega arith
 seen_still : (c d : ClientView) → SeesOn c d → (e : Entry) → HasSeen c e.reply → HasSeen d e.reply
 seen_still c d later e seen = below (named e.reply) (length c.seen) (length d.seen) (prefix_length c.seen d.seen later) seen
 
--- no call more
+-- no further call
 pub hears_on : (c d : ClientView) → HasHeard c → SeesOn c d → d.calls ≡ c.calls → HasHeard d
 hears_on c d heard later same = record {
   some = let more = prefix_length c.seen d.seen later in let some = heard.some in omega (arith, more, some);
@@ -32,7 +32,7 @@ hears_on c d heard later same = record {
       (All-weaker (λ e. HasSeen c e.reply) (λ e. HasSeen d e.reply) (seen_still c d later) c.calls heard.named);
 }
 
--- one call more
+-- one more call
 pub hears_more : (c d : ClientView) (e : Entry) → HasHeard c → SeesOn c d → d.calls ≡ c.calls ++ e ∷ [] → HasSeen d e.reply → HasHeard d
 hears_more c d e heard later more seen = record {
   some = let longer = prefix_length c.seen d.seen later in let some = heard.some in omega (arith, longer, some);
@@ -40,7 +40,7 @@ hears_more c d e heard later more seen = record {
       (All-push (λ x. HasSeen d x.reply) c.calls e (All-weaker (λ x. HasSeen c x.reply) (λ x. HasSeen d x.reply) (seen_still c d later) c.calls heard.named) seen);
 }
 
--- what is past all that has been seen was not heard of
+-- a version after all that have been seen is not known
 pub unheard_of : (d : ClientView) (number : ℕ) → HasHeard d → length d.seen ≤ number → IsUnheardOf d.calls number
 unheard_of d number heard past = record {
   above_the_first = let some = heard.some in omega (arith, some, past);
@@ -62,7 +62,7 @@ answers_weaker P Q c d held holds weaker a = record {
   answers = weaker a.entries a.text a.answers;
 }
 
--- nothing was asked of the table, and a line was printed
+-- the table was not asked, and a line was printed
 pub prints : (P : List PlainVersion → List Entry → List Entry → List ℕ → Type 0) (c d : ClientView) (held holds : Option (List ℕ)) (text : List ℕ)
     → HasHeard c → SeesOn c d → IsSameClient c d → Appends held holds text → P d.seen c.calls [] text → Answers P c d held holds
 prints P c d held holds text heard later same printed answers = record {
@@ -76,7 +76,7 @@ prints P c d held holds text heard later same printed answers = record {
   answers = answers;
 }
 
--- one event was booked, and its reply was printed
+-- one event was recorded, and its reply was printed
 pub books : (P : List PlainVersion → List Entry → List Entry → List ℕ → Type 0) (c d : ClientView) (event : Event) (reply : Reply) (held holds : Option (List ℕ)) (text : List ℕ)
     → HasHeard c → SeesOn c d → Books c event reply d → Appends held holds text → P d.seen c.calls (entry c.number event reply ∷ []) text → Answers P c d held holds
 books P c d event reply held holds text heard later booked printed answers = record {
@@ -113,7 +113,7 @@ answers_commit (Ok x) c d session base edits given listed reply held holds heard
         books (λ seen earlier. IsCommit c.number session base.number given listed base) c d (Commit session base.number given) reply held holds (reply_line (Some base) (Commit session base.number given) listed reply) heard later booked printed
         (inr (record { reply = reply; entry = refl; printed = refl }))
 
--- the same, where the version was looked at before
+-- the same, where the version was read before
 pub answers_commit_at : {T E : Type 0} (r : Result T E) (c d : ClientView) (session number : ℕ) (base known : PlainVersion) (edits given : List Edit) (listed : Bool) (reply : Reply) (held holds : Option (List ℕ))
     → HasHeard c → SeesOn c d → Commits c session base given reply d → given ≡ edits → known ≡ base → number ≡ base.number
     → OnOk r (Appends held holds (reply_line (Some known) (Commit session number given) listed reply))

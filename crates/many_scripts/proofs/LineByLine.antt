@@ -1,4 +1,4 @@
--- How the answers to lines are put together.
+-- How the answers to lines are assembled.
 use Rattle.std.proofs.Common.{◌≡◌, ℕ, inl, inr, List, [], ◌∷◌, ◌++◌, refl, sym, ap, ◌∙◌, subst, append_assoc, append-nil, Bool, Option, Some, None, Result, Ok, Err, OnOk}
 use Rattle.std.specs.Io.KnownBytes.{Appends}
 use Rattle.std.proofs.KnownBytes.{Appends-nil, Appends-trans}
@@ -24,7 +24,7 @@ use Rattle.many_scripts.proofs.Heard.{answers_weaker, prints}
 
 -- ---- a line
 
--- nothing was asked of the desk
+-- the desk was not asked
 pub tells : (P : List PlainVersion → List Entry → List Entry → List ℕ → Type 0) (c : ClientView) (held holds : Option (List ℕ)) (text : List ℕ)
     → HasHeard c → Appends held holds text → P c.seen c.calls [] text → Answers P c c held holds
 tells P c held holds text heard printed answers = prints P c c held holds text heard (prefix_self c.seen) (refl, refl) printed answers

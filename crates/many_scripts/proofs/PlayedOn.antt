@@ -17,7 +17,7 @@ use Rattle.many_scripts.specs.Played.{IsPlayed}
 use Rattle.many_scripts.specs.Playing.{Answers, HasHeard, PlaysScript}
 use Rattle.many_scripts.proofs.LineByLine.{plays_none, plays_on}
 
--- so much was read, and its lines were played but for what waits
+-- this much was read, and its lines were played except for the unread bytes
 pub record PlaysOn (most : ℕ) (c d : ClientView) (reader : ReaderView) (had left : Option (List ℕ)) (held holds : Option (List ℕ)) : Type 0 where
   pub read : List ℕ
   pub given : List ScriptLine
@@ -40,7 +40,7 @@ append_cons : (lines : List ScriptLine) (line : Option ScriptLine) (others : Lis
 append_cons lines None others = ap (λ l. l ++ others) (sym (append-nil lines))
 append_cons lines (Some line) others = sym (append_assoc lines (line ∷ []) others)
 
--- one line more
+-- one more line
 pub goes_on : (most : ℕ) (c m d : ClientView) (before after : ReaderView) (had left still : Option (List ℕ)) (a b e : Option (List ℕ)) (line : Option ScriptLine) (more : Bool)
     → PlaysOn most c m before had left a b → more ≡ true → ReadsOn more before after left still → line ≡ line_read after
     → Answers (λ known earlier. IsPlayed m.number known earlier (cons_option line [])) m d b e → PlaysOn most c d after had still a e

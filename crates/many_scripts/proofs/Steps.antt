@@ -1,4 +1,4 @@
--- How the answers to a step are put together.
+-- How the answers to a step are assembled.
 use Rattle.std.proofs.Common.{◌≡◌, ℕ, ◌≤◌, Bool, false, inl, inr, List, [], ◌∷◌, ◌++◌, length, slice_get, refl, sym, ap, ◌∙◌, subst, append_assoc, Option, Some, None, Result, Ok, Err, OnOk}
 use Rattle.std.specs.Io.KnownBytes.{Appends}
 use Rattle.stage_graph.specs.declared.edit.Edit.{Edit}
@@ -27,7 +27,7 @@ unheard c d number heard later same past = subst (λ calls. IsUnheardOf calls nu
 
 -- ---- reports
 
--- nothing was asked of the table before
+-- the table was not asked before
 after_reading : {T E : Type 0} (r : Result T E) (P Q : List PlainVersion → List Entry → List Entry → List ℕ → Type 0) (c m d : ClientView) (held holds : Option (List ℕ))
     → SeesOn c m → IsSameClient c m → ((entries : List Entry) (text : List ℕ) → SeesOn m d → P d.seen c.calls entries text → Q d.seen c.calls entries text)
     → OnOk r (Answers P m d held holds) → OnOk r (Answers Q c d held holds)
@@ -52,7 +52,7 @@ prints_none (Ok x) Found c d number held holds heard later same past printed =
     prints (λ seen earlier entries text. AtVersion seen earlier number (λ version. Found version entries text) (IsPrinted no_version_line entries text)) c d held holds no_version_line heard later same printed
     (inr (unheard c d number heard later same past, (refl, refl)))
 
--- a report that is compared with none
+-- a report without a comparison
 pub reports : {T E : Type 0} (r : Result T E) (c : ClientView) (version : PlainVersion) (asked : Asked) (against : Option ℕ) (held holds : Option (List ℕ))
     → HasHeard c → against ≡ None → OnOk r (Appends held holds (report_asked version None asked)) → OnOk r (Answers (λ seen earlier. IsReportAgainst seen earlier version asked against) c c held holds)
 reports (Err e) c version asked against held holds heard is printed = tt
@@ -92,7 +92,7 @@ reports_none (Ok x) c d number asked held holds heard later same past printed =
     prints (λ seen earlier. IsReport c.number seen earlier (subject.Version number) asked) c d held holds no_version_line heard later same printed
     (inr (unheard c d number heard later same past, (refl, refl)))
 
--- the head was asked for, and then reported
+-- the head was requested, and then reported
 pub reports_head : {T E : Type 0} (r : Result T E) (c m d : ClientView) (session : ℕ) (version shown : PlainVersion) (asked : Asked) (held holds : Option (List ℕ))
     → SeesOn c m → Keeps c (Head session) (At version.number) m → IsSeen m version → shown ≡ version
     → OnOk r (Answers (λ seen earlier. IsReportOf seen earlier shown asked) m d held holds)
@@ -161,7 +161,7 @@ edits_read (Ok x) c m d session number version base edits listed held holds late
   );
 }
 
--- the head was asked for, and then edited
+-- the head was requested, and then edited
 pub edits_head : {T E : Type 0} (r : Result T E) (c m d : ClientView) (session : ℕ) (version base : PlainVersion) (edits : List Edit) (listed : Bool) (held holds : Option (List ℕ))
     → SeesOn c m → Keeps c (Head session) (At version.number) m → IsSeen m version → base ≡ version
     → OnOk r (Answers (λ seen earlier. IsCommit m.number session base.number edits listed base) m d held holds)

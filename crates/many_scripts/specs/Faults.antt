@@ -11,7 +11,7 @@ many_number Missing = 60
 many_number Torn = 61
 many_number Memory = 90
 
--- one where a write fault ended the call
+-- one if a write fault ended the call
 abbrev pub failed_writes_of_many : {A : Type 0} → Result A ManyFault → ℕ
 failed_writes_of_many (Ok a) = 0
 failed_writes_of_many (Err NoThread) = 0

@@ -1,4 +1,4 @@
--- Lists of what several clients have and have done.
+-- Lists of several clients and of their results.
 use Rattle.std.specs.Prelude.{◌≡◌, ℕ, List, ◌++◌, map, length, Option, Result, Ok, Err}
 use Rattle.std.specs.List.{AllZip, flat_map, zip}
 use Rattle.session_core.specs.Log.{opening_of}
@@ -14,7 +14,7 @@ pub record AreSeats {S C R : Type 0} (seats : List S) (client : S → C) (script
   pub clients_are : map client seats ≡ clients
   pub scripts_are : map script seats ≡ scripts
 
--- a client with what came of it, or the fault
+-- a client with its result, or the fault
 abbrev pub with_client : {C T E : Type 0} → C → Result T E → Result (C × T) E
 with_client client (Ok text) = Ok (client, text)
 with_client client (Err fault) = Err fault
@@ -33,7 +33,7 @@ pub record ArePlayed {R : Type 0} (remaining : R → Option (List ℕ)) (failure
   pub clients_are : clients ≡ map (λ (play : ClientView × List ℕ). play.0) done
   pub texts_are : texts ≡ flat_map (λ (play : ClientView × List ℕ). play.1) done
 
--- the clients' desk, which has begun so, is closed, and the output is the texts and then how many entries its log has
+-- the clients' desk, which began so, is closed, and the output is the texts and then how many entries its log has
 pub record IsWhole (opening : State) (clients : List ClientView) (texts output : List ℕ) : Type 0 where
   pub log : TableView
   pub closed : IsClosed log clients

@@ -31,7 +31,7 @@ log_line count = codes "log " ++ decimal count ++ line_end
 -- ---- what the scripts did
 
 -- the entries that the log has of this client are those of the script's lines, and this is what is printed for them, by
--- versions of which the log's are the beginning, or which are the beginning of the log's
+-- versions of which the log's are a prefix, or which are a prefix of the log's
 pub record IsOfLog (log : List Entry) (versions : List PlainVersion) (number : ℕ) (script text : List ℕ) : Type 0 where
   pub seen : List PlainVersion
   pub goes_with : IsPrefix seen versions ⊎ IsPrefix versions seen

@@ -1,4 +1,4 @@
--- What a script does at a desk that others use too: the entries that its lines make in the log, and what is printed for them.
+-- A script at a desk that others use too: the entries that its lines make in the log, and what is printed for them.
 --
 -- A script belongs to a client, by its number, which `who` is in its entries. `seen` are the versions that the client has
 -- seen, and `earlier` the entries of the lines that came before.
@@ -33,14 +33,14 @@ pub record IsUnheardOf (earlier : List Entry) (number : ℕ) : Type 0 where
   pub above_the_first : 0 < number
   pub above_all : All (λ e. IfSome (named e.reply) (λ k. k < number)) earlier
 
--- the client has seen the version of this number, of which this holds; or it answers that there is none, which it may of
--- versions that it has not heard of
+-- the client has seen the version of this number, which satisfies this; or the answer is that there is none, which is allowed for
+-- versions that the client doesn't know of
 abbrev pub AtVersion : List PlainVersion → List Entry → ℕ → (PlainVersion → Type 0) → Type 0 → Type 0
 AtVersion seen earlier number Found Missing =
     ((version : PlainVersion) × (slice_get seen number ≡ Some version) × Found version)
     ⊎ (IsUnheardOf earlier number × Missing)
 
--- ---- what a line comes to: its entries, and what is printed
+-- ---- the result of a line: its entries, and what is printed
 
 -- the event has an entry, and its reply is printed
 pub record IsBooked (who : ℕ) (base : Option PlainVersion) (event : Event) (listed : Bool) (entries : List Entry) (text : List ℕ) : Type 0 where
@@ -58,7 +58,7 @@ pub record IsRefused (session base : ℕ) (edits : List Edit) (listed : Bool) (v
   pub refused : applied edits version.graph ≡ Err refusal
   pub printed : IsPrinted (reply_line (Some version) (Commit session base edits) listed (Refused refusal)) entries text
 
--- edits of a version: its graph refuses them, or their commit is booked
+-- edits of a version: its graph refuses them, or their commit is recorded
 abbrev pub IsCommit : ℕ → ℕ → ℕ → List Edit → Bool → PlainVersion → List Entry → List ℕ → Type 0
 IsCommit who session base edits listed version entries text =
     IsRefused session base edits listed version entries text
@@ -127,7 +127,7 @@ IsStep who seen earlier (step.Close session) entries text = IsBooked who None (C
 IsStep who seen earlier (step.Change session base edits listed) entries text = IsChange who seen earlier session base edits listed entries text
 IsStep who seen earlier (step.Report subject asked) entries text = IsReport who seen earlier subject asked entries text
 
--- the step that a line names is done; a fault in it is printed
+-- the step on a line is executed; a fault in it is printed
 abbrev pub IsNamed : ℕ → List PlainVersion → List Entry → Result Step Fault → List Entry → List ℕ → Type 0
 IsNamed who seen earlier (Ok step) entries text = IsStep who seen earlier step entries text
 IsNamed who seen earlier (Err fault) entries text = IsPrinted (fault_line fault) entries text

@@ -28,13 +28,13 @@ IsAskedAlone others = Unit {0}
 abbrev pub Books : ClientView → Event → Reply → ClientView → Type 0
 Books c event reply d = Keeps c event reply d × HasSeen d reply
 
--- the edits are refused, and the client's calls stay; or the commit was booked
+-- the edits are refused, and the client's calls stay; or the commit was recorded
 abbrev pub Commits : ClientView → ℕ → PlainVersion → List Edit → Reply → ClientView → Type 0
 Commits c session version edits reply d =
     (IsSameClient c d × (refusal : Refusal) × (applied edits version.graph ≡ Err refusal) × (reply ≡ Refused refusal))
     ⊎ Books c (Commit session version.number edits) reply d
 
--- some calls of a client, and what was printed, of which this holds, for the versions that are then seen and the calls that were there
+-- some calls of a client, and what was printed, satisfy this, for the versions that are then seen and the calls that were there
 pub record Answers (Holds : List PlainVersion → List Entry → List Entry → List ℕ → Type 0) (c d : ClientView) (held holds : Option (List ℕ)) : Type 0 where
   pub entries : List Entry
   pub text : List ℕ

@@ -33,7 +33,7 @@ EndsReading remaining failures script Read = FailsToRead remaining failures scri
 EndsReading remaining failures script Write = ⊥
 EndsReading remaining failures script fault = Unit {0}
 
--- a new client has heard of version 0, has asked for nothing, and one more failed read of its script can be counted
+-- a new client knows of version 0, has made no call, and one more failed read of its script can be counted
 pub record IsReady {R : Type 0} (failures : R → ℕ) (c : ClientView) (script : R) : Type 0 where
   pub heard : HasHeard c
   pub new : c.calls ≡ []
@@ -61,7 +61,7 @@ EndsBy {R} remaining failures scripts Read = (script : R) × Contains scripts sc
 EndsBy remaining failures scripts Write = ⊥
 EndsBy remaining failures scripts fault = Unit {0}
 
--- ---- what `many` has done
+-- ---- the effect of `many`
 
 -- the output for what was read of the scripts was written
 abbrev pub Writes : {R : Type 0} → (R → Option (List ℕ)) → (R → ℕ) → PlainGraph → List R → Option (List ℕ) → Option (List ℕ) → Type 0

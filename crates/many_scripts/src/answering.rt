@@ -1,4 +1,4 @@
-//! What answers the steps of a script.
+//! Answers the steps of a script.
 ghost use Rattle.std.specs.Prelude.{◌≡◌, ◌+◌, ◌-◌, ◌^◌, ◌<◌, false, None, Some, OnOk, option_copied};
 ghost use Rattle.std.specs.Io.KnownBytes.{Appends};
 ghost use Rattle.script_lines.specs.Faults.{failed_writes};
@@ -23,7 +23,7 @@ use std::sync::Wait;
 use text_io::Sink;
 use version_store::{StateRepresentation, Version};
 
-/// Writes the reply to an event, which is of this base if it is a commit.
+/// Writes the reply to an event, which is on this base if it is a commit.
 fn write_reply<K: StateRepresentation, S: Sink>(
     alloc: Global,
     base: Option<&Version<K>>,
@@ -75,7 +75,7 @@ fn write_no_version<S: Sink>(sink: &mut S) -> Result<(), AnswerFault>
     write_text(b"refused 52 NoVersion\n", sink)
 }
 
-/// Asks for an event that is no commit, and writes its reply.
+/// Asks the desk for an event that is no commit, and writes its reply.
 fn answer_event<N: Naming, K: StateRepresentation, H: Wait + Drop, W, S: Sink>(
     access: &Access<'_, N, K, H, W>,
     client: &mut Client<N, K>,
@@ -92,7 +92,7 @@ fn answer_event<N: Naming, K: StateRepresentation, H: Wait + Drop, W, S: Sink>(
     write_lone_reply(access, event, false, reply, sink)
 }
 
-/// Asks for edits of a version, and writes the reply.
+/// Asks the desk for edits of a version, and writes the reply.
 fn answer_commit<N: Naming, K: StateRepresentation, H: Wait + Drop, W: Runner, S: Sink>(
     access: &Access<'_, N, K, H, W>,
     client: &mut Client<N, K>,
@@ -117,7 +117,7 @@ fn answer_commit<N: Naming, K: StateRepresentation, H: Wait + Drop, W: Runner, S
     write_reply(access.alloc, Some(&**base), &event, listed, reply, sink)
 }
 
-/// Asks for edits of the version of a number, and writes the reply.
+/// Asks the desk for edits of the version of a number, and writes the reply.
 fn answer_at<N: Naming, K: StateRepresentation, H: Wait + Drop, W: Runner, S: Sink>(
     access: &Access<'_, N, K, H, W>,
     client: &mut Client<N, K>,
@@ -139,7 +139,7 @@ fn answer_at<N: Naming, K: StateRepresentation, H: Wait + Drop, W: Runner, S: Si
     }
 }
 
-/// Asks for edits of the version at which a session stands, and writes the reply.
+/// Asks the desk for edits of the version at which a session stands, and writes the reply.
 fn answer_head<N: Naming, K: StateRepresentation, H: Wait + Drop, W: Runner, S: Sink>(
     access: &Access<'_, N, K, H, W>,
     client: &mut Client<N, K>,
@@ -164,7 +164,7 @@ fn answer_head<N: Naming, K: StateRepresentation, H: Wait + Drop, W: Runner, S: 
     }
 }
 
-/// Asks for edits of a version or of the session's head, and writes the reply.
+/// Asks the desk for edits of a version or of the session's head, and writes the reply.
 fn answer_change<N: Naming, K: StateRepresentation, H: Wait + Drop, W: Runner, S: Sink>(
     access: &Access<'_, N, K, H, W>,
     client: &mut Client<N, K>,
@@ -185,7 +185,7 @@ fn answer_change<N: Naming, K: StateRepresentation, H: Wait + Drop, W: Runner, S
     }
 }
 
-/// Writes the report of a version, which compares it with no other, or with the version of a number.
+/// Writes the report of a version, without a comparison, or compared with the version of a number.
 fn answer_of<N: Naming, K: StateRepresentation, H: Wait + Drop, W: Runner, S: Sink>(
     access: &Access<'_, N, K, H, W>,
     client: &mut Client<N, K>,
@@ -207,7 +207,7 @@ fn answer_of<N: Naming, K: StateRepresentation, H: Wait + Drop, W: Runner, S: Si
     }
 }
 
-/// Writes the report of a version that compares it with the version of a number, or that there is no such version.
+/// Writes the report of a version, compared with the version of a number, or that there is no such version.
 fn answer_against<N: Naming, K: StateRepresentation, H: Wait + Drop, W: Runner, S: Sink>(
     access: &Access<'_, N, K, H, W>,
     client: &mut Client<N, K>,
@@ -298,7 +298,7 @@ fn answer_report<N: Naming, K: StateRepresentation, H: Wait + Drop, W: Runner, S
     }
 }
 
-/// Does a step, and writes the reply or the report.
+/// Executes a step, and writes the reply or the report.
 pub(crate) fn answer_step<N: Naming, K: StateRepresentation, H: Wait + Drop, W: Runner, S: Sink>(
     access: &Access<'_, N, K, H, W>,
     client: &mut Client<N, K>,

@@ -29,10 +29,10 @@ use std::thread::Threads;
 use text_io::{Sink, Source};
 use version_store::{StateRepresentation, Version};
 
-/// The most versions of a desk.
+/// The most versions that a desk may have.
 const MOST_VERSIONS: u32 = 65_536;
 
-/// Closes the desk, and answers how many entries its log has.
+/// Closes the desk, and returns how many entries its log has.
 fn entries_of_closed<N: Naming, K: StateRepresentation, H: Wait + Drop>(
     desk: Desk<N, K, H>,
     clients: Vec<Client<N, K>>,
@@ -48,7 +48,7 @@ fn entries_of_closed<N: Naming, K: StateRepresentation, H: Wait + Drop>(
     }
 }
 
-/// The texts with the last line, which tells how many entries the log has.
+/// The texts with the last line, which has the number of the log's entries.
 fn with_log_line(alloc: Global, texts: Vec<u8>, count: usize) -> Result<Vec<u8>, AllocError>
     ensures { IfOk result (λ whole. whole.items ≡ texts.items ++ log_line count) }
 {
@@ -150,7 +150,7 @@ fn by_new_desk<H: Threads + Wait + Copy + Drop + Send + Sync, R: Source + Send +
 /// scripts, and then how many entries the log of their desk has.
 ///
 /// Errors: `Read` where a read of a script failed or 1,073,741,824 bytes of it were read, `Write` where a write or a
-/// flush failed or took nothing, `Missing` and `Torn` where the desk isn't closed, `Memory`. At another one than `Write`
+/// flush failed or took nothing, `Missing` and `Torn` where the desk isn't closed, `Memory`. At any fault but `Write`
 /// nothing is written.
 pub fn many<H: Threads + Wait + Copy + Drop + Send + Sync, R: Source + Send + Drop, S: Sink>(
     rt: H,

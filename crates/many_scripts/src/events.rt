@@ -1,4 +1,4 @@
-//! Events, asked of the desk, and the replies to them.
+//! Events, sent to the desk, and the replies to them.
 ghost use Rattle.std.specs.Prelude.{IfOk};
 ghost use Rattle.session_core.specs.declared.event.Event.TheVariants.{Open, Head, Undo, Close};
 ghost use Rattle.desk.specs.Clients.{SeesOn};

@@ -1,4 +1,4 @@
-//! The clients with their scripts, in threads of their own, and what came of them.
+//! The clients with their scripts, in threads of their own, and their results.
 ghost use Rattle.std.specs.Prelude.{◌≡◌, ◌<◌, ◌-◌, ◌^◌, ◌⊎◌, ◌++◌, ◌∷◌, [], map, All, Contains, Err, IfOk, IfErr, IsOkAnd, MatchResult, vec_len};
 ghost use Rattle.std.specs.List.{AllZip};
 ghost use Rattle.many_scripts.specs.Gathered.{AreGathered, ArePlayed, AreSeats, with_client};
@@ -47,7 +47,7 @@ fn seats_of<'a, N: Naming, H: Wait + Drop, R: Drop>(
     Ok(seats)
 }
 
-/// Each client answers its script, in a thread of its own where one can be had.
+/// Each client answers its script, in a thread of its own if one can be started.
 fn play_all<N: Naming + Send + Sync, H: Threads + Wait + Drop + Send + Sync, R: Source + Send>(
     rt: &H,
     seats: &mut [Seat<'_, N, H, R>],
@@ -136,7 +136,7 @@ fn gather<N: Naming, H: Wait + Drop, R: Drop>(
     gathered
 }
 
-/// The clients once each has answered its script, in threads of their own where these can be had.
+/// The clients once each has answered its script, in threads of their own if these can be started.
 pub(crate) fn ended_by<
     N: Naming + Send + Sync,
     H: Threads + Wait + Drop + Send + Sync,

@@ -1,4 +1,4 @@
-//! What answers the lines of a script.
+//! Answers the lines of a script.
 ghost use Rattle.std.specs.Prelude.{◌≡◌, ◌+◌, ◌-◌, ◌^◌, ◌<◌, [], Err, Result, OnOk};
 ghost use Rattle.std.specs.Io.KnownBytes.{Appends};
 ghost use Rattle.std.specs.List.{cons_option};
@@ -26,7 +26,7 @@ use std::sync::Wait;
 use text_io::Sink;
 use version_store::StateRepresentation;
 
-/// Writes why a line names no step.
+/// Writes why a line has no step.
 fn write_fault<S: Sink>(alloc: Global, fault: &Fault, sink: &mut S) -> Result<(), AnswerFault>
     requires { S.failures sink.old < 2 ^ 64 - 1 }
     ensures ok { OnOk result (Appends (S.held sink.old) (S.held sink.new) (fault_line fault.now)) }
@@ -37,7 +37,7 @@ fn write_fault<S: Sink>(alloc: Global, fault: &Fault, sink: &mut S) -> Result<()
     write_text(line.as_bytes(), sink)
 }
 
-/// Writes why a line names no step, but for want of memory.
+/// Writes why a line has no step, unless memory ran out.
 fn refuse<S: Sink>(alloc: Global, fault: Fault, sink: &mut S) -> Result<(), AnswerFault>
     requires { S.failures sink.old < 2 ^ 64 - 1 }
     ensures ok { OnOk result (((meant : Result Step Fault) → IsRead (Err fault) meant → meant ≡ Err fault) × Appends (S.held sink.old) (S.held sink.new) (fault_line fault)) }
@@ -49,7 +49,7 @@ fn refuse<S: Sink>(alloc: Global, fault: Fault, sink: &mut S) -> Result<(), Answ
     }
 }
 
-/// Does what the bytes of a line name.
+/// Executes the step in the bytes of a line.
 fn answer_bytes<N: Naming, K: StateRepresentation, H: Wait + Drop, W: Runner, S: Sink>(
     access: &Access<'_, N, K, H, W>,
     client: &mut Client<N, K>,
@@ -67,7 +67,7 @@ fn answer_bytes<N: Naming, K: StateRepresentation, H: Wait + Drop, W: Runner, S:
     }
 }
 
-/// Does what a line names, and writes the answer.
+/// Executes the step on a line, and writes the answer.
 fn answer_line<N: Naming, K: StateRepresentation, H: Wait + Drop, W: Runner, S: Sink>(
     access: &Access<'_, N, K, H, W>,
     client: &mut Client<N, K>,

@@ -1,4 +1,4 @@
--- Each expression is what is read from its JSON value.
+-- Reading the JSON value of an expression gives the expression back.
 use Rattle.std.proofs.Common.{◌≡◌, ℤ, pos, negsuc, Some, refl, arith, rules, w64, FitsSigned}
 use Rattle.serde_json.specs.Find.{as_i64, of_integer}
 use Rattle.act_expr.specs.Expression.{literal, argument, binary, conditional, is_null, failed, is_wrapped, cause_is, throw}

@@ -1,4 +1,4 @@
--- Stages and recordings are what is read from their JSON values.
+-- Reading the JSON values of stages and recordings gives them back.
 use Rattle.std.proofs.Common.{◌≡◌, ℕ, List, [], ◌∷◌, Bool, true, false, true≢false, codes, if◌then◌else◌, Option, Some, None, option_map, Ok, All, IfSome, IsTrue, refl, sym, ap, ◌∙◌, rules}
 use Rattle.std.specs.Str.{bytes_eq}
 use Rattle.std.proofs.lemmas.Slice.Eq.{bytes_eq-Decides}
@@ -36,7 +36,7 @@ use Rattle.recording.specs.declared.recording.Recording.{Recording}
 use Rattle.recording.specs.declared.stage.FormNumber.{FormNumber}
 use Rattle.recording.specs.declared.stage.FormNumber.TheVariants.{One, Two}
 
--- ---- what an object of rows has at a name
+-- ---- the value that an object with these members has at a name
 
 abbrev pub or_later : Option Data → Option Data → Option Data
 or_later None later = later
@@ -46,7 +46,7 @@ pub or_later-none : (o : Option Data) → or_later o None ≡ o
 or_later-none None = refl
 or_later-none (Some d) = refl
 
--- the first value that the rows have at a name
+-- the first value that the members have at a name
 abbrev pub look : List ℕ → List (List ℕ × Option Data) → Option Data
 look name [] = None
 look name (row ∷ rows) = if bytes_eq name row.0 then or_later row.1 (look name rows) else look name rows

@@ -1,4 +1,4 @@
--- Edits and steps are what is read from their JSON values.
+-- Reading the JSON values of edits and steps gives them back.
 use Rattle.std.proofs.Common.{◌≡◌, ◌<◌, ◌≤◌, ◌^◌, ℕ, List, [], ◌∷◌, length, true, false, codes, Option, Some, None, option_map, Ok, All, IfSome, refl, ◌∙◌, arith}
 use Rattle.std.specs.Str.{bytes_eq}
 use Rattle.std.proofs.lemmas.List.Elements.{All-head, All-tail}
@@ -37,7 +37,7 @@ edit_name (Add stage) = name.Add
 edit_name (Remove stage) = name.Remove
 edit_name (Rewire stage sources inner) = name.Rewire
 
--- the object has the edit's rows, beside a session and a base
+-- the object has the edit's members, beside a session and a base
 HasRows : Edit → Data → Type 0
 HasRows edit d = (text : List ℕ) → bytes_eq text (codes "session") ≡ false → bytes_eq text (codes "base") ≡ false → get text d ≡ look text (edit_rows edit)
 
@@ -104,7 +104,7 @@ no_base (Add stage) = refl
 no_base (Remove stage) = refl
 no_base (Rewire stage sources inner) = refl
 
--- the edit's rows are those of the step, beside its session and its base
+-- the edit's members are those of the step, beside its session and its base
 change_rows_kept : (session : ℕ) (base : Option ℕ) (edit : Edit) → HasRows edit (written_step (Change session base (edit ∷ []) false))
 unfolding HasRows
 change_rows_kept session base edit text no_session no_base =

@@ -41,7 +41,7 @@ abbrev pub only : Items → Option Data
 only (item d no_items) = Some d
 only others = None
 
--- an expression of exactly so many operands
+-- an expression of exactly this many operands
 abbrev pub on_none : Expression → List Expression → Option Expression
 on_none f [] = Some f
 on_none f others = None

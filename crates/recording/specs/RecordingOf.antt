@@ -1,4 +1,4 @@
--- The recording that bytes name, or the first fault in it.
+-- The recording that bytes encode, or the first fault in it.
 use Rattle.std.specs.Prelude.{ℕ, ℤ, pos, List, [], ◌∷◌, length, codes, nat_lt, if◌then◌else◌, Option, Some, None, option_and_then, Result, Ok, Err}
 use Rattle.std.specs.Option.{ok_or}
 use Rattle.std.specs.Str.{is_utf8}
@@ -66,11 +66,11 @@ json_of bytes = if is_utf8 bytes then read bytes else None
 abbrev pub json_or_fault : List ℕ → Result Data Fault
 json_or_fault bytes = ok_or (json_of bytes) Json
 
--- a recording may have so many bytes
+-- the most bytes that a recording may have
 abbrev pub longest : ℕ
 longest = 67_108_864
 
--- the recorded stages that these bytes name, or the first fault of shape
+-- the recorded stages that these bytes encode, or the first fault of shape
 abbrev pub recorded : List ℕ → Result Recording Fault
 recorded bytes = if nat_lt longest (length bytes) then Err TooLong else then_on (json_or_fault bytes) recording_of
 
@@ -82,6 +82,6 @@ as_read (Err refused) = Err (Refused refused)
 abbrev pub graph_of : Recording → Result PlainGraph Fault
 graph_of recording = as_read (loaded recording.mode recording.stages)
 
--- the graph that these bytes name, which may have a cycle, or the first fault: those of shape come before those of the graph
+-- the graph that these bytes encode, which may have a cycle, or the first fault: those of shape come before those of the graph
 abbrev pub named : List ℕ → Result PlainGraph Fault
 named bytes = then_on (recorded bytes) graph_of

@@ -30,11 +30,11 @@ op_of d = then_on (required member.Op op_name_in d) (op_with d)
 abbrev pub action_in : Data → Option (Option Expression)
 action_in d = option_map Some (expression_of d)
 
--- in form 1 a stage runs for all the time that it takes, and is never queued
+-- in form 1 a stage runs for all of `takes`, and is never queued
 abbrev pub taken : ℕ → Times
 taken takes = record { queued = 0; runs = takes }
 
--- in form 2 it is queued and then runs
+-- in form 2 it is queued for `queued` ticks and then runs for `runs`
 abbrev pub queued_and_runs : Data → Result Times Fault
 queued_and_runs d =
     then_on (optional member.Queued 0 count_in d) (λ queued.

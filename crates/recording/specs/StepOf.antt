@@ -1,4 +1,4 @@
--- The step of a script that bytes name, or the first fault in it.
+-- The step of a script that bytes encode, or the first fault in it.
 use Rattle.std.specs.Prelude.{ℕ, true, false, ◌||◌, List, [], ◌∷◌, codes, if◌then◌else◌, Option, Some, None, option_map, option_and_then, is_some, Result, Ok, Err}
 use Rattle.serde_json.specs.Data.{Data, object, Items, no_items, item}
 use Rattle.serde_json.specs.Find.{as_str, as_array}
@@ -42,7 +42,7 @@ edit_names =
 abbrev pub edit_name_in : Data → Option EditName
 edit_name_in d = option_and_then (beside edit_names) (as_str d)
 
--- a new stage has the members of form 2 where one of its two is there, else those of form 1
+-- a new stage has the members of form 2 if `queued` or `runs` is present, else those of form 1
 abbrev pub form_of_new : Data → FormNumber
 form_of_new d = if is_some (member_of member.Queued d) || is_some (member_of member.Runs d) then Two else One
 
@@ -98,7 +98,7 @@ abbrev pub with_list_size : Result (List Edit) ListSizeFault → Result (List Ed
 with_list_size (Ok edits) = Ok edits
 with_list_size (Err fault) = Err ListSize
 
--- 1 to 64 edits; their number is looked at after all of them
+-- 1 to 64 edits; their number is checked after all of them
 abbrev pub edits_member : Data → Result (List Edit) Fault
 edits_member d = then_on (then_on (required member.Edits as_array d) edits_of) (λ edits. with_list_size (edit_list edits))
 
@@ -181,6 +181,6 @@ abbrev pub step_in : Data → Result Step Fault
 step_in (object ms) = then_on (required member.Do step_name_in (object ms)) (λ name. step_with name (object ms))
 step_in others = Err (Shape member.Step)
 
--- the step that these bytes name, or the first fault
+-- the step that these bytes encode, or the first fault
 abbrev pub step_of : List ℕ → Result Step Fault
 step_of bytes = then_on (json_or_fault bytes) step_in

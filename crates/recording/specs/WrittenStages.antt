@@ -25,12 +25,12 @@ use Rattle.recording.specs.declared.stage.FormNumber.TheVariants.{One, Two}
 
 -- ---- objects, arrays and numbers
 
--- the members, where one of this name is to be among them
+-- the members, followed by one of this name
 abbrev pub with_member : List ℕ → Option Data → Members → Members
 with_member name None members = members
 with_member name (Some d) members = put name d members
 
--- members by their names; one without a value is left out
+-- members by their names; one without a value is omitted
 unfoldable pub members_of : List (List ℕ × Option Data) → Members
 members_of [] = no_members
 members_of (row ∷ rows) = with_member row.0 row.1 (members_of rows)
@@ -135,7 +135,7 @@ recording_rows form recording =
 abbrev pub written_recording : FormNumber → Recording → Data
 written_recording form recording = object_of (recording_rows form recording)
 
--- ---- what can be written: values that are longs, exceptions with exception names, and in form 1 stages that are never queued
+-- ---- which recordings can be written: values that are longs, exceptions with exception names, and in form 1 stages that are never queued
 
 abbrev pub IsValue : Value → Type 0
 IsValue Null = Unit {0}
@@ -172,7 +172,7 @@ pub record IsStage (form : FormNumber) (stage : Spec) : Type 0 where
   pub pin_result : IfSome stage.pin_result IsOutcome
   pub ends : AreEnds stage.ends
 
--- each recording is what is read from its JSON value, in either form
+-- each recording can be read back from its JSON value, in either form
 abbrev pub EachRecordingIsReadBack : Type 0
 EachRecordingIsReadBack =
     (form : FormNumber) (recording : Recording) → All (IsStage form) recording.stages → recording_of (written_recording form recording) ≡ Ok recording

@@ -37,7 +37,7 @@ edit_rows (Rewire stage sources inner) =
 abbrev pub written_edit : Edit → Data
 written_edit edit = object_of (edit_rows edit)
 
--- the members that say what is to be changed
+-- the members with the new values
 abbrev pub change_rows : List Edit → Bool → List (List ℕ × Option Data)
 change_rows edits true = row (codes "do") (string (codes "edits")) ∷ row (codes "edits") (array_of written_edit edits) ∷ []
 change_rows (edit ∷ []) false = edit_rows edit
@@ -102,6 +102,6 @@ IsStep (Close session) = session < 2 ^ 32
 IsStep (Change session base edits listed) = (session < 2 ^ 32) × IfSome base (λ n. n < 2 ^ 32) × IsListed edits listed × All IsEdit edits
 IsStep (Report subject asked) = IsSubject subject × IsAsked asked
 
--- each step is what is read from its JSON value
+-- each step can be read back from its JSON value
 abbrev pub EachStepIsReadBack : Type 0
 EachStepIsReadBack = (step : Step) → IsStep step → step_in (written_step step) ≡ Ok step

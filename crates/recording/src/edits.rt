@@ -23,7 +23,7 @@ use stage_graph::{Edit, Edits, Name, Spec};
 use std::alloc::{AllocError, Global};
 use std::marker::Model;
 
-/// The name of an edit.
+/// The name of an edit: its `do`.
 #[derive(Clone, Copy, PartialEq, Eq, Debug)]
 pub(crate) enum EditName {
     PinResult,
@@ -57,7 +57,7 @@ impl EditName {
     }
 }
 
-/// A new stage has the times of form 2 where one of these is there, and else those of form 1.
+/// A new stage has the times of form 2 if `queued` or `runs` is present, and else those of form 1.
 fn form_of_new(object: &Value) -> FormNumber
     ensures { result ≡ form_of_new (view object.now) }
 {
@@ -92,7 +92,7 @@ fn required_action(alloc: Global, object: &Value) -> Result<Expr, Fault>
     }
 }
 
-/// The name of the stage that a step is of.
+/// The name of the stage that a step is for: its `stage`.
 pub(crate) fn read_stage_name(alloc: Global, object: &Value) -> Result<Name, Fault>
     ensures { IsRead result (stage_member (view object.now)) }
 {
@@ -230,7 +230,7 @@ fn read_listed_edit(alloc: Global, value: &Value) -> Result<Edit, Fault>
     }
 }
 
-/// The edits of a list. Their number is looked at after each of them is read.
+/// The edits of a list. Their number is checked after each of them is read.
 pub(crate) fn read_edits(alloc: Global, object: &Value) -> Result<Edits, Fault>
     ensures { IsRead result (edits_member (view object.now)) }
 {

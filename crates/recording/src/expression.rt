@@ -69,7 +69,7 @@ pub(crate) fn exception_in(value: &Value) -> Option<ExName>
     ExName::new(value.as_str()?)
 }
 
-/// The expression that a JSON value is. It calls itself no deeper than JSON nests, which is 127 levels.
+/// The expression that a JSON value is. It recurses no deeper than JSON is nested, which is 127 levels.
 pub(crate) fn read_expression(alloc: Global, value: &Value) -> Result<Expr, Unread>
     ensures { Reads result (expression_of (view value.now)) }
 {

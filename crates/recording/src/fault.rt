@@ -13,9 +13,9 @@ use thiserror::Error;
 pub enum Fault {
     /// The recording has more than 67,108,864 bytes.
     TooLong,
-    /// The bytes are no UTF-8, or no JSON.
+    /// The bytes are not UTF-8, or not JSON.
     Json,
-    /// The member is not there, or has another form than the format gives it.
+    /// The member is absent, or does not have the form that the format requires.
     Shape(Member),
     /// The step's list has no edits, or more than 64.
     ListSize,
@@ -23,7 +23,7 @@ pub enum Fault {
     Refused(Refused),
     /// The recorded stages have a cycle: each of these places is followed by one of its feeds, and the last is the first.
     Cycle(Places),
-    /// An allocation failed.
+    /// Out of memory.
     Memory,
 }
 

@@ -9,7 +9,7 @@ use act_expr::Outcome;
 use serde_json::Value;
 use stage_graph::{Act, End, Op};
 
-/// The name of an operation. The value or the exception of the two last stands in another member.
+/// The name of an operation. For the last two, another member has the value or the exception.
 #[derive(Clone, Copy, PartialEq, Eq, Debug)]
 pub(crate) enum OpName {
     Plain(Op),

@@ -1,7 +1,7 @@
 //! Recordings and the steps of scripts, read from JSON.
 //!
-//! `read_recording` gives the graph that a recording names, and `read_step` the step that a line of a script names. Each
-//! answers the first fault, in the order of the members: the definitions `named` and `step_of` say which one.
+//! `read_recording` gives the graph of a recording, and `read_step` the step on a line of a script. Each
+//! returns the first fault, in the order of the members: the definitions `named` and `step_of` say which one.
 #![tactic(auto)]
 
 mod edits;

@@ -1,6 +1,6 @@
-//! The members of a JSON object, in the form that is asked.
+//! The members of a JSON object, in the form that is required.
 //!
-//! Each reader answers `Fault::Shape` with the member that is not of its form. A `required_` member has to be there.
+//! Each reader returns `Fault::Shape` with the member that doesn't have its form. A `required_` member must be present.
 ghost use Rattle.std.specs.Prelude.{◌≡◌, [], None};
 ghost use Rattle.serde_json.specs.Find.{as_str};
 ghost use Rattle.serde_json.specs.View.{view};

@@ -1,6 +1,6 @@
 //! Recordings: stages as JSON, and the graph that they make.
 //!
-//! The bytes are looked at in this order: their number, whether they are JSON, the members of the recording and of each
+//! The bytes are checked in this order: their number, whether they are JSON, the members of the recording and of each
 //! stage in turn, the checks of the graph stage by stage, and last of all its cycles.
 ghost use Rattle.std.specs.Prelude.{◌≡◌};
 ghost use Rattle.serde_json.specs.View.{view};
@@ -19,7 +19,7 @@ use serde_json::Value;
 use stage_graph::{Graph, Representation, Spec, Specs};
 use std::alloc::Global;
 
-/// How many bytes a recording may have.
+/// The most bytes that a recording may have.
 const LONGEST: usize = 67_108_864;
 
 /// The stages of a recording, and its wrap mode.
@@ -29,7 +29,7 @@ pub(crate) struct Recording {
     pub stages: Specs,
 }
 
-/// The form of the stages' times: 1 or 2, or 1 where it is not there.
+/// The form of the stages' times: 1 or 2; 1 if it is absent.
 fn read_form(object: &Value) -> Result<FormNumber, Fault>
     ensures { IsRead result (optional member.Form One form_in (view object.now)) }
 {
@@ -43,7 +43,7 @@ fn read_form(object: &Value) -> Result<FormNumber, Fault>
     }
 }
 
-/// The wrap mode, which is `computed` where it is not there.
+/// The wrap mode; `computed` if it is absent.
 fn read_mode(object: &Value) -> Result<Mode, Fault>
     ensures { IsRead result (optional member.Wrap Computed mode_in (view object.now)) }
 {
@@ -124,9 +124,9 @@ fn load<R: Representation>(alloc: Global, recording: &Recording) -> Result<Graph
     }
 }
 
-/// The graph that the bytes of a recording name, or the first fault in them.
+/// The graph of a recording in these bytes, or the first fault in them.
 ///
-/// It takes time and memory by the number of bytes, and of 65,536 stages at most by that of their feeds.
+/// Time and memory are linear in the number of bytes and, for at most 65,536 stages, of their feeds.
 pub fn read_recording<R: Representation>(alloc: Global, bytes: &[u8]) -> Result<Graph<R>, Fault>
     ensures { IsNamed result (named bytes.now) }
 {

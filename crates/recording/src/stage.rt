@@ -53,7 +53,7 @@ fn read_op(object: &Value) -> Result<Op, Fault>
     }
 }
 
-/// The times, of which each is 0 where it is not there.
+/// The times; each is 0 if it is absent.
 fn read_times(form: FormNumber, object: &Value) -> Result<Times, Fault>
     ensures { IsRead result (times_of form (view object.now)) }
 {
@@ -87,7 +87,7 @@ fn action_or_none(alloc: Global, object: &Value) -> Result<Option<Expr>, Fault>
     }
 }
 
-/// The stage, or the first of its members that is not of its form.
+/// The stage, or a fault with the first of its members that doesn't have its form.
 #[tactic(auto, unfolding(crate::specs::StageOf::spec_of))]
 pub(crate) fn read_spec(alloc: Global, form: FormNumber, object: &Value) -> Result<Spec, Fault>
     ensures { IsRead result (spec_of form (view object.now)) }

@@ -1,4 +1,4 @@
-//! The steps of a script, one JSON object each.
+//! The steps of a script, each one JSON object.
 ghost use Rattle.std.specs.Prelude.{◌≡◌};
 ghost use Rattle.serde_json.specs.View.{view};
 ghost use Rattle.recording.specs.Tables.{beside};
@@ -16,7 +16,7 @@ use serde_json::Value;
 use stage_graph::{Edits, Name};
 use std::alloc::Global;
 
-/// What a report of a version is to tell.
+/// The content of a report of a version.
 #[derive(Drop)]
 pub enum Asked {
     /// All stages.
@@ -29,9 +29,9 @@ pub enum Asked {
     Path(Name),
     /// The stages whose action, if it took no time, would make the stage of this name complete sooner.
     Sweep(Name),
-    /// The stages that the version touched, or that are not as in the version of this number.
+    /// The stages that the version touched, or that differ from the version of this number.
     Changes(Option<u32>),
-    /// The stages that the version moved in time, against its parent or the version of this number.
+    /// The stages that complete at another moment than in the parent, or than in the version of this number.
     Drift(Option<u32>),
     /// When each stage started, and how long it was queued and ran.
     Times,
@@ -72,7 +72,7 @@ pub enum Step {
         /// The version that is edited; none for the session's head.
         base: Option<u32>,
         edits: Edits,
-        /// Whether the step is `edits`, so that a refusal tells the index of its edit; each other step is one edit.
+        /// Whether the step is `edits`, so that a refusal prints the index of its edit; each other step has one edit.
         listed: bool,
     },
     /// Asks for a report of a version.
@@ -143,7 +143,7 @@ impl ReportName {
     }
 }
 
-/// What the step does.
+/// What the step does: its `do`.
 fn read_step_name(object: &Value) -> Result<StepName, Fault>
     ensures { IsRead result (required member.Do step_name_in (view object.now)) }
 {
@@ -156,7 +156,7 @@ fn read_step_name(object: &Value) -> Result<StepName, Fault>
     StepName::new(text).ok_or(Fault::Shape(Member::Do))
 }
 
-/// What the report is to tell.
+/// What the report is: its `what`.
 fn read_report_name(object: &Value) -> Result<ReportName, Fault>
     ensures { IsRead result (required member.What report_name_in (view object.now)) }
 {
@@ -182,7 +182,7 @@ fn read_optional_count32(object: &Value, member: Member) -> Result<Option<u32>, 
     }
 }
 
-/// What the report is of: the version at which a session stands where a session is named, and a version is not named beside it.
+/// What the report is of: the version at which a session stands if there is `session`, and then `version` is a fault.
 fn read_subject(object: &Value) -> Result<Subject, Fault>
     ensures { IsRead result (subject_in (view object.now)) }
 {
@@ -197,7 +197,7 @@ fn read_subject(object: &Value) -> Result<Subject, Fault>
     Ok(Subject::Head(session))
 }
 
-/// What the report is to tell, with the stage that four reports are of and the version against which two may be.
+/// What the report is: `what`, with `stage` for the four that need one and `against` for the two that can compare.
 fn read_asked(alloc: Global, name: ReportName, object: &Value) -> Result<Asked, Fault>
     ensures { IsRead result (asked_of name (view object.now)) }
 {
@@ -286,8 +286,8 @@ fn read_value(alloc: Global, value: &Value) -> Result<Step, Fault>
     }
 }
 
-/// The step that the bytes of a line name, or the first fault in them: no JSON, the first member that is not of its form,
-/// or last of all a list without edits or of more than 64.
+/// The step in the bytes of a line, or the first fault in them: no JSON, the first member that doesn't have its form,
+/// or last of all a list of no edits or of more than 64.
 pub fn read_step(alloc: Global, bytes: &[u8]) -> Result<Step, Fault>
     ensures { IsRead result (step_of bytes.now) }
 {

@@ -10,7 +10,7 @@ use Rattle.text_io.proofs.Written.{AppendsPrefix-after}
 use Rattle.report_text.specs.Texts.{join_line, line_of, names_line, one_text, stage_line}
 use Rattle.report_text.proofs.LinesOfPlaces.{stops_in_next, writes_on}
 
--- what is left once the dependents are written, and before them the inner stages, the sources and the stage
+-- the rest once the dependents are written, and before them the inner stages, the sources and the stage
 abbrev pub left_after_dependents : PlainGraph → ℕ → Stage → List ℕ
 left_after_dependents graph place stage = join_line graph place
 
@@ -49,7 +49,7 @@ stops_in_stage graph place stage here a b stands stop =
     stops_in_next a a b (one_text graph place stage) _ (line_of (stage_line graph) place here) (left_after_stage graph place stage) (at_first graph place stage a)
     (ap (λ found. line_of (stage_line graph) place found ++ left_after_stage graph place stage) (sym stands)) stop
 
--- the next piece, said of an equal one
+-- the next piece, for an equal text
 pub piece_written : (a b c : Option (List ℕ)) (text piece same more : List ℕ) → AppendsBut (piece ++ more) a b text → same ≡ piece → Appends b c same
     → AppendsBut more a c text
 piece_written a b c text piece same more so_far is written =

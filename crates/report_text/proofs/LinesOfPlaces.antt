@@ -1,4 +1,4 @@
--- The lines of the places that are left.
+-- The lines of the remaining places.
 use Rattle.std.proofs.Common.{◌≡◌, ℕ, ◌+◌, ◌-◌, ◌<◌, suc, zero, Bool, true, false, cond, List, [], ◌∷◌, ◌++◌, arith, sym, ap, ◌∙◌, subst, append_assoc, length, drop, take, get_or, drop-cons, add-one, Option, Result, Ok, Err, OnErr}
 use Rattle.std.proofs.KnownBytes.{Appends-trans}
 use Rattle.std.specs.List.{count_by, flat_map, range_with_len, sum_by}
@@ -21,7 +21,7 @@ pub next_place : (line : ℕ → List ℕ) (place end : ℕ) → place < end
 next_place line place end before_end =
     let one_more : end - place ≡ suc (end - (place + 1)) = omega arith in ap (λ n. flat_map line (range_with_len place n)) one_more
 
--- the same of listed places, or of other listed things
+-- the same for listed places, or for other listed things
 pub next_of : {X : Type 0} (line : X → List ℕ) (places : List X) (i : ℕ) (d : X) → i < length places
     → flat_map line (drop i places) ≡ line (get_or places i d) ++ flat_map line (drop (i + 1) places)
 next_of line places i d within =
@@ -51,7 +51,7 @@ writes_on a b c text rest piece more so_far next here = record {
   whole = so_far.whole ∙ ap (λ l. so_far.written ++ l) next ∙ sym (append_assoc so_far.written piece more);
 }
 
--- what stands in a line that was cleared, once its text was put there
+-- the content of a line that was cleared, once its text was appended
 pub in_the_line : (bytes line cleared text : List ℕ) → bytes ≡ line → line ≡ cleared ++ text → cleared ≡ [] → bytes ≡ text
 in_the_line bytes line cleared text are is empty = are ∙ is ∙ ap (λ l. l ++ text) empty
 
@@ -76,7 +76,7 @@ count_more p n =
     ∙ sum_by-append (λ x. cond (p x) 1 0) (range_with_len 0 n) (n ∷ [])
     ∙ ap (λ m. count_by p (range_with_len 0 n) + m) of_one
 
--- the count goes on at a place that has a line, and stays at one that has none
+-- the count increases at a place that has a line, and stays at one that has none
 pub counts_line : (p : ℕ → Bool) (n count next : ℕ) (has : Bool) → count ≡ count_by p (range_with_len 0 n) → has ≡ p n → has ≡ true → next ≡ count + 1
     → next ≡ count_by p (range_with_len 0 (n + 1))
 counts_line p n count next has so_far is has_line more =
@@ -88,7 +88,7 @@ counts_no_line p n count next has so_far is has_none same =
     let none : count_by p (range_with_len 0 n) ≡ count_by p (range_with_len 0 n) + 0 = omega arith in
     same ∙ so_far ∙ none ∙ ap (λ (b : Bool). count_by p (range_with_len 0 n) + cond b 1 0) (sym has_none ∙ is) ∙ sym (count_more p n)
 
--- the same of listed places
+-- the same for listed places
 taken_more : (p : ℕ → Bool) (places : List ℕ) (i : ℕ) → i < length places → count_by p (take (i + 1) places) ≡ count_by p (take i places) + cond (p (get_or places i 0)) 1 0
 taken_more p places i within =
     let place = get_or places i 0 in

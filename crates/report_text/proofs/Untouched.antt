@@ -1,4 +1,4 @@
--- A stage that the edits don't touch completes as it did in the parent, so the report of moved stages is that of the touched ones by place.
+-- A stage that the edits don't touch completes as in the parent, so the report of moved stages needs only the touched ones, by place.
 use Rattle.std.proofs.Common.{ℕ, zero, suc, ◌+◌, ◌≡◌, Bool, true, false, cond, List, [], ◌∷◌, ◌++◌, length, Option, Some, None, refl, sym, ap, ◌∙◌, inl, inr, arith}
 use Rattle.std.specs.Prelude.{IfSome, count_by, filter, is_some, nat_lt}
 use Rattle.std.specs.List.{flat_map, sum_by}
@@ -71,7 +71,7 @@ module _ (version : PlainVersion) (keeps : IfSome version.origin (λ origin. Kee
   unmoved : (place : ℕ) → is_among place (touched_of version) ≡ false → shift_at version place ≡ None
   unmoved place elsewhere = by_origin version.origin refl keeps place elsewhere
 
--- ---- what says nothing of the others is the same on those that pass a test
+-- ---- elements whose line is empty can be filtered out
 
 lines_of : (line : ℕ → List ℕ) (test : ℕ → Bool) → ((place : ℕ) → test place ≡ false → line place ≡ []) → (places : List ℕ) → flat_map line places ≡ flat_map line (filter test places)
 lines_of line test none [] = refl

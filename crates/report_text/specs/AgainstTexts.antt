@@ -23,7 +23,7 @@ done_at graph place = option_map (λ stage. (state_of graph place).done) (stage_
 abbrev pub done_of : PlainGraph → List ℕ → Option (Option Done)
 done_of graph name = option_and_then (done_at graph) (place_named graph.places name)
 
--- ---- changes: the stages that are not as in the other version
+-- ---- changes: the stages that differ from the other version
 
 -- whether two completions, each in its graph, blame stages of one name, or both none
 abbrev pub same_blamed : PlainGraph → Option ℕ → PlainGraph → Option ℕ → Bool
@@ -31,14 +31,14 @@ same_blamed graph None other None = true
 same_blamed graph (Some place) other (Some there) = bytes_eq (name_of (stage_at graph.places place)) (name_of (stage_at other.places there))
 same_blamed graph place other there = false
 
--- whether two stages, each in its graph, are both pending, or completed alike
+-- whether two stages, each in its graph, are both pending, or completed in the same way
 abbrev pub same_done : PlainGraph → Option Done → PlainGraph → Option Done → Bool
 same_done graph None other None = true
 same_done graph (Some done) other (Some there) =
     same_outcome done.outcome there.outcome && (nat_eq done.moment there.moment && same_blamed graph done.from other there.from)
 same_done graph here other there = false
 
--- whether a stage is not as the one of its name, or that one is not there
+-- whether a stage differs from the one of its name, or that one is not there
 abbrev pub is_unlike : PlainGraph → Option Done → PlainGraph → Option (Option Done) → Bool
 is_unlike graph here other None = true
 is_unlike graph here other (Some there) = not (same_done graph here other there)
@@ -46,7 +46,7 @@ is_unlike graph here other (Some there) = not (same_done graph here other there)
 abbrev pub is_changed : PlainVersion → PlainVersion → ℕ → Stage → Bool
 is_changed version against place stage = is_unlike version.graph (state_of version.graph place).done against.graph (done_of against.graph stage.name)
 
--- what the stage of the name is there
+-- what the stage of the name is there: absent, or its state
 abbrev pub there_text : Option (Option Done) → List ℕ
 there_text None = codes "absent"
 there_text (Some done) = completion_text done
@@ -56,7 +56,7 @@ abbrev pub unlike_line : PlainVersion → PlainVersion → ℕ → Stage → Lis
 unlike_line version against place stage =
     stage.name ++ codes " " ++ there_text (done_of against.graph stage.name) ++ codes " -> " ++ state_text (state_of version.graph place) ++ line_end
 
--- no line where the stage is as there
+-- no line where the stage is the same
 abbrev pub change_against : PlainVersion → PlainVersion → ℕ → Stage → List ℕ
 change_against version against place stage = if is_changed version against place stage then unlike_line version against place stage else []
 
@@ -75,7 +75,7 @@ drift_against version against place stage = shift_line stage (shift_against vers
 
 -- ---- the reports
 
--- whether the stage at a place passes; no where none stands
+-- whether the stage at a place passes; false where none stands
 abbrev pub passes : (ℕ → Stage → Bool) → ℕ → Option Stage → Bool
 passes test place None = false
 passes test place (Some stage) = test place stage

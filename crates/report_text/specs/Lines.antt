@@ -1,4 +1,4 @@
--- The reports of a header, and then a line for each place or for some of them; `against` is the version with which two of them compare.
+-- The reports of a header, and then a line for each place or for some of them; `against` is the version that two of them compare with.
 use Rattle.std.specs.Prelude.{ℕ, Bool, List, ◌++◌, is_some, count_by}
 use Rattle.std.specs.List.{flat_map}
 use Rattle.stage_graph.specs.Plain.{stage_at, all_places}
@@ -35,11 +35,11 @@ place_line Times version against place = line_of (times_line version.graph) plac
 place_line ChangesAgainst version against place = line_of (change_against version against) place (stage_at version.graph.places place)
 place_line ShiftsAgainst version against place = line_of (drift_against version against) place (stage_at version.graph.places place)
 
--- a report that goes over all places
+-- a report on all places
 abbrev pub lines_text : Lines → PlainVersion → PlainVersion → List ℕ
 lines_text lines version against = header lines version against (line_count lines version against) ++ flat_map (place_line lines version against) (all_places version.graph.places)
 
--- ---- the reports that go over the touched stages alone
+-- ---- the reports on the touched stages only
 
 -- the line of a place
 abbrev pub touched_line : TouchedLines → PlainVersion → ℕ → List ℕ

@@ -33,7 +33,7 @@ feed_text graph place = name_of (stage_at graph.places place)
 abbrev pub own_text : Reason → List ℕ
 own_text reason = codes " queued " ++ decimal reason.queued ++ codes " ran " ++ decimal reason.ran
 
--- since what, and by what
+-- after which event it completed, or what it waits for
 abbrev pub because_text : PlainGraph → Stage → Reason → Cause → List ℕ
 because_text graph stage reason Created = own_text reason ++ codes " created " ++ decimal stage.created
 because_text graph stage reason (After place) = own_text reason ++ codes " after " ++ feed_text graph place

@@ -1,4 +1,4 @@
--- Which text a report is, and what a call that failed has done.
+-- The text of each report, and the effect of a call that failed.
 use Rattle.std.specs.Prelude.{ℕ, List, Option, Some, Result, Ok, Err}
 use Rattle.std.specs.Option.{option_map}
 use Rattle.stage_graph.specs.Plain.{stage_at}
@@ -20,7 +20,7 @@ text version Changes = Some (changes_text version)
 text version Drift = Some (drift_text version)
 text version Times = Some (times_text version)
 
--- one where a failed write ended the call
+-- the count of failed writes: one if a failed write ended the call
 abbrev pub failed_writes : {A : Type 0} → Result A ReportFault → ℕ
 failed_writes (Ok done) = 0
 failed_writes (Err NoStage) = 0

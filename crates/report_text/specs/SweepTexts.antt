@@ -23,7 +23,7 @@ abbrev pub trial_line : PlainGraph → ℕ → Trial → List ℕ
 trial_line graph tick trial = feed_text graph trial.place ++ codes " sooner " ++ decimal (tick - trial.moment)
     ++ codes " -> " ++ outcome_text trial.outcome ++ codes " at " ++ decimal trial.moment ++ line_end
 
--- the first so many of them, or all
+-- the first trials, up to this many
 abbrev pub first_of : Option ℕ → List Trial → List Trial
 first_of None trials = trials
 first_of (Some most) trials = take most trials

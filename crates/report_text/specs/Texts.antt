@@ -1,4 +1,4 @@
--- The texts of the reports, each as one chain in the order in which it is written.
+-- The texts of the reports, each written as one chain in the order of its parts.
 use Rattle.std.specs.Prelude.{ℕ, ◌-◌, List, [], ◌∷◌, ◌++◌, Option, None, Some, codes, is_some, count_by, length, nat_lt, if◌then◌else◌}
 use Rattle.std.specs.List.{flat_map}
 use Rattle.std.specs.Fmt.{decimal}
@@ -104,7 +104,7 @@ times_text version = times_header version (live_count version.graph.places) ++ e
 abbrev pub shift_between : ℕ → ℕ → Option Shift
 shift_between old new = if nat_lt old new then Some (Later (new - old)) else if nat_lt new old then Some (Earlier (old - new)) else None
 
--- the same of a completion in the parent and one here, where there are both
+-- the same for a completion in the parent and one here, if there are both
 abbrev pub shift_since : Before → Option ℕ → Option Shift
 shift_since stood.Absent new = None
 shift_since stood.Pending new = None

@@ -1,4 +1,4 @@
-//! How a stage stands against the one of its name in another version.
+//! The comparison of a stage with the one of its name in another version.
 ghost use Rattle.std.specs.Prelude.{◌≡◌, ◌++◌, Some, OnOk, string_bytes};
 ghost use Rattle.stage_graph.specs.Plain.{stage_at};
 ghost use Rattle.propagate.specs.Completions.{same_outcome};
@@ -46,7 +46,7 @@ fn same_blamed<R: Representation>(
     }
 }
 
-/// Whether two stages, each in its graph, are both pending, or completed alike.
+/// Whether two stages, each in its graph, are both pending, or completed in the same way.
 fn same_done<R: Representation>(
     graph: &Graph<R>,
     done: &Option<Done>,
@@ -66,7 +66,7 @@ fn same_done<R: Representation>(
     }
 }
 
-/// Whether a stage is not as the one in another graph, or that one is not there.
+/// Whether a stage differs from the one in another graph, or that one is not there.
 fn is_unlike<R: Representation>(
     graph: &Graph<R>,
     done: &Option<Done>,
@@ -81,7 +81,7 @@ fn is_unlike<R: Representation>(
     }
 }
 
-/// Whether a stage is not as the one of its name in the other version, or that one is not there.
+/// Whether a stage differs from the one of its name in the other version, or that one is not there.
 pub(crate) fn is_changed<R: StateRepresentation>(
     version: &Version<R>,
     against: &Version<R>,
@@ -96,7 +96,7 @@ pub(crate) fn is_changed<R: StateRepresentation>(
     is_unlike(version.graph(), &done, against.graph(), &there)
 }
 
-/// What the stage is there and what it is here, or nothing where it is as there.
+/// What the stage is there and what it is here, or nothing if both are the same.
 pub(crate) fn push_change_against<R: StateRepresentation>(
     line: &mut String,
     version: &Version<R>,
@@ -145,7 +145,7 @@ fn push_there(line: &mut String, there: Option<Option<Done>>) -> Result<(), Allo
     }
 }
 
-/// How much later or earlier a completion is, where there is one there too and at another moment.
+/// How much later or earlier a completion is, if there is one there too and at another moment.
 fn shift_from(there: &Option<Option<Done>>, moment: Option<u64>) -> Option<Shift>
     ensures { result ≡ shift_from there.now moment }
 {
@@ -155,7 +155,7 @@ fn shift_from(there: &Option<Option<Done>>, moment: Option<u64>) -> Option<Shift
     }
 }
 
-/// How much later or earlier than the one of its name a stage completes, where both do and at another moment.
+/// How much later or earlier than the one of its name a stage completes, if both complete and at another moment.
 pub(crate) fn shift_against<R: StateRepresentation>(
     version: &Version<R>,
     against: &Version<R>,

@@ -12,7 +12,7 @@ use std::alloc::AllocError;
 use std::fmt::Write;
 use version_store::Version;
 
-/// Puts the first line of a report, with the count of the others, at the end of a text.
+/// Appends the first line of a report, with the count of the others, to a text.
 pub(crate) fn push_header<R: StateRepresentation>(
     line: &mut String,
     lines: Lines,
@@ -30,7 +30,7 @@ pub(crate) fn push_header<R: StateRepresentation>(
     }
 }
 
-// The number of the parent, or a dash.
+// The number of the parent, or a dash if there is none.
 fn push_parent<R: StateRepresentation>(
     line: &mut String,
     version: &Version<R>,
@@ -81,7 +81,7 @@ fn push_comparison<R: StateRepresentation>(
     push_parent(line, version)
 }
 
-/// Puts the first line of the report of moved stages at the end of a text.
+/// Appends the first line of the report of moved stages to a text.
 pub(crate) fn push_drift_header<R: StateRepresentation>(
     line: &mut String,
     version: &Version<R>,
@@ -93,7 +93,7 @@ pub(crate) fn push_drift_header<R: StateRepresentation>(
     writeln!(line, " moved {count}")
 }
 
-/// Puts the first line of the report of touched stages at the end of a text.
+/// Appends the first line of the report of touched stages to a text.
 pub(crate) fn push_changes_header<R: StateRepresentation>(
     line: &mut String,
     version: &Version<R>,

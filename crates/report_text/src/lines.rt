@@ -13,20 +13,20 @@ use std::alloc::AllocError;
 use std::fmt::Write;
 use version_store::Version;
 
-/// What the lines of a report say of a stage.
+/// The content of a report's lines.
 #[derive(Clone, Copy, Debug, PartialEq, Eq)]
 pub(crate) enum Lines {
     /// Its operation, rank and state.
     States,
     /// When its action started, and how long it was queued and ran.
     Times,
-    /// What it is in another version and here, if that is not the same.
+    /// What it is in another version and here, if it differs.
     ChangesAgainst,
     /// How much later or earlier than in another version it completes, if it does.
     ShiftsAgainst,
 }
 
-/// How many places have a line; `against` is the version with which two of the reports compare.
+/// How many places have a line; `against` is the version that two of the reports compare with.
 pub(crate) fn line_count<R: StateRepresentation>(
     lines: Lines,
     version: &Version<R>,
@@ -65,7 +65,7 @@ fn has_line<R: StateRepresentation>(
     }
 }
 
-/// Puts the line of a place at the end of a text, or nothing where it has none.
+/// Appends the line of a place to a text, or nothing if it has none.
 pub(crate) fn push_line<R: StateRepresentation>(
     line: &mut String,
     lines: Lines,

@@ -19,7 +19,7 @@ use std::fmt::Write;
 use text_io::Sink;
 use version_store::Version;
 
-/// Writes a stage, its feeds, its dependents and what `join` answers.
+/// Writes a stage, its feeds, its dependents and the answer of `join`.
 pub(crate) fn write_one<R: StateRepresentation, S: Sink>(
     line: &mut String,
     version: &Version<R>,
@@ -83,7 +83,7 @@ fn write_names<R: StateRepresentation, S: Sink>(
     Ok(())
 }
 
-// Writes what `join` answers on the stage at a place.
+// Writes the answer of `join` on the stage at a place.
 fn write_join<R: StateRepresentation, S: Sink>(
     line: &mut String,
     version: &Version<R>,

@@ -62,7 +62,7 @@ fn write_path_of<R: StateRepresentation, S: Sink>(
     write_each_step(line, version, places, sink)
 }
 
-// Writes the header, which stands in the line's room, and then the line of each of the places.
+// Writes the header, which is in the line buffer, and then the line of each of the places.
 fn write_each_step<R: StateRepresentation, S: Sink>(
     line: &mut String,
     version: &Version<R>,
@@ -103,7 +103,7 @@ fn write_step<R: StateRepresentation, S: Sink>(
     Ok(())
 }
 
-// Puts the line of a place at the end of a text, or nothing at an empty place.
+// Appends the line of a place to a text, or nothing at an empty place.
 fn push_step_at<R: StateRepresentation>(
     line: &mut String,
     version: &Version<R>,
@@ -165,7 +165,7 @@ pub(crate) fn push_at(
     }
 }
 
-// Since what and by what a stage completed, or what it waits for.
+// After which event a stage completed, or what it waits for.
 fn push_because<R: Representation>(
     line: &mut String,
     graph: &Graph<R>,

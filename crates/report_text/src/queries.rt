@@ -1,4 +1,4 @@
-//! What is asked of a version about a stage that is known to be live.
+//! Queries about a stage of a version that is known to be live.
 ghost use Rattle.std.specs.Prelude.{◌≡◌, IfOk};
 ghost use Rattle.stage_graph.specs.Plain.{IsLive, dependents};
 ghost use Rattle.stage_graph.specs.Walk.{rank};
@@ -87,7 +87,7 @@ pub(crate) fn path_of<R: StateRepresentation>(
     }
 }
 
-/// What led to the stage's state.
+/// The reason of the stage's state.
 pub(crate) fn reason_of<R: StateRepresentation>(version: &Version<R>, place: u32) -> Reason
     requires { IsLive version.now.graph.places place }
     ensures { result ≡ reason_at version.now.graph place }
@@ -108,7 +108,7 @@ pub(crate) fn moment_of<R: StateRepresentation>(version: &Version<R>, place: u32
     }
 }
 
-/// The places of the stages that have the stage as a feed.
+/// The dependents: the places of the stages that have the stage as a feed.
 pub(crate) fn dependents_of<R: StateRepresentation>(version: &Version<R>, place: u32) -> &[u32]
     requires { IsLive version.now.graph.places place }
     ensures { result.now ≡ dependents version.now.graph.places place }

@@ -28,7 +28,7 @@ impl fmt::Display for Shift {
 }
 
 impl Shift {
-    /// The shift between two moments, if they are not one.
+    /// The shift between two moments, if they differ.
     pub(crate) fn between(old: u64, new: u64) -> Option<Shift>
         ensures { result ≡ shift_between old new }
     {
@@ -41,7 +41,7 @@ impl Shift {
         }
     }
 
-    /// The shift of a completion in the parent, where there is one, to one here.
+    /// The shift from a completion in the parent, if there is one, to one here.
     fn since(before: Before, moment: Option<u64>) -> Option<Shift>
         ensures { result ≡ shift_since before moment }
     {

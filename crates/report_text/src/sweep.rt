@@ -110,7 +110,7 @@ fn tick_of<R: StateRepresentation>(version: &Version<R>, target: u32) -> u64
     }
 }
 
-/// The first so many of the trials, or all.
+/// The first trials, up to this many.
 fn first_of(most: Option<usize>, trials: &[Trial]) -> &[Trial]
     ensures { result.now ≡ first_of most trials.now }
 {
@@ -120,7 +120,7 @@ fn first_of(most: Option<usize>, trials: &[Trial]) -> &[Trial]
     }
 }
 
-// Writes the header, which stands in the line's room, and then the line of each of the trials.
+// Writes the header, which is in the line buffer, and then the line of each of the trials.
 fn write_each_trial<R: StateRepresentation, S: Sink>(
     line: &mut String,
     version: &Version<R>,

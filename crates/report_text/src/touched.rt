@@ -1,4 +1,4 @@
-//! The reports that go over the touched stages of a version alone: what changed, and how much later or earlier it is.
+//! The reports on the touched stages of a version only: what changed, and how much later or earlier it is.
 ghost use Rattle.std.specs.Prelude.{◌≡◌, ◌≢◌, ◌+◌, ◌-◌, ◌^◌, ◌<◌, ◌++◌, Some, OnOk, OnErr, string_bytes, is_some, count_by};
 ghost use Rattle.std.specs.List.{flat_map};
 ghost use Rattle.std.specs.Io.KnownBytes.{Appends};
@@ -19,7 +19,7 @@ use std::fmt::Write;
 use text_io::Sink;
 use version_store::{Before, Version};
 
-/// What the lines say of a touched stage.
+/// The content of the line of a touched stage.
 #[derive(Clone, Copy, Debug, PartialEq, Eq)]
 pub(crate) enum TouchedLines {
     /// What it was in the parent, and what it is here.
@@ -46,8 +46,8 @@ pub(crate) fn write_changes<R: StateRepresentation, S: Sink>(
     write_each_line(line, TouchedLines::Changes, version, touched, sink)
 }
 
-/// Writes the header, and how much later or earlier than in the parent each stage completes that does. A stage that the
-/// edits don't touch completes as it did, so no other stage is looked at.
+/// Writes the header, and how much later or earlier each stage completes that doesn't complete as in the parent. A stage
+/// that the edits don't touch completes as it did, so only the touched stages are processed.
 pub(crate) fn write_drift<R: StateRepresentation, S: Sink>(
     alloc: Global,
     line: &mut String,
@@ -86,7 +86,7 @@ fn shift_count<R: StateRepresentation>(version: &Version<R>, places: &[u32]) -> 
     count
 }
 
-// Writes the header, which stands in the line's room, and then the line of each of the places.
+// Writes the header, which is in the line buffer, and then the line of each of the places.
 fn write_each_line<R: StateRepresentation, S: Sink>(
     line: &mut String,
     lines: TouchedLines,
@@ -129,7 +129,7 @@ fn write_line<R: StateRepresentation, S: Sink>(
     Ok(())
 }
 
-// Puts the line of a place at the end of a text, or nothing where it has none.
+// Appends the line of a place to a text, or nothing if it has none.
 fn push_line<R: StateRepresentation>(
     line: &mut String,
     lines: TouchedLines,

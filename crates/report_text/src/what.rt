@@ -1,11 +1,11 @@
-//! Which report is asked for.
+//! Which report is requested.
 
 /// A report of a version.
 #[derive(Clone, Copy, Debug, PartialEq, Eq)]
 pub enum What {
     /// Each live stage: its operation, rank and state.
     All,
-    /// The stage at a place, the names of its feeds and dependents, and what `join` answers.
+    /// The stage at a place, the names of its feeds and dependents, and the answer of `join`.
     One(u32),
     /// How the stage at a place came by its exception.
     Blame(u32),

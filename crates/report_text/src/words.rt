@@ -1,4 +1,4 @@
-//! The parts of a line, each put at the end of a text.
+//! The parts of a line, each appended to a text.
 ghost use Rattle.std.specs.Prelude.{◌≡◌, ◌++◌, OnOk, string_bytes};
 ghost use Rattle.stage_graph.specs.Plain.{stage_at};
 ghost use Rattle.report_text.specs.Texts.{mode_text, name_of, names_line, names_text, number_or_dash};

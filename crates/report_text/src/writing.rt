@@ -14,8 +14,8 @@ use propagate::StateRepresentation;
 use text_io::Sink;
 use version_store::Version;
 
-/// Writes the header and the lines of a report that goes over all places; `against` is the version with which two of
-/// these reports compare.
+/// Writes the header and the lines of a report on all places; `against` is the version that two of
+/// these reports compare with.
 pub(crate) fn write_lines<R: StateRepresentation, S: Sink>(
     line: &mut String,
     lines: Lines,
@@ -35,7 +35,7 @@ pub(crate) fn write_lines<R: StateRepresentation, S: Sink>(
     write_each_place(line, lines, version, against, sink)
 }
 
-// Writes the header, which stands in the line's room, and then the line of each place.
+// Writes the header, which is in the line buffer, and then the line of each place.
 fn write_each_place<R: StateRepresentation, S: Sink>(
     line: &mut String,
     lines: Lines,
@@ -58,7 +58,7 @@ fn write_each_place<R: StateRepresentation, S: Sink>(
     Ok(())
 }
 
-/// Writes the line of a place, or nothing where it has none.
+/// Writes the line of a place, or nothing if it has none.
 pub(crate) fn write_place<R: StateRepresentation, S: Sink>(
     line: &mut String,
     lines: Lines,

@@ -1,4 +1,4 @@
--- A script that is read on to the end of a line.
+-- Reading a script up to the end of a line.
 use Rattle.std.proofs.Common.{◌≡◌, ℕ, ◌+◌, ◌<◌, ◌≤◌, Bool, true, false, List, [], ◌++◌, length, refl, sym, ap, ◌∙◌, subst, arith, append_assoc, append-nil, length-append, Option}
 use Rattle.std.specs.Io.KnownBytes.{Consumes}
 use Rattle.std.proofs.KnownBytes.{Consumes-trans}
@@ -7,12 +7,12 @@ use Rattle.script_lines.specs.LineReader.{KeepsRead, ReadsOn, ReadsPiece, TakesL
 use Rattle.script_lines.specs.ReaderView.{ReaderView}
 use Rattle.script_lines.proofs.LineLemmas.{comes_after-last}
 
--- so much was read since the beginning, and less is left to go through
+-- this much was read since the beginning, and less is left to go through
 pub record Reading (before now : ReaderView) (had left : Option (List ℕ)) : Type 0 where
   pub kept : KeepsRead before now had left
   pub shorter : length now.waiting + now.left ≤ length before.waiting + before.left
 
--- the line goes on, and the next piece is read
+-- the line continues, and the next piece is read
 pub reads_more : (before now taken next : ReaderView) (had left still : Option (List ℕ)) (ended more : Bool)
     → Reading before now had left → ended ≡ false → TakesLine ended now taken → taken.left ≡ now.left
     → more ≡ true → ReadsPiece more taken next left still → next.line ≡ taken.line → Reading before next had still
@@ -36,7 +36,7 @@ reads_more before now taken next had left still ended more so_far goes_on takes 
       shorter = omega (arith, short, counted, same);
     }
 
--- the line goes on, and the source has ended
+-- the line continues, and the source has ended
 pub reads_last : (before now taken next : ReaderView) (had left still : Option (List ℕ)) (ended more : Bool)
     → Reading before now had left → ended ≡ false → TakesLine ended now taken → taken.left ≡ now.left → 0 < taken.left → IsBegun taken.line
     → more ≡ false → ReadsPiece more taken next left still → next.line ≡ taken.line → ReadsOn false before next had still

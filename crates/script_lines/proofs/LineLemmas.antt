@@ -5,11 +5,11 @@ use Rattle.std.proofs.lemmas.List.Splits.{slice_split_at, slice_split_none}
 use Rattle.std.proofs.lemmas.List.Elements.{All-append, recursion_from_All}
 use Rattle.script_lines.specs.Lines.{ScriptLine, kept, too_long, is_break, is_blank, line_in, lines_of, IsBegun, IsUnbroken, past_break, line_begun, comes_after}
 
--- what is unbroken and then ends is one line
+-- text without a line end, and then a line end, is one line
 pub lines_of-end : (text bytes : List ℕ) (byte : ℕ) → IsUnbroken text → is_break byte ≡ true → lines_of (text ++ byte ∷ bytes) ≡ cons_option (line_in text) (lines_of bytes)
 lines_of-end text bytes byte unbroken is_end = ap (filter_map line_in) (slice_split_at is_break text byte bytes unbroken is_end)
 
--- what is unbroken is one line
+-- text without a line end is one line
 pub lines_of-last : (text : List ℕ) → IsUnbroken text → lines_of text ≡ cons_option (line_in text) []
 lines_of-last text unbroken = ap (filter_map line_in) (slice_split_none is_break text unbroken)
 
@@ -71,7 +71,7 @@ pub comes_after-last : (line : Option (List ℕ)) → IsBegun line → comes_aft
 comes_after-last None begun = refl
 comes_after-last (Some text) begun = ap lines_of (append-nil text) ∙ lines_of-last text begun.0
 
--- a line end comes in what follows
+-- a line end comes in the following bytes
 pub comes_after-line : (was is : Option (List ℕ)) (piece after bytes rest : List ℕ) → ((next : List ℕ) → comes_after was (piece ++ next) ≡ comes_after is next)
     → IsBegun is → rest ≡ piece ++ 10 ∷ after → comes_after was (rest ++ bytes) ≡ cons_option (line_begun is) (lines_of (after ++ bytes))
 comes_after-line was is piece after bytes rest goes_on begun parts =

@@ -7,7 +7,7 @@ use Rattle.std.proofs.Math.Seq.{drop-append-add}
 pub length-slice_range : (xs : List ℕ) (i j : ℕ) → i ≤ j → j ≤ length xs → length (slice_range xs i j) ≡ j - i
 length-slice_range xs i j ascending within = length-take-le (j - i) (drop i xs) (let left = length-drop i xs in omega (arith, left, ascending, within))
 
--- what is left of a part past its first line end
+-- the rest of a piece after its first line end
 pub slice_range-past : (xs : List ℕ) (i j : ℕ) (line after : List ℕ) → i ≤ j → j ≤ length xs → slice_range xs i j ≡ line ++ 10 ∷ after
     → (slice_range xs (i + (length line + 1)) j ≡ after) × (i + (length line + 1) ≤ j) × (length after < length (slice_range xs i j))
 slice_range-past xs i j line after ascending within parts =

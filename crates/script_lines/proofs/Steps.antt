@@ -19,7 +19,7 @@ pub on_err : {T E P : Type 0} (r : Result T E) → P → OnErr r P
 on_err (Ok x) p = tt
 on_err (Err e) p = p
 
--- the answers to whatever comes, where so much was read, or a reader holds so much
+-- the answers to whatever follows, once this much was read, or when a reader holds this much
 abbrev pub to_all : (List ScriptLine → List ℕ) → List ℕ → List ℕ → List ℕ
 to_all answers read bytes = answers (lines_of (read ++ bytes))
 
@@ -46,7 +46,7 @@ stops_in_line before reader taken line ended a b is_end takes is stop =
     StopsShort-at _ _ a b (λ bytes. lines_of (taken.waiting ++ bytes))
     (λ bytes. ap before (taking bytes ∙ ap (λ l. cons_option l (lines_of (taken.waiting ++ bytes))) (sym is))) stop
 
--- ---- a line that goes on
+-- ---- a line that continues
 
 pub goes_on : (answers after : List ScriptLine → List ℕ) (before reader taken : ReaderView) (ended : Bool) (a b : Option (List ℕ))
     → ended ≡ false → TakesLine ended reader taken → Advances (to_rest answers before) (to_rest after reader) a b → Advances (to_rest answers before) (to_rest after taken) a b
@@ -82,7 +82,7 @@ reads_end read reader next before had left more so_far is_last piece =
     let (consumed, end, empty, kept) = subst (λ b. ReadsPiece b reader next had left) is_last piece in
     (subst (Consumes before left) (append-nil read) (Consumes-trans before had left read [] so_far consumed), end)
 
--- what was written when the reading stops
+-- what was written when reading stops
 pub written_so_far : (answers : List ScriptLine → List ℕ) (read : List ℕ) (a b : Option (List ℕ)) → StopsShort (to_all answers read) a b → AppendsPrefix a b (answers (lines_of read))
 written_so_far answers read a b stop = subst (λ l. AppendsPrefix a b (answers (lines_of l))) (append-nil read) (stop [])
 

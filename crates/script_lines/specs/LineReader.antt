@@ -1,4 +1,4 @@
--- What a line reader reads, and what it gives.
+-- What a line reader reads, and what it returns.
 use Rattle.std.specs.Prelude.{◌≡◌, ℕ, ◌+◌, ◌<◌, ◌≤◌, Bool, true, false, List, [], ◌++◌, length, Option}
 use Rattle.std.specs.List.{cons_option}
 use Rattle.std.specs.Io.KnownBytes.{Consumes, IsAtEnd}
@@ -11,7 +11,7 @@ use Rattle.script_lines.specs.declared.fault.ServeFault.{ServeFault}
 abbrev pub line_read : ReaderView → Option ScriptLine
 line_read reader = line_begun reader.line
 
--- a line has ended: it is the first of those to come. Or nothing waits any more
+-- a line has ended: it is the first of those to come. Or nothing is unread any more
 abbrev pub TakesLine : Bool → ReaderView → ReaderView → Type 0
 TakesLine true before after =
     ((bytes : List ℕ) → comes_after before.line (before.waiting ++ bytes) ≡ cons_option (line_read after) (lines_of (after.waiting ++ bytes)))
@@ -20,12 +20,12 @@ TakesLine false before after =
     ((bytes : List ℕ) → comes_after before.line (before.waiting ++ bytes) ≡ comes_after after.line bytes)
     × (after.waiting ≡ [])
 
--- this piece was read, of so many bytes that might be; or the source has ended
+-- this piece was read, of at most this many bytes; or the source has ended
 abbrev pub IsPiece : Bool → List ℕ → ℕ → ℕ → Option (List ℕ) → Option (List ℕ) → Type 0
 IsPiece true piece before after had left = Consumes had left piece × (length piece + after ≡ before) × (0 < length piece)
 IsPiece false piece before after had left = Consumes had left [] × IsAtEnd left × (piece ≡ []) × (after ≡ before)
 
--- what waits is a piece that was read
+-- the unread bytes are a piece that was read
 abbrev pub ReadsPiece : Bool → ReaderView → ReaderView → Option (List ℕ) → Option (List ℕ) → Type 0
 ReadsPiece more before after had left = IsPiece more after.waiting before.left after.left had left
 
@@ -37,20 +37,20 @@ GivesLine true before after piece left =
 GivesLine false before after piece left =
     (lines_of (before.waiting ++ piece) ≡ cons_option (line_read after) []) × (after.waiting ≡ []) × IsAtEnd left × (0 < after.left)
 
--- what was read on the way to the end of a line, or of the source
+-- what was read up to the end of a line, or of the source
 pub record ReadsOn (more : Bool) (before after : ReaderView) (had left : Option (List ℕ)) : Type 0 where
   pub piece : List ℕ
   pub consumed : Consumes had left piece
   pub counted : length piece + after.left ≡ before.left
   pub gives : GivesLine more before after piece left
 
--- what was read before a fault ended it
+-- what was read before a fault
 pub record StopsReading (fault : ServeFault) (most : ℕ) (had left : Option (List ℕ)) (failures_before failures_after : ℕ) : Type 0 where
   pub piece : List ℕ
   pub consumed : Consumes had left piece
   pub reads : ReadsEndBy fault (length piece) most failures_before failures_after
 
--- no byte that was read is lost: a line is begun, and the lines that come are those of all that waited and was read
+-- no byte that was read is lost: a line is begun, and the lines that come are those of all that was unread and was read
 pub record KeepsRead (before after : ReaderView) (had left : Option (List ℕ)) : Type 0 where
   pub piece : List ℕ
   pub consumed : Consumes had left piece

@@ -3,7 +3,7 @@ use Rattle.std.specs.Prelude.{ℕ, ◌≤◌, length}
 use Rattle.script_lines.specs.Lines.{IsUnbroken}
 use Rattle.script_lines.specs.declared.partial_line.PartialLine.TheInside.{Inside}
 
--- what is kept is of one line, and no more than a line may have
+-- what is kept has no line end, and is no longer than a line may be
 pub record IsPartialLine (partial : Inside) : Type 0 where
   pub unbroken : IsUnbroken partial.text.items
   pub short : length partial.text.items ≤ 65536

@@ -3,7 +3,7 @@ use Rattle.std.specs.Prelude.{ℕ, ◌<◌, ◌≤◌, length}
 use Rattle.script_lines.specs.Lines.{IsBegun}
 use Rattle.script_lines.specs.declared.line_reader.LineReader.TheInside.{Inside}
 
--- what waits stands in the buffer, which has room, and the line is one that may be begun
+-- the unread bytes are in the buffer, which has capacity, and the line is one that may be begun
 pub record IsLineReader (reader : Inside) : Type 0 where
   pub begun : IsBegun reader.line
   pub ascending : reader.taken ≤ reader.filled

@@ -1,7 +1,7 @@
--- What a line reader holds.
+-- The state of a line reader.
 use Rattle.std.specs.Prelude.{ℕ, List, Option}
 
--- how much of a line was read (None: more than a line may have), what was read and stands in no line yet, and how many bytes
+-- the part of a line that was read (None: longer than a line may be), what was read and is in no line yet, and how many bytes
 -- may still be read
 pub record ReaderView : Type 0 where
   pub line : Option (List ℕ)

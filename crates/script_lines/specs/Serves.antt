@@ -1,4 +1,4 @@
--- What was read and written of a script.
+-- What was read of a script, and what was written.
 use Rattle.std.specs.Prelude.{◌≡◌, ℕ, ◌+◌, ◌<◌, ◌≤◌, ◌⊎◌, List, length, Option}
 use Rattle.std.specs.Io.KnownBytes.{Appends, Consumes, IsAtEnd}
 use Rattle.text_io.specs.Sink.{AppendsPrefix}

@@ -1,4 +1,4 @@
-//! What ends the loop early.
+//! Why a loop over the lines ends early.
 ghost use Rattle.std.specs.Prelude.{◌≡◌};
 ghost use Rattle.script_lines.specs.Faults.{answer_number, serve_number};
 
@@ -6,7 +6,7 @@ use std::alloc::AllocError;
 use text_io::{ReadFault, WriteFault};
 use thiserror::Error;
 
-/// Why a line was not answered to its end.
+/// Why a line was not fully answered.
 #[derive(Clone, Copy, Debug, PartialEq, Eq, Error)]
 pub enum AnswerFault {
     #[error("Memory")]
@@ -15,7 +15,7 @@ pub enum AnswerFault {
     Write,
 }
 
-/// Why the lines were not answered to their end.
+/// Why the lines were not all answered.
 #[derive(Clone, Copy, Debug, PartialEq, Eq, Error)]
 pub enum ServeFault {
     #[error("Memory")]

@@ -1,4 +1,4 @@
-//! The lines of a script: how they are put together from the bytes that come, and what it is to answer them.
+//! The lines of a script: how they are assembled from the bytes that are read, and the loop that answers them.
 #![tactic(auto)]
 
 mod fault;

@@ -15,14 +15,14 @@ use std::marker::Model;
 use text_io::{ReadFault, Source};
 
 /// Reads the lines of a script one after the other, a piece of the script at a time. Contracts see the line that was read
-/// last, what was read past it, and how many bytes may still be read.
+/// last, the bytes read after it, and how many bytes may still be read.
 #[derive(Drop)]
 pub struct LineReader {
     // The line that was read last.
     line: PartialLine,
     // The piece that was read last.
     buffer: Vec<u8>,
-    // How much of the piece was taken.
+    // How much of the piece was used.
     taken: usize,
     // How long the piece is.
     filled: usize,
@@ -48,7 +48,7 @@ impl Model for LineReader {
 }
 
 impl LineReader {
-    /// Reads at most so many bytes, through this buffer.
+    /// A reader of at most this many bytes, through this buffer.
     pub fn new(alloc: Global, buffer: Vec<u8>, most: usize) -> LineReader
         requires { 0 < length buffer.items }
         ensures line { result.line ≡ Some [] }
@@ -64,7 +64,7 @@ impl LineReader {
         }
     }
 
-    /// The line, if it has ended and is no blank one.
+    /// The line, if it has ended and is not blank.
     pub fn line(&self) -> Option<Line<'_>>
         ensures { option_map seen result ≡ line_read self.now }
     {
@@ -87,8 +87,8 @@ impl LineReader {
         self.line.clear();
     }
 
-    /// Takes what waits, up to the end of the line. False where the line goes on. Where memory is refused the reader is
-    /// what it was.
+    /// Takes the unread bytes, up to the end of the line. False if the line continues. If out of memory, the reader stays
+    /// as it was.
     pub fn take_line(&mut self) -> Result<bool, AllocError>
         ensures begun { IsBegun self.new.line }
         ensures left { self.new.left ≡ self.old.left }
@@ -110,7 +110,7 @@ impl LineReader {
         }
     }
 
-    /// Reads the next piece, where nothing waits. False where the source has ended. Where the read fails the reader is what
+    /// Reads the next piece, if nothing is unread. False if the source has ended. If the read fails, the reader stays as
     /// it was.
     pub fn read_more<R: Source>(&mut self, source: &mut R) -> Result<bool, ReadFault>
         requires waiting { self.old.waiting ≡ [] }
@@ -129,8 +129,8 @@ impl LineReader {
         Ok(count > 0)
     }
 
-    /// Goes on to the end of the next line, and reads as much as that takes. False where the source has ended: then
-    /// the line is the last one. Where a fault ends it, all that was read stands in the reader.
+    /// Continues to the end of the next line, and reads as much as that takes. False if the source has ended: then
+    /// the line is the last one. If a fault ends the call, all that was read is still in the reader.
     pub fn advance<R: Source>(&mut self, source: &mut R) -> Result<bool, ServeFault>
         requires { R.failures source.old < 2 ^ 64 - 1 }
         ensures reads { IfOk result (λ more. ReadsOn more self.old self.new (R.remaining source.old) (R.remaining source.new)) }
@@ -152,7 +152,7 @@ impl LineReader {
     }
 }
 
-// Reads to the front of the buffer, and no more than so many bytes.
+// Reads to the front of the buffer, and at most this many bytes.
 fn read_part<R: Source>(source: &mut R, buffer: &mut [u8], most: usize) -> Result<usize, ReadFault>
     requires buffer { 0 < length buffer.old }
     requires most { 0 < most }

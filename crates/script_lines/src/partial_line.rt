@@ -11,7 +11,7 @@ use std::marker::Model;
 // The most bytes that a line may have.
 const LONGEST: usize = 65_536;
 
-/// What came of a line so far. Contracts see its bytes, or none where they are more than a line may have.
+/// The part of a line that was read. Contracts see its bytes, or none if it is longer than a line may be.
 #[derive(Drop)]
 pub struct PartialLine {
     text: Vec<u8>,
@@ -41,7 +41,7 @@ impl PartialLine {
         }
     }
 
-    /// Takes more of the line. Where memory is refused the line is what it was.
+    /// Appends to the line. If out of memory, the line stays as it was.
     pub fn extend(&mut self, piece: &[u8]) -> Result<(), AllocError>
         requires { IsUnbroken piece.now }
         ensures begun { IsBegun self.new }
@@ -58,7 +58,7 @@ impl PartialLine {
         Ok(())
     }
 
-    /// The line, if it ends here and is no blank one.
+    /// The line, if it ends here and is not blank.
     pub fn line(&self) -> Option<Line<'_>>
         ensures { option_map seen result ≡ line_begun self.now }
     {
@@ -80,7 +80,7 @@ impl PartialLine {
     }
 }
 
-/// What stands before the first line end, and what stands after it.
+/// The bytes before the first line end, and the bytes after it.
 pub fn split_line(text: &[u8]) -> Option<(&[u8], &[u8])>
     ensures some { IfSome result (λ parts. IsUnbroken parts.0.now × (text.now ≡ parts.0.now ++ 10 ∷ parts.1.now)) }
     ensures none { IsNone result → IsUnbroken text.now }

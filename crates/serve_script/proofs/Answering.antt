@@ -1,4 +1,4 @@
--- What was written in answer.
+-- What is written in answer to a line.
 use Rattle.std.proofs.Common.{◌≡◌, ◌⊎◌, inl, inr, ◌∙◌, ℕ, ◌<◌, min, length, take, length-take, arith, Bool, false, List, [], ◌∷◌, ◌++◌, Option, Some, None, unwrap_or, Result, Ok, Err, OnOk, OnErr, ap, sym, subst, refl}
 use Rattle.std.specs.Io.KnownBytes.{Appends}
 use Rattle.text_io.specs.Sink.{AppendsPrefix, Advances, StopsShort}
@@ -58,7 +58,7 @@ pub event_told : (s t : State) (event : Event) (listed : Bool) (reply : Reply) �
     → answer_event s event listed ≡ answered (reply_line (base_in t event) event listed reply) t
 event_told s t event listed reply is = ap (told s event listed) is
 
--- a part of the reply's line
+-- a part of the reply's line is written
 pub reply_part : (s t : State) (event : Event) (listed : Bool) (reply : Reply) (bytes line clear : List ℕ) (base : Option PlainVersion) (a b : Option (List ℕ))
     → bytes ≡ line → line ≡ clear ++ reply_line base event listed reply → clear ≡ [] → base ≡ base_in s event → s ≡ t
     → AppendsPrefix a b bytes → AppendsPrefix a b (reply_line (base_in t event) event listed reply)
@@ -149,8 +149,8 @@ then_part_told (Ok x) o a b c none part all = tt
 then_part_told (Err e) o a b c none part all =
     subst (λ p. AppendsPrefix a c (or_no_stage p)) (sym none) (AppendsPrefix-after a b c [] (or_no_stage None) (nothing_written o a b none part) all)
 
--- ---- room to read
+-- ---- room in the read buffer
 
--- a buffer of some bytes has room for some of what is left
+-- a buffer of some bytes can take some of the remaining input
 pub has_room : (room : ℕ) (buffer : List ℕ) (len left given : ℕ) → room ≡ min left (length buffer) → len ≡ length (take room buffer) → length buffer ≡ given → 0 < given → 0 < left → 0 < len
 has_room room buffer len left given is same kept some more = let taken = length-take room buffer in omega (arith, is, same, taken, kept, some, more)

@@ -49,7 +49,7 @@ told s event listed (Some booked) = (reply_line (base_in booked.1 event) event l
 abbrev pub answer_event : State → Event → Bool → Answered
 answer_event s event listed = told s event listed (step s event)
 
--- edits of the version at which the session stands; where no session stands there, the refusal is told
+-- edits of the version at which the session stands; if the session is not open, the refusal is written
 abbrev pub on_head : ℕ → List Edit → Bool → State → Reply → Answered
 on_head session edits listed t (replied.At base) = answer_event t (event.Commit session base edits) listed
 on_head session edits listed t reply = (reply_line None (event.Head session) listed reply, t)
@@ -68,7 +68,7 @@ answer_change s session (Some base) edits listed = answer_event s (event.Commit 
 
 -- ---- reports
 
--- the report of one version that is asked for; none of a stage that is not there, and none where the report is a sweep or a comparison
+-- the requested report of one version; none for a stage that is not there, and none where the report is a sweep or a comparison
 abbrev pub what_asked : List (Option Stage) → Asked → Option What
 what_asked places asked.All = Some what.All
 what_asked places (asked.One name) = option_map what.One (place_named places name)
@@ -106,7 +106,7 @@ abbrev pub compared_asked : Comparison → PlainVersion → Option PlainVersion 
 compared_asked comparison version None = no_version_line
 compared_asked comparison version (Some against) = comparison_text comparison version against
 
--- the report of a version that is asked for; `against` is the version of the number that it compares with
+-- the requested report of a version; `against` is the version of the number that it compares with
 abbrev pub report_asked : PlainVersion → Option PlainVersion → Asked → List ℕ
 report_asked version against asked.All = told_asked version asked.All
 report_asked version against (asked.One name) = told_asked version (asked.One name)
@@ -127,7 +127,7 @@ report_of (Some version) against asked = report_asked version against asked
 abbrev pub report_among : List PlainVersion → ℕ → Asked → List ℕ
 report_among versions number asked = report_of (slice_get versions number) (option_and_then (slice_get versions) (against_in asked)) asked
 
--- a report of the version at which the session stands; where no session stands there, the refusal is told
+-- a report of the version at which the session stands; if the session is not open, the refusal is written
 abbrev pub on_stand : ℕ → Asked → State → Reply → Answered
 on_stand session asked t (replied.At version) = (report_among t.versions version asked, t)
 on_stand session asked t reply = (reply_line None (event.Head session) false reply, t)
@@ -156,7 +156,7 @@ answer_step s (Report subject asked) = answer_report s subject asked
 abbrev pub fault_line : Fault → List ℕ
 fault_line fault = fault_text fault ++ line_end
 
--- the step that a line names is done; a fault in it is told
+-- the step on a line is executed; a fault in it is written
 abbrev pub answer_named : State → Result Step Fault → Answered
 answer_named s (Ok step) = answer_step s step
 answer_named s (Err fault) = (fault_line fault, s)
@@ -170,7 +170,7 @@ abbrev pub answers_from : State → List ScriptLine → List ℕ
 answers_from s [] = []
 answers_from s (line ∷ lines) = (answer_line s line).0 ++ answers_from (answer_line s line).1 lines
 
--- version 0 has the graph, and there may be 65,536 versions
+-- version 0 has the graph, and there may be up to 65,536 versions
 abbrev pub opening_state : PlainGraph → State
 opening_state graph = opening (opening_version graph) (2 ^ 16)
 
@@ -181,7 +181,7 @@ answers_to graph lines = answers_from (opening_state graph) lines
 abbrev pub answers : PlainGraph → List ℕ → List ℕ
 answers graph bytes = answers_to graph (lines_of bytes)
 
--- ---- what a call has done
+-- ---- the effect of a call
 
 -- this was written, and this is the state
 abbrev pub IsAnswered : Answered → State → Option (List ℕ) → Option (List ℕ) → Type 0

@@ -20,14 +20,14 @@ use Rattle.session_core.specs.Refusals.{refusal_index, refusal_text}
 use Rattle.session_core.specs.declared.refusal.Refusal.{Refusal}
 use Rattle.session_core.specs.declared.refusal.Refusal.TheVariants.{Edits, Moved, Foreign}
 
--- ---- the stage that stands in the way of a removal
+-- ---- the dependent that prevents a removal
 
 -- the name of the stage that an edit adds
 abbrev pub added_in : Edit → Option (List ℕ)
 added_in (Add stage) = Some stage.name
 added_in others = None
 
--- the stage at a place has the name: it is one of the base's, or an edit adds it past these
+-- the stage at a place has the name: it is one of the base's, or an edit adds it after these
 abbrev pub name_of_user : List (Option Stage) → List Edit → ℕ → List ℕ
 name_of_user places edits place =
     if nat_lt place (length places) then name_of (stage_at places place) else slice_index_or (filter_map added_in edits) (place - length places) []
@@ -65,7 +65,7 @@ index_text false index = []
 abbrev pub refused_line : Option PlainVersion → Event → Bool → Refusal → List ℕ
 refused_line base event listed refusal = codes "refused " ++ refusal_text refusal ++ detail_text base event refusal ++ index_text listed (refusal_index refusal) ++ line_end
 
--- the line of the reply to an event, which is of this base if it is a commit
+-- the line of the reply to an event, which is on this base if it is a commit
 abbrev pub reply_line : Option PlainVersion → Event → Bool → Reply → List ℕ
 reply_line base event listed (Opened version) = codes "opened " ++ decimal (session_of event) ++ codes " at " ++ decimal version ++ line_end
 reply_line base event listed (At version) = codes "head " ++ decimal version ++ line_end

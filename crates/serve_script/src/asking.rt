@@ -1,4 +1,4 @@
-//! Which report a step asks for, and how it is written.
+//! Which report a step requests, and how it is written.
 ghost use Rattle.std.specs.Prelude.{◌≡◌, ◌+◌, ◌-◌, ◌^◌, ◌<◌, None, option_copied, slice_get, OnOk, OnErr};
 ghost use Rattle.std.specs.Option.{option_and_then};
 ghost use Rattle.std.specs.Io.KnownBytes.{Appends};
@@ -48,7 +48,7 @@ fn against_of<'a, R: StateRepresentation>(
     }
 }
 
-/// Writes the report that is asked for, or that there is no such version or stage.
+/// Writes the requested report, or the refusal if there is no such version or stage.
 pub(crate) fn answer_report<R: StateRepresentation, W: Runner, S: Sink>(
     alloc: Global,
     table: &Table<R>,
@@ -69,7 +69,7 @@ pub(crate) fn answer_report<R: StateRepresentation, W: Runner, S: Sink>(
     }
 }
 
-/// Writes the report of a version that is asked for; `against` is the version of the number that it compares with.
+/// Writes the requested report of a version; `against` is the version of the number that it compares with.
 pub fn write_asked<R: StateRepresentation, W: Runner, S: Sink>(
     alloc: Global,
     version: &Version<R>,
@@ -97,7 +97,7 @@ pub fn write_asked<R: StateRepresentation, W: Runner, S: Sink>(
     }
 }
 
-/// Writes a report of one version, or that it is of no stage.
+/// Writes a report of one version, or the refusal if there is no such stage.
 fn write_told<R: StateRepresentation, S: Sink>(
     alloc: Global,
     version: &Version<R>,
@@ -115,7 +115,7 @@ fn write_told<R: StateRepresentation, S: Sink>(
     }
 }
 
-/// Writes the sweep of the stage of a name, or that there is no such stage.
+/// Writes the sweep of the stage of a name, or the refusal if there is no such stage.
 fn write_sweep<R: StateRepresentation, W: Runner, S: Sink>(
     alloc: Global,
     version: &Version<R>,
@@ -134,7 +134,7 @@ fn write_sweep<R: StateRepresentation, W: Runner, S: Sink>(
     }
 }
 
-/// Writes the sweep of the stage at a place, or that there is no such stage.
+/// Writes the sweep of the stage at a place, or the refusal if there is no such stage.
 fn write_sweep_at<R: StateRepresentation, W: Runner, S: Sink>(
     alloc: Global,
     version: &Version<R>,
@@ -155,7 +155,7 @@ fn write_sweep_at<R: StateRepresentation, W: Runner, S: Sink>(
     }
 }
 
-/// Writes how a version stands against another one, or that there is no such other.
+/// Writes a comparison of a version with another one, or the refusal if there is no such other version.
 fn write_comparison<R: StateRepresentation, S: Sink>(
     alloc: Global,
     version: &Version<R>,
@@ -194,7 +194,7 @@ fn write_against<R: StateRepresentation, S: Sink>(
     }
 }
 
-/// Writes a report, or that it is of no stage.
+/// Writes a report, or the refusal if there is no such stage.
 fn write_report<R: StateRepresentation, S: Sink>(
     alloc: Global,
     version: &Version<R>,
@@ -225,7 +225,7 @@ pub fn write_text<S: Sink>(text: &[u8], sink: &mut S) -> Result<(), AnswerFault>
     Ok(())
 }
 
-/// The report of one version that is asked for; none where it is of a stage that is not there, and where it is a sweep or
+/// The requested report of one version; none if it is of a stage that is not there, and if it is a sweep or
 /// a comparison.
 fn what_asked<R: StateRepresentation>(version: &Version<R>, asked: &Asked) -> Option<What>
     ensures { result ≡ what_asked version.now.graph.places asked.now }

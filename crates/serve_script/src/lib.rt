@@ -1,6 +1,6 @@
-//! A script of steps, answered: what each line names is done, and its reply or report is written.
+//! A script of steps, answered: the step on each line is executed, and its reply or report is written.
 //!
-//! [`serve`] answers a whole script. The definition `answers` says which bytes that gives.
+//! [`serve`] answers a whole script. The definition `answers` says which bytes it writes.
 #![tactic(auto)]
 
 mod asking;

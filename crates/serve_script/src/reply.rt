@@ -10,8 +10,8 @@ use std::alloc::AllocError;
 use std::fmt::Write;
 use version_store::{StateRepresentation, Version};
 
-/// Puts the line of the reply to an event at the end of a text. `listed` says whether the edits of the event came as a list,
-/// so that a refusal tells the index of its edit; `base` is the version that a commit edits.
+/// Appends the line of the reply to an event to a text. `listed` says whether the edits of the event came as a list,
+/// so that a refusal prints the index of its edit; `base` is the version that a commit edits.
 pub fn push_reply<R: StateRepresentation>(
     line: &mut String,
     base: Option<&Version<R>>,
@@ -46,7 +46,7 @@ pub(crate) fn base_of<'a, R: StateRepresentation>(
     }
 }
 
-/// The session that an event speaks of.
+/// The session of an event.
 fn session_of(event: &Event) -> u32
     ensures { result ≡ session_of event.now }
 {
@@ -74,7 +74,7 @@ fn push_refusal<R: StateRepresentation>(
     line.push_str("\n")
 }
 
-// The dependent of a removed stage, by its name, and the number of a head or of a version.
+// The detail of a refusal: the name of the dependent of a removed stage, or the number of a head or of a version.
 fn push_detail<R: StateRepresentation>(
     line: &mut String,
     base: Option<&Version<R>>,
@@ -116,7 +116,7 @@ fn push_index(line: &mut String, listed: bool, place: Option<usize>) -> Result<(
     }
 }
 
-/// The name of the stage that takes a place in the graph of a commit's base, or after its edits.
+/// The name of the stage that has a place in the graph of a commit's base, or after its edits.
 fn user_name<'a, R: StateRepresentation>(
     base: Option<&'a Version<R>>,
     event: &'a Event,
@@ -149,7 +149,7 @@ fn name_of_user<'a, R: StateRepresentation>(
     }
 }
 
-/// The name of the stage that is added after so many others.
+/// The name of the stage that the edits add after this many others.
 fn added_name(edits: &[Edit], others: usize) -> &str
     ensures { result.now ≡ slice_index_or (filter_map added_in edits.now) others [] }
 {

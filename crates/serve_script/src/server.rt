@@ -1,4 +1,4 @@
-//! What answers the lines of a script.
+//! Answers the lines of a script.
 ghost use Rattle.std.specs.Prelude.{◌≡◌, ◌∷◌, ◌+◌, ◌-◌, ◌^◌, ◌<◌, Some, Err, Result, IfOk, OnOk, OnErr};
 ghost use Rattle.text_io.specs.Sink.{Advances, AppendsPrefix, StopsShort};
 ghost use Rattle.script_lines.specs.Seen.{seen};
@@ -26,10 +26,10 @@ use std::marker::Model;
 use text_io::Sink;
 use version_store::{StateRepresentation, Version};
 
-/// The most versions of a table.
+/// The most versions that a table may have.
 const MOST_VERSIONS: u32 = 65_536;
 
-/// Versions and sessions, and the lines that ask for them, answered. Contracts see the state of the versions and sessions.
+/// Versions and sessions, and the replies to lines about them. Contracts see the state of the versions and sessions.
 #[derive(Drop)]
 pub(crate) struct Server<'a, R: StateRepresentation, W> {
     alloc: Global,
@@ -51,7 +51,7 @@ impl<'a, R: StateRepresentation, W> Model for Server<'a, R, W> {
 }
 
 impl<'a, R: StateRepresentation, W: Runner> Server<'a, R, W> {
-    /// The graph as version 0, and no session.
+    /// A server with the graph as version 0, and no session.
     pub(crate) fn new(
         alloc: Global,
         graph: Graph<R>,
@@ -79,7 +79,7 @@ impl<'a, R: StateRepresentation, W: Runner> Server<'a, R, W> {
         }
     }
 
-    /// Takes an event, and writes its reply.
+    /// Processes an event, and writes its reply.
     fn answer_event<S: Sink>(
         &mut self,
         event: Event,
@@ -95,7 +95,7 @@ impl<'a, R: StateRepresentation, W: Runner> Server<'a, R, W> {
         self.write_reply(&event, listed, reply, sink)
     }
 
-    /// Takes edits of the version at which a session stands, and writes the reply.
+    /// Processes edits of the version at which a session stands, and writes the reply.
     fn answer_head<S: Sink>(
         &mut self,
         session: u32,
@@ -142,7 +142,7 @@ impl<'a, R: StateRepresentation, W: Runner> Server<'a, R, W> {
         Ok(())
     }
 
-    /// Writes why a line names no step.
+    /// Writes why a line has no step.
     fn write_fault<S: Sink>(&mut self, fault: &Fault, sink: &mut S) -> Result<(), AnswerFault>
         requires { S.failures sink.old < 2 ^ 64 - 1 }
         ensures ok { OnOk result (IsAnswered (answered (fault_line fault.now) self.old) self.new (S.held sink.old) (S.held sink.new)) }
@@ -155,7 +155,7 @@ impl<'a, R: StateRepresentation, W: Runner> Server<'a, R, W> {
         Ok(())
     }
 
-    /// Takes edits of a version or of the session's head, and writes the reply.
+    /// Processes edits of a version or of the session's head, and writes the reply.
     fn answer_change<S: Sink>(
         &mut self,
         session: u32,
@@ -234,7 +234,7 @@ impl<'a, R: StateRepresentation, W: Runner> Server<'a, R, W> {
         }
     }
 
-    /// Does a step, and writes the reply or the report.
+    /// Executes a step, and writes the reply or the report.
     fn answer_step<S: Sink>(&mut self, asked: Step, sink: &mut S) -> Result<(), AnswerFault>
         requires { S.failures sink.old < 2 ^ 64 - 1 }
         ensures ok { OnOk result (IsAnswered (answer_step self.old asked) self.new (S.held sink.old) (S.held sink.new)) }
@@ -258,7 +258,7 @@ impl<'a, R: StateRepresentation, W: Runner> Server<'a, R, W> {
         }
     }
 
-    /// Writes why a line names no step, but for running out of memory.
+    /// Writes why a line has no step, unless memory ran out.
     fn refuse<S: Sink>(&mut self, fault: Fault, sink: &mut S) -> Result<(), AnswerFault>
         requires { S.failures sink.old < 2 ^ 64 - 1 }
         ensures ok { (meant : Result Step Fault) → IsRead (Err fault) meant → OnOk result (IsAnswered (answer_named self.old meant) self.new (S.held sink.old) (S.held sink.new)) }
@@ -271,7 +271,7 @@ impl<'a, R: StateRepresentation, W: Runner> Server<'a, R, W> {
         }
     }
 
-    /// Does what the bytes of a line name.
+    /// Executes the step in the bytes of a line.
     fn answer_bytes<S: Sink>(&mut self, bytes: &[u8], sink: &mut S) -> Result<(), AnswerFault>
         requires { S.failures sink.old < 2 ^ 64 - 1 }
         ensures ok { OnOk result (IsAnswered (answer_named self.old (step_of bytes.now)) self.new (S.held sink.old) (S.held sink.new)) }
@@ -284,7 +284,7 @@ impl<'a, R: StateRepresentation, W: Runner> Server<'a, R, W> {
         }
     }
 
-    /// Does what a line names, and writes the answer.
+    /// Executes the step on a line, and writes the answer.
     pub(crate) fn answer<S: Sink>(
         &mut self,
         line: Line<'_>,

@@ -21,11 +21,11 @@ use version_store::StateRepresentation;
 /// The most bytes that are read at once.
 const AT_ONCE: usize = 65_536;
 
-/// The most bytes that are read in all.
+/// The most bytes that are read in total.
 const MOST: usize = 1_073_741_824;
 
 /// Reads a script to its end, and writes the answers to its steps as they come: version 0 has the graph, and 65,536 versions
-/// are allowed. What was written is flushed before each read, so that a reader who waits for an answer has it.
+/// are allowed. What was written is flushed before each read, so that a reader who waits for an answer gets it.
 ///
 /// Errors: `Read` where a read failed or 1,073,741,824 bytes were read, `Write` where a write or a flush failed or took
 /// nothing, `Memory`.
@@ -88,7 +88,7 @@ fn serve_lines<K: StateRepresentation, W: Runner, R: Source, S: Sink>(
     }
 }
 
-// Answers the lines that end in what waits.
+// Answers the lines that end in the piece that was read last.
 fn answer_waiting<K: StateRepresentation, W: Runner, S: Sink>(
     lines: &mut LineReader,
     server: &mut Server<'_, K, W>,

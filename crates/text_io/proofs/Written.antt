@@ -1,4 +1,4 @@
--- How what was written grows.
+-- How the written text grows.
 use Rattle.std.proofs.Common.{◌≡◌, ℕ, ◌-◌, List, [], ◌++◌, length, take, drop, refl, sym, ap, ◌∙◌, subst, append_assoc, append-nil, take-append-drop, Option}
 use Rattle.std.specs.Io.KnownBytes.{Appends, Keeps}
 use Rattle.std.proofs.KnownBytes.{Appends-nil, Appends-trans, Appends-kept}
@@ -11,7 +11,7 @@ nothing_yet held text = record { written = []; appends = Appends-nil held; whole
 pub AppendsPrefix-none : (held : Option (List ℕ)) (text : List ℕ) → AppendsPrefix held held text
 AppendsPrefix-none held text = (text, nothing_yet held text)
 
--- one more piece from the front of what is left
+-- one more piece from the front of the rest
 pub AppendsBut-more : (a b c : Option (List ℕ)) (text rest piece : List ℕ) → AppendsBut (piece ++ rest) a b text → Appends b c piece → AppendsBut rest a c text
 AppendsBut-more a b c text rest piece so_far here = record {
   written = so_far.written ++ piece;
@@ -49,7 +49,7 @@ AppendsPrefix-longer a b text more (rest, so_far) = (
 pub AppendsPrefix-from_all : (a b : Option (List ℕ)) (text : List ℕ) → Appends a b text → AppendsPrefix a b text
 AppendsPrefix-from_all a b text all = ([], record { written = text; appends = all; whole = sym (append-nil text) })
 
--- the next bytes were taken from the front of what is left
+-- the next bytes were taken from the front of the rest
 pub AppendsBut-taken : (a b c : Option (List ℕ)) (text rest : List ℕ) (n : ℕ) → AppendsBut rest a b text → Appends b c (take n rest)
     → AppendsBut (take (length rest - n) (drop n rest)) a c text
 AppendsBut-taken a b c text rest n so_far here =
@@ -68,7 +68,7 @@ module _ {X : Type 0} where
   pub Advances-none : (f g : X → List ℕ) (a : Option (List ℕ)) → ((x : X) → f x ≡ g x) → Advances f g a a
   Advances-none f g a same = record { written = []; appends = Appends-nil a; left = same }
 
-  -- the same, said of other things to come
+  -- the same, for another continuation
   pub Advances-at : {Y : Type 0} (f g : X → List ℕ) (h k : Y → List ℕ) (a b : Option (List ℕ)) (at : Y → X)
       → ((y : Y) → h y ≡ f (at y)) → ((y : Y) → g (at y) ≡ k y) → Advances f g a b → Advances h k a b
   Advances-at f g h k a b at before after step = record {
@@ -86,6 +86,6 @@ module _ {X : Type 0} where
   pub StopsShort-at : {Y : Type 0} (f : X → List ℕ) (h : Y → List ℕ) (a b : Option (List ℕ)) (at : Y → X) → ((y : Y) → h y ≡ f (at y)) → StopsShort f a b → StopsShort h a b
   StopsShort-at f h a b at before stop y = subst (AppendsPrefix a b) (sym (before y)) (stop (at y))
 
-  -- what stops after a step wrote a prefix of all
+  -- a failure after a step leaves a prefix of the whole written
   pub StopsShort-from_step : (f g : X → List ℕ) (a b : Option (List ℕ)) → Advances f g a b → StopsShort f a b
   StopsShort-from_step f g a b step x = (g x, record { written = step.written; appends = step.appends; whole = step.left x })

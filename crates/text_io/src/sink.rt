@@ -27,14 +27,14 @@ pub trait Sink {
     /// How many of its calls failed, or took nothing.
     ghost failures: { Self → ℕ };
 
-    /// Takes bytes from the front, and answers how many. To take none is a failure.
+    /// Takes bytes from the front, and returns how many. Zero bytes is a failure.
     fn accept(&mut self, bytes: &[u8]) -> usize
         requires { failures self.old < 2 ^ 64 - 1 }
         ensures bound { result ≤ length bytes.now }
         ensures held { Appends (held self.old) (held self.new) (take result bytes.now) }
         ensures failures { failures self.new ≡ failures self.old + (if result == 0 then 1 else 0) };
 
-    /// Passes on what it may keep back.
+    /// Flushes what the writer has buffered.
     fn flush(&mut self) -> Result<(), WriteFault>
         requires { failures self.old < 2 ^ 64 - 1 }
         ensures held { Keeps (held self.old) (held self.new) }
@@ -59,7 +59,7 @@ pub trait Sink {
     }
 }
 
-/// A writer of std with a count of its failures. An interrupted write is tried again.
+/// A writer of std with a count of its failures. An interrupted write is retried.
 #[derive(Drop)]
 pub struct CountedWriter<W> {
     writer: W,
@@ -113,7 +113,7 @@ impl<W: Write> Sink for CountedWriter<W> {
     }
 }
 
-// How many bytes one write takes, and 0 where it fails.
+// How many bytes one write takes; 0 if it fails.
 fn write_once<W: Write>(writer: &mut W, bytes: &[u8]) -> usize
     ensures bound { result ≤ length bytes.now }
     ensures held { Appends (W.contents writer.old) (W.contents writer.new) (take result bytes.now) }

@@ -27,7 +27,7 @@ pub trait Source {
     /// How many of its reads failed.
     ghost failures: { Self → ℕ };
 
-    /// Reads bytes to the front of the buffer, and answers how many. At the end there are none.
+    /// Reads bytes to the front of the buffer, and returns how many; 0 at the end of the input.
     fn read(&mut self, buffer: &mut [u8]) -> Result<usize, ReadFault>
         requires { failures self.old < 2 ^ 64 - 1 }
         ensures bound { ReadsAtMost result buffer.new }
@@ -35,7 +35,7 @@ pub trait Source {
         ensures failures { failures self.new ≡ failures self.old + (if is_ok result then 0 else 1) };
 }
 
-/// A reader of std with a count of its failures. An interrupted read is tried again.
+/// A reader of std with a count of its failures. An interrupted read is retried.
 #[derive(Drop)]
 pub struct CountedReader<R> {
     reader: R,
@@ -72,7 +72,7 @@ impl<R: Read> Source for CountedReader<R> {
     }
 }
 
-// One read that was not interrupted.
+// One read, retried until it is not interrupted.
 fn read_once<R: Read>(reader: &mut R, buffer: &mut [u8]) -> Result<usize, ReadFault>
     ensures bound { ReadsAtMost result buffer.new }
     ensures bytes { ReadConsumes (R.remaining reader.old) (R.remaining reader.new) result buffer.new }

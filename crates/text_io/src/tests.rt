@@ -5,7 +5,7 @@ use std::alloc::Global;
 use std::io::{self, BufWriter, ErrorKind, Read, Write};
 use std::test::Fail;
 
-// Takes so many bytes at a time, and fails once so many writes were made. Each write is interrupted
+// Takes this many bytes at a time, and fails once this many writes were made. Each write is interrupted
 // first.
 #[derive(Drop)]
 struct SlowWriter {
@@ -64,7 +64,7 @@ fn slow_and_failing_writers(rt: HostRuntime) -> Result<(), Fail> {
     Ok(())
 }
 
-// What is kept back is passed on by a flush alone.
+// Only a flush passes on what is buffered.
 #[test]
 fn flush_passes_on(rt: HostRuntime) -> Result<(), Fail> {
     let alloc = rt.alloc();

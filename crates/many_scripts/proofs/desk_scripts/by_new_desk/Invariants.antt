@@ -1,4 +1,4 @@
--- The desk is named after the ledger that it counts with, and begins with the graph.
+-- The desk is named after the ledger that counts for it, and begins with the graph.
 use Rattle.serve_script.specs.Answers.{opening_state}
 use Rattle.many_scripts.proofs.desk_scripts.by_new_desk.Given as goal
 

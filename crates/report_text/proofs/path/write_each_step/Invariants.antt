@@ -9,7 +9,7 @@ pub record Writing (Appended Unfailed : Type 0) : Type 0 where
   pub appended : Appended
   pub unfailed : Unfailed
 
--- the text is written but for the lines of the places that are left
+-- the text is written except for the lines of the remaining places
 abbrev pub invariant-loop-place : goal.invariant-loop-place
 invariant-loop-place g l = Writing
     (AppendsBut (flat_map (step_line_at l.version.graph) (drop l.place-index l.path)) (g.S.Sink.held l.fn.sink) (g.S.Sink.held l.sink)

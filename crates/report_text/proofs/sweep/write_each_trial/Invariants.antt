@@ -9,7 +9,7 @@ pub record Writing (Appended Unfailed : Type 0) : Type 0 where
   pub appended : Appended
   pub unfailed : Unfailed
 
--- the text is written but for the lines of the trials that are left
+-- the text is written except for the lines of the remaining trials
 abbrev pub invariant-loop-trial : goal.invariant-loop-trial
 invariant-loop-trial g l = Writing
     (AppendsBut (flat_map (trial_line l.version.graph l.tick) (drop l.trial-index l.trials)) (g.S.Sink.held l.fn.sink) (g.S.Sink.held l.sink)

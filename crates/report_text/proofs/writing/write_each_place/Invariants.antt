@@ -11,7 +11,7 @@ pub record Writing (Appended Unfailed Ends : Type 0) : Type 0 where
   pub unfailed : Unfailed
   pub ends : Ends
 
--- the text is written but for the lines of the places that are left
+-- the text is written except for the lines of the remaining places
 abbrev pub invariant-loop-place : goal.invariant-loop-place
 invariant-loop-place g l = Writing
     (AppendsBut (flat_map (place_line l.lines l.version l.against) (range_with_len l.place (l.place-end - l.place))) (g.S.Sink.held l.fn.sink) (g.S.Sink.held l.sink)

@@ -9,7 +9,7 @@ pub record Answering (Answered Left Unfailed : Type 0) : Type 0 where
   pub left : Left
   pub unfailed : Unfailed
 
--- what the lines so far ask for is written, and what waits is left
+-- the answers to the lines so far are written, and the rest of the piece is unread
 abbrev pub invariant-loop-lines : goal.invariant-loop-lines
 invariant-loop-lines g l = Answering
     (Advances (to_rest (answers_from l.fn.server) l.fn.lines) (to_rest (answers_from l.server) l.lines) (g.S.Sink.held l.fn.sink) (g.S.Sink.held l.sink))

@@ -12,7 +12,7 @@ pub record Serving (Consumed Counted Answered Reads Writes : Type 0) : Type 0 wh
   pub reads : Reads
   pub writes : Writes
 
--- what the lines that were read ask for is written, but for what the reader holds
+-- the answers to the lines that were read are written, except for what the reader holds
 abbrev pub invariant-loop-sink : goal.invariant-loop-sink
 invariant-loop-sink g l = (read : List ℕ) × Serving
     (Consumes (g.R.Source.remaining l.fn.source) (g.R.Source.remaining l.source) read)
