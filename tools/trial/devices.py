@@ -13,7 +13,7 @@ from dataclasses import dataclass, replace
 
 from .cases import FIRST_RUN, NO_READ, OPEN, R, SCRIPTS, lines, step
 from .run import first_difference, shown
-from .why import EXPLAINED_B
+from .why import EXPLAINED_B, SWEPT_B
 
 TRACEME, GETREGS, SETREGS, SYSCALL, SETOPTIONS = 0, 12, 13, 24, 0x4200
 OPTIONS = 1 | 8 | 16 | 0x100000  # stops at calls are told apart; threads and a new program are followed; all ends with the tracer
@@ -131,14 +131,19 @@ def can_trace():
     return os.waitpid(child, 0)[1] == 0 and platform.machine() == "x86_64"
 
 
+# A trace of one span.
+SPAN = '{"data":[{"traceID":"7","spans":[{"traceID":"7","spanID":"1","operationName":"o","startTime":5,"duration":3,"processID":"p"}],"processes":{"p":{"serviceName":"s"}}}]}'
+
+
 @dataclass(frozen=True)
 class Played:
-    """A command, the file whose reads are looked at, what it answers, and what it has answered after so many bytes of that file."""
+    """A command, the file whose reads are looked at, what it answers (None: what it does where no device is between), and what
+    it has answered after so many bytes of that file."""
 
     name: str
     words: list
     read: str
-    answer: str
+    answer: any
     stdin: str = "/dev/null"
     after: any = None
     files: any = None
@@ -172,6 +177,9 @@ def commands():
         Played("report of a file", ["report", "r.json"], "r.json", FIRST_RUN),
         Played("report of standard input", ["report"], "r.json", FIRST_RUN, stdin="r.json"),
         Played("explain", ["explain", "r.json", "b"], "r.json", EXPLAINED_B),
+        Played("sweep", ["sweep", "r.json", "b"], "r.json", lines(*SWEPT_B)),
+        Played("draw", ["draw", "r.json", "--format", "trace", "--what", "path", "--stage", "a"], "r.json", None),
+        Played("import", ["import", "--quiet", "s"], "s", None, files={"s": SPAN}),
     ]
     for name, rows in (("a bare pin", PIN_BARE), ("a base that has moved, and a step back", MOVED_AND_UNDONE)):
         files = {"s": lines(*[asked for asked, _ in rows])}
@@ -256,6 +264,8 @@ def devices(program, has_many, is_long, only):
         for played in commands():
             if played.words[0] == "many" and not has_many:
                 continue
+            if played.answer is None:
+                played = replace(played, answer=bench.run(played, Device(), Device())[1])
             for name, complaints in bench.cases(played):
                 if only in (name := f"device: {played.name}: {name}"):
                     yield name, next(filter(None, complaints), ""), set()

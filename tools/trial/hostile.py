@@ -143,7 +143,7 @@ def full_versions():
 
 
 # How often each script of the limits asks the table of versions; those that aren't named, never.
-ENTRIES = {"a step of 65,536 bytes": 1, "session 2^32 - 1": 1, "open of 65536": 1, "open of 65535": 1, "1,024 sessions and one more": 1030, "64 edits": 2, "65 edits": 1, "1,025 sources": 2}
+ENTRIES = {"a step of 65,536 bytes": 1, "session 2^32 - 1": 1, "open of 65536": 1, "open of 65535": 1, "1,024 sessions and one more": 1030, "64 edits": 2, "65 edits": 1, "1,025 sources": 2, "edits at the ends of the limits": 27}
 
 
 def many_of(name, script, answers, entries, **more):

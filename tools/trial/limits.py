@@ -55,6 +55,8 @@ RECORDINGS = [
     ("an action of -2^63 - 1", recording(stage("async", action=-(2**63) - 1)), "71 Shape action"),
     ("a number of 300 digits that nobody reads", '{"stages":[],"x":%s}' % ("9" * 300), lines(head(0))),
     ("an action of 2^63 - 1", recording(stage("async", action=2**63 - 1)), one(f"value:{2**63 - 1} at 0")),
+    ("an action of -2^63", recording(stage("async", action=-(2**63))), one(f"value:{-(2**63)} at 0")),
+    ("an operand of 2^63", recording(stage("async", action=["add", 2**63, 1])), "71 Shape action"),
     ("256 nodes", recording(stage("async", action=wide(256))), one("value:0 at 0")),
     ("257 nodes", recording(stage("async", action=wide(257))), "20 Expr at 0"),
     ("depth 32", recording(stage("async", action=deep(32))), one("value:0 at 0")),
@@ -133,6 +135,24 @@ def each_touched_answers():
     return lines("opened 1 at 0", "committed 1", blame, touched, "s0 value:4 at 10 -> bare:X at 10", *changes, *refusals)
 
 
+def named(stages):
+    """Stages whose names are as long as may be, and differ at their ends alone."""
+    return recording(*[stage("manual", f"{it:n>64}") for it in range(stages)])
+
+
+def named_report(stages):
+    return lines(head(stages), *[f"{it:n>64} manual rank 0 pending" for it in range(stages)])
+
+
+def woven(stages):
+    """Stages that each wait for as many as may be: those just before it."""
+    return recording(stage("completed", "s0", value=1), *[stage("allOf", f"s{it}", sources=[f"s{of}" for of in range(max(0, it - 1024), it)]) for it in range(1, stages)])
+
+
+def woven_report(stages):
+    return lines(head(stages), "s0 completed rank 0 value:1 at 0", *[f"s{it} allOf rank {it} value:null at 0" for it in range(1, stages)])
+
+
 def filled(text, size):
     return text + " " * (size - len(text))
 
@@ -144,6 +164,9 @@ LARGE = [
     ("a cycle of 65,536 stages", lambda: cycle_of(MOST_STAGES), "refused 19 Cycle\n", 1),
     ("65,537 stages", lambda: chain_of(MOST_STAGES + 1), "refused 15 Limit at 65536\n", 1),
     ("a cycle of 65,537 stages", lambda: cycle_of(MOST_STAGES + 1), "refused 15 Limit at 65536\n", 1),
+    ("65,536 stages of one name", lambda: recording(*[stage("manual")] * MOST_STAGES), "refused 11 NameTaken at 1\n", 1),
+    ("65,536 names of 64 letters", lambda: named(MOST_STAGES), lambda: named_report(MOST_STAGES), 0),
+    ("1,280 stages of up to 1,024 sources", lambda: woven(1280), lambda: woven_report(1280), 0),
     ("the latest moments that there are", lambda: longest(MOST_STAGES), lambda: longest_report(MOST_STAGES), 0),
     ("67,108,864 bytes", lambda: filled(R, MOST_RECORDING), FIRST_RUN, 0),
     ("67,108,865 bytes", lambda: filled(R, MOST_RECORDING + 1), "refused 72 TooLong\n", 1),
@@ -176,6 +199,30 @@ def versions_answers():
     return lines("opened 1 at 0", *[f"committed {it}" for it in range(1, MOST_STAGES)], "refused 55 Full", f"head {MOST_STAGES - 1}")
 
 
+# Edits at the ends of the limits and past them, and what is answered to each.
+AT_LIMITS = [
+    (step("add", session=1, new=stage("allOf", "c", sources=["a"] * 1024)), "committed 1"),
+    (step("rewire", session=1, stage="c", sources=["a"] * 1025, inner=[]), "refused 15 Limit"),
+    (step("rewire", session=1, stage="c", sources=["b"] * 1024, inner=[]), "committed 2"),
+    (step("setTakes", session=1, stage="a", takes=MOST_TICKS), "committed 3"),
+    (step("setTakes", session=1, stage="a", takes=MOST_TICKS + 1), "refused 15 Limit"),
+    (step("pinMoment", session=1, stage="a", at=MOST_TICKS), "committed 4"),
+    (step("pinMoment", session=1, stage="a", at=MOST_TICKS + 1), "refused 15 Limit"),
+    (step("setAction", session=1, stage="a", action=deep(32)), "committed 5"),
+    (step("setAction", session=1, stage="a", action=deep(33)), "refused 20 Expr"),
+    (step("setAction", session=1, stage="a", action=wide(256)), "committed 6"),
+    (step("setAction", session=1, stage="a", action=wide(257)), "refused 20 Expr"),
+    (step("setEnds", session=1, stage="a", ends=[{"do": "cancel", "at": 9}] * 16), "committed 7"),
+    (step("setEnds", session=1, stage="a", ends=[{"do": "cancel", "at": 9}] * 17), "refused 15 Limit"),
+    (step("add", session=1, new=stage("manual", "n" * 64)), "committed 8"),
+    (step("add", session=1, new=stage("manual", "n" * 65)), "refused 12 BadName"),
+    (step("setTakes", session=1, stage="n" * 65, takes=1), "refused 10 NoStage"),
+    (step("setTakes", session=1, stage="a", takes=2**64 - 1), "refused 15 Limit"),
+    (step("setTakes", session=1, stage="a", takes=2**64), "refused 71 Shape takes"),
+    (step("setAction", session=1, stage="a", action=2**63), "refused 71 Shape action"),
+    (step("head", session=1), "head 8"),
+]
+
 # Scripts about R.
 SCRIPTS = [
     ("a line of 65,536 bytes", filled("{}", MOST_LINE) + "\n{}\n", NO_DO * 2),
@@ -186,6 +233,9 @@ SCRIPTS = [
     ("a last line of 65,537 bytes", filled("{}", MOST_LINE + 1), TOO_LONG),
     ("a line of 65,536 bytes with a byte 13", filled("{}", MOST_LINE - 1) + "\r\n", NO_DO),
     ("a line of 65,536 bytes, and a byte 13", filled("{}", MOST_LINE) + "\r\n", TOO_LONG),
+    ("a last line of 65,536 bytes, and a byte 13", filled("{}", MOST_LINE) + "\r", TOO_LONG),
+    ("a last line of byte 13 alone", "{}\n\r", NO_DO),
+    ("lines of byte 0", "\0\n\0", "refused 70 JSON\n" * 2),
     ("a line of 65,537 bytes that are no text", b"\xff" * (MOST_LINE + 1) + b"\n{}", TOO_LONG + NO_DO),
     ("a line of 65,536 bytes that are no text", b"\xff" * MOST_LINE + b"\n{}", "refused 70 JSON\n" + NO_DO),
     ("two lines of 65,537 letters", ("x" * (MOST_LINE + 1) + "\n") * 2, TOO_LONG * 2),
@@ -201,11 +251,23 @@ SCRIPTS = [
     ("64 edits", lines(OPEN, edits_of(64)), lines("opened 1 at 0", "committed 1")),
     ("65 edits", lines(OPEN, edits_of(65)), lines("opened 1 at 0", "refused 21 ListSize")),
     ("1,025 sources", lines(OPEN, step("add", session=1, new=stage("allOf", "c", sources=["a"] * 1025))), lines("opened 1 at 0", "refused 15 Limit")),
+    ("edits at the ends of the limits", lines(OPEN, *[it for it, _ in AT_LIMITS]), lines("opened 1 at 0", *[it for _, it in AT_LIMITS])),
     ("a step nested 128 deep", '{"x":' + "[" * 127 + "]" * 127 + "}", "refused 70 JSON\n"),
     ("a step nested 127 deep", '{"x":' + "[" * 126 + "]" * 126 + "}", NO_DO),
 ]
 
 MANY_LINES = 10_000_000
+
+
+# A script of 2^30 bytes that are lines: each is of blanks, which are no JSON.
+BLANKS = b" " * (MOST_LINE - 1) + b"\n"
+ALL_LINES = MOST_SCRIPT // MOST_LINE
+
+
+def lines_of_blanks(last):
+    """All of its lines, the last of which is this."""
+    yield from (BLANKS * 16 for _ in range(ALL_LINES // 16 - 1))
+    yield BLANKS * 15 + last
 
 
 def endless(line):
@@ -217,19 +279,29 @@ def long_cases():
     """Those that take long, or much of the disk. Without an end there is one refusal for the line that doesn't end, or none."""
     constant = "ulimit -v 65536;"
     fault = re.compile(rb"(refused 72 TooLong\n)?refused 41 ReadFault\n")
+    most_refused = re.compile(rb"(refused 70 JSON\n){%d,%d}refused 41 ReadFault\n" % (ALL_LINES - 17, ALL_LINES))
     serve = ["serve", "r.json"]
     return [
         Case("limit: a script of 2^30 bytes", serve, fault, 3, stdin=File("script"), files={"script": Sparse(MOST_SCRIPT)}, shell=constant, seconds=120),
         Case("limit: a script of 2^30 - 1 bytes", serve, TOO_LONG, stdin=File("script"), files={"script": Sparse(MOST_SCRIPT - 1)}, shell=constant, seconds=120),
         Case("limit: a line that never ends", serve, fault, 3, stdin=File("/dev/zero"), shell=constant, seconds=120),
+        Case("limit: lines of 2^30 - 1 bytes together", serve, "refused 70 JSON\n" * ALL_LINES, stdin=Pieces(lambda: lines_of_blanks(BLANKS[:-1])), shell=constant, seconds=240),
+        Case("limit: lines of 2^30 bytes together", serve, most_refused, 3, stdin=Pieces(lambda: lines_of_blanks(BLANKS)), shell=constant, seconds=240),
         Case("limit: empty lines that never end", serve, NO_READ, 3, stdin=Pieces(lambda: endless(b"\n" * 3000)), shell=constant, seconds=240),
         Case("limit: lines that never end", serve, re.compile(rb"(refused 70 JSON\n){17000,17895}refused 41 ReadFault\n"), 3, stdin=Pieces(lambda: endless(b"x" * 60_000 + b"\n")), shell=constant, seconds=240),
         Case("limit: 10 million refused lines in constant memory", serve, NO_DO.encode() * MANY_LINES, stdin=lambda: b"{}\n" * MANY_LINES, shell=constant, seconds=240),
     ]
 
 
+def with_byte(text, at, byte):
+    """The text with this byte in place of the one that stands there."""
+    return text[:at].encode() + bytes([byte]) + text[at + 1 :].encode()
+
+
 def limits(is_long):
     made = [Case(f"limit: the first {it} bytes of a recording", ["report"], "refused 70 JSON\n", 1, stdin=R[:it]) for it in range(len(R))]
+    for byte in (0, 255):
+        made += [Case(f"limit: byte {byte} in place of byte {it} of a recording", ["report"], "refused 70 JSON\n", 1, stdin=with_byte(R, it, byte)) for it in range(len(R))]
     for name, given, wanted in RECORDINGS:
         refused = not wanted.startswith("version")
         made.append(Case(f"limit: {name}", ["report"], f"refused {wanted}\n" if refused else wanted, int(refused), stdin=given))
