@@ -126,7 +126,7 @@ fn load<R: Representation>(alloc: Global, recording: &Recording) -> Result<Graph
 
 /// The graph of a recording in these bytes, or the first fault in them.
 ///
-/// Time and memory are linear in the number of bytes and, for at most 65,536 stages, of their feeds.
+/// Time and memory grow with the number of bytes and, for at most 65,536 stages, with that of their feeds.
 pub fn read_recording<R: Representation>(alloc: Global, bytes: &[u8]) -> Result<Graph<R>, Fault>
     ensures { IsNamed result (named bytes.now) }
 {
