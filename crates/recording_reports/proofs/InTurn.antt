@@ -1,5 +1,5 @@
 -- What is written one after the other.
-use Rattle.std.proofs.Common.{◌≡◌, ℕ, true, List, ◌++◌, Option, Some, None, Result, Ok, Err, OnErr, sym, ap, ◌∙◌}
+use Rattle.std.proofs.Common.{◌≡◌, ℕ, true, List, ◌++◌, Option, Some, None, Result, Ok, Err, OnErr, refl, sym, ap, ◌∙◌}
 use Rattle.std.specs.Io.KnownBytes.{Appends}
 use Rattle.text_io.specs.Sink.{AppendsPrefix}
 use Rattle.std.proofs.KnownBytes.{Appends-trans}
@@ -12,8 +12,12 @@ use Rattle.recording.specs.Reads.{IsNamed}
 use Rattle.recording.specs.RecordingOf.{named}
 use Rattle.version_store.specs.Plain.{PlainVersion, opening_version}
 use Rattle.version_store.specs.Queries.{found}
+use Rattle.report_text.specs.declared.what.What.TheVariants.{All}
+use Rattle.report_json.specs.Told.{report_told}
+use Rattle.report_json.specs.declared.form.Form.{Form}
+use Rattle.report_json.specs.declared.form.Form.TheVariants.{Text, Json}
 use Rattle.recording_reports.specs.declared.stage.StageReport.{StageReport}
-use Rattle.recording_reports.specs.Reported.{stage_of, stage_text, IsTextOf}
+use Rattle.recording_reports.specs.Reported.{all_of, stage_of, stage_text, told, IsTextOf}
 
 -- a part of the first of three texts
 pub in_first : (a b : Option (List ℕ)) (one two three : List ℕ) → AppendsPrefix a b one → AppendsPrefix a b (one ++ two ++ three)
@@ -38,12 +42,24 @@ pub live_where_found : (places : List (Option Stage)) (name : List ℕ) (place :
 live_where_found places name place is = live_from_name name (stage_at places place) (named_at places name place (placed (place_named places name) place is)).1
 
 -- what is told of the stage that a name finds is what is to be told of the name
-pub text_of_stage : (asked : StageReport) (name recording : List ℕ) (graph : PlainGraph) (version : PlainVersion) (place : ℕ) → IsNamed (Ok graph) (named recording)
-    → version ≡ opening_version graph → Ok place ≡ found (place_named version.graph.places name) → IsTextOf recording (stage_of asked name) (Some (stage_text asked version place))
-text_of_stage asked name recording graph version place is loaded finds =
+pub text_of_stage : (form : Form) (asked : StageReport) (name recording : List ℕ) (graph : PlainGraph) (version : PlainVersion) (place : ℕ) → IsNamed (Ok graph) (named recording)
+    → version ≡ opening_version graph → Ok place ≡ found (place_named version.graph.places name)
+    → IsTextOf recording (stage_of form asked name) (Some (stage_text form asked version place))
+text_of_stage form asked name recording graph version place is loaded finds =
     let here : Ok place ≡ found (place_named graph.places name) = finds ∙ ap (λ (version : PlainVersion). found (place_named version.graph.places name)) loaded in (
       graph,
       is,
-      ap (λ (version : PlainVersion). Some (stage_text asked version place)) loaded
-          ∙ ap (option_map (stage_text asked (opening_version graph))) (sym (placed (place_named graph.places name) place here)),
+      ap (λ (version : PlainVersion). Some (stage_text form asked version place)) loaded
+          ∙ ap (option_map (stage_text form asked (opening_version graph))) (sym (placed (place_named graph.places name) place here)),
     )
+
+-- there is a report of all stages in either form
+all_is_there : (form : Form) (version : PlainVersion) → Some (told form version All) ≡ report_told form version All
+all_is_there Text version = refl
+all_is_there (Json line) version = refl
+
+-- what is told of all stages of the version is what is to be told of the graph
+pub text_of_all : (form : Form) (recording : List ℕ) (graph : PlainGraph) (version : PlainVersion) → IsNamed (Ok graph) (named recording)
+    → version ≡ opening_version graph → IsTextOf recording (all_of form) (Some (told form version All))
+text_of_all form recording graph version is loaded =
+    (graph, is, all_is_there form version ∙ ap (λ (version : PlainVersion). report_told form version All) loaded)

@@ -8,31 +8,30 @@ use Rattle.recording.specs.Reads.{IsNamed}
 use Rattle.recording.specs.RecordingOf.{named}
 use Rattle.recording.specs.FaultTexts.{fault_number}
 use Rattle.version_store.specs.Plain.{PlainVersion, opening_version}
-use Rattle.report_text.specs.Reports.{text}
-use Rattle.report_text.specs.SweepTexts.{sweep_report}
-use Rattle.report_text.specs.Texts.{all_text}
 use Rattle.report_text.specs.declared.what.What.{What}
-use Rattle.report_text.specs.declared.what.What.TheVariants.{One, Blame, Path}
+use Rattle.report_text.specs.declared.what.What.TheVariants.{All, One, Blame, Path}
+use Rattle.report_json.specs.Told.{report_told, sweep_told}
+use Rattle.report_json.specs.declared.form.Form.{Form}
 use Rattle.recording_reports.specs.declared.fault.RecordingFault.{RecordingFault}
 use Rattle.recording_reports.specs.declared.fault.RecordingFault.TheVariants.{Refused, NoStage, Write, Memory}
 use Rattle.recording_reports.specs.declared.stage.StageReport.{StageReport}
 use Rattle.recording_reports.specs.declared.stage.StageReport.TheVariants.{Explanation, Sweep}
 
 -- the report of all stages of a graph
-abbrev pub all_of : PlainGraph → Option (List ℕ)
-all_of graph = Some (all_text (opening_version graph))
+abbrev pub all_of : Form → PlainGraph → Option (List ℕ)
+all_of form graph = report_told form (opening_version graph) All
 
-abbrev pub told : PlainVersion → What → List ℕ
-told version what = unwrap_or (text version what) []
+abbrev pub told : Form → PlainVersion → What → List ℕ
+told form version what = unwrap_or (report_told form version what) []
 
 -- the reports `one`, `blame` and `path` of the stage at a place, one after the other; or its sweep
-abbrev pub stage_text : StageReport → PlainVersion → ℕ → List ℕ
-stage_text Explanation version place = told version (One place) ++ told version (Blame place) ++ told version (Path place)
-stage_text (Sweep most) version place = unwrap_or (sweep_report version place most) []
+abbrev pub stage_text : Form → StageReport → PlainVersion → ℕ → List ℕ
+stage_text form Explanation version place = told form version (One place) ++ told form version (Blame place) ++ told form version (Path place)
+stage_text form (Sweep most) version place = unwrap_or (sweep_told form version place most) []
 
 -- the same of the stage of a name; none where the graph has no such stage
-abbrev pub stage_of : StageReport → List ℕ → PlainGraph → Option (List ℕ)
-stage_of report name graph = option_map (stage_text report (opening_version graph)) (place_named graph.places name)
+abbrev pub stage_of : Form → StageReport → List ℕ → PlainGraph → Option (List ℕ)
+stage_of form report name graph = option_map (stage_text form report (opening_version graph)) (place_named graph.places name)
 
 -- these bytes are a recording, and this is what is reported of its graph
 abbrev pub IsTextOf : List ℕ → (PlainGraph → Option (List ℕ)) → Option (List ℕ) → Type 0

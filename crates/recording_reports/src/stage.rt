@@ -11,7 +11,8 @@ ghost use Rattle.recording_reports.specs.declared.stage.StageReport.{StageReport
 use crate::fault::RecordingFault;
 use level_pool::Runner;
 use recording::{Fault, read_recording};
-use report_text::{ReportFault, What, report, report_sweep};
+use report_json::{Form, tell_report, tell_sweep};
+use report_text::{ReportFault, What};
 use stage_graph::Graph;
 use std::alloc::Global;
 use text_io::Sink;
@@ -31,18 +32,19 @@ fn explain<R: StateRepresentation, S: Sink>(
     alloc: Global,
     version: &Version<R>,
     place: u32,
+    form: Form,
     sink: &mut S,
 ) -> Result<(), ReportFault>
     requires live { IsLive version.now.graph.places place }
     requires room { S.failures sink.old < 2 ^ 64 - 1 }
-    ensures ok { OnOk result (Appends (S.held sink.old) (S.held sink.new) (stage_text StageReport.Explanation version.now place)) }
-    ensures err { OnErr result (AppendsPrefix (S.held sink.old) (S.held sink.new) (stage_text StageReport.Explanation version.now place)) }
+    ensures ok { OnOk result (Appends (S.held sink.old) (S.held sink.new) (stage_text form StageReport.Explanation version.now place)) }
+    ensures err { OnErr result (AppendsPrefix (S.held sink.old) (S.held sink.new) (stage_text form StageReport.Explanation version.now place)) }
     ensures found { result ≢ Err ReportFault.NoStage }
     ensures failures { S.failures sink.new ≡ S.failures sink.old + failed_report_writes result }
 {
-    report(alloc, version, What::One(place), sink)?;
-    report(alloc, version, What::Blame(place), sink)?;
-    report(alloc, version, What::Path(place), sink)
+    tell_report(alloc, version, What::One(place), form, sink)?;
+    tell_report(alloc, version, What::Blame(place), form, sink)?;
+    tell_report(alloc, version, What::Path(place), form, sink)
 }
 
 /// Writes what is asked of the stage at a place.
@@ -52,32 +54,36 @@ fn write_stage<R: StateRepresentation, W: Runner, S: Sink>(
     place: u32,
     asked: StageReport,
     runner: &W,
+    form: Form,
     sink: &mut S,
 ) -> Result<(), ReportFault>
     requires live { IsLive version.now.graph.places place }
     requires room { S.failures sink.old < 2 ^ 64 - 1 }
-    ensures ok { OnOk result (Appends (S.held sink.old) (S.held sink.new) (stage_text asked version.now place)) }
-    ensures err { OnErr result (AppendsPrefix (S.held sink.old) (S.held sink.new) (stage_text asked version.now place)) }
+    ensures ok { OnOk result (Appends (S.held sink.old) (S.held sink.new) (stage_text form asked version.now place)) }
+    ensures err { OnErr result (AppendsPrefix (S.held sink.old) (S.held sink.new) (stage_text form asked version.now place)) }
     ensures found { result ≢ Err ReportFault.NoStage }
     ensures failures { S.failures sink.new ≡ S.failures sink.old + failed_report_writes result }
 {
     match asked {
-        StageReport::Explanation => explain(alloc, version, place, sink),
-        StageReport::Sweep { most } => report_sweep(alloc, version, place, most, runner, sink),
+        StageReport::Explanation => explain(alloc, version, place, form, sink),
+        StageReport::Sweep { most } => {
+            tell_sweep(alloc, version, place, most, runner, form, sink)
+        }
     }
 }
 
-/// Writes what is asked of the stage of a name, in version 0 of a recording.
+/// Writes what is asked of the stage of a name, in version 0 of a recording, in the form that is asked for.
 pub fn report_stage<R: StateRepresentation, W: Runner, S: Sink>(
     alloc: Global,
     recording: &[u8],
     name: &str,
     asked: StageReport,
     runner: &W,
+    form: Form,
     sink: &mut S,
 ) -> Result<(), RecordingFault>
     requires { S.failures sink.old < 2 ^ 64 - 1 }
-    ensures written { IsReported recording.now (stage_of asked name.now) (S.held sink.old) (S.held sink.new) result }
+    ensures written { IsReported recording.now (stage_of form asked name.now) (S.held sink.old) (S.held sink.new) result }
     ensures failures { S.failures sink.new ≡ S.failures sink.old + failed_writes result }
 {
     let graph: Graph<R> = match read_recording(alloc, recording) {
@@ -90,7 +96,7 @@ pub fn report_stage<R: StateRepresentation, W: Runner, S: Sink>(
     let Ok(place) = version.id_of(name) else {
         return Err(RecordingFault::NoStage);
     };
-    match write_stage(alloc, &version, place, asked, runner, sink) {
+    match write_stage(alloc, &version, place, asked, runner, form, sink) {
         Ok(()) => Ok(()),
         Err(ReportFault::Write) => Err(RecordingFault::Write),
         Err(ReportFault::Memory) => Err(RecordingFault::Memory),

@@ -16,7 +16,7 @@ use std::fmt::Write;
 use version_store::Version;
 
 /// The completion of the stage of a name, none while it is pending; none at all where the version has no such stage.
-fn done_of<R: StateRepresentation>(version: &Version<R>, name: &str) -> Option<Option<Done>>
+pub fn done_of<R: StateRepresentation>(version: &Version<R>, name: &str) -> Option<Option<Done>>
     ensures { result ≡ done_of version.now.graph name.now }
 {
     let place = version.id_of(name).ok()?;
@@ -82,7 +82,7 @@ fn is_unlike<R: Representation>(
 }
 
 /// Whether a stage differs from the one of its name in the other version, or that one is not there.
-pub(crate) fn is_changed<R: StateRepresentation>(
+pub fn is_changed<R: StateRepresentation>(
     version: &Version<R>,
     against: &Version<R>,
     place: u32,
@@ -156,7 +156,7 @@ fn shift_from(there: &Option<Option<Done>>, moment: Option<u64>) -> Option<Shift
 }
 
 /// How much later or earlier than the one of its name a stage completes, if both complete and at another moment.
-pub(crate) fn shift_against<R: StateRepresentation>(
+pub fn shift_against<R: StateRepresentation>(
     version: &Version<R>,
     against: &Version<R>,
     place: u32,

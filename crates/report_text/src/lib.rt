@@ -1,4 +1,4 @@
-//! Reports of a version, written to a sink a line at a time.
+//! Reports of a version, written to a sink a line at a time; and what they ask of the version, for other forms of them.
 #![tactic(auto)]
 
 mod against;
@@ -9,7 +9,7 @@ mod headers;
 mod lines;
 mod one;
 mod path;
-mod queries;
+pub mod queries;
 mod reporting;
 mod shift;
 mod sweep;
@@ -18,9 +18,13 @@ mod what;
 mod words;
 mod writing;
 
+pub use against::{done_of, is_changed, shift_against};
 pub use comparison::Comparison;
 pub use fault::ReportFault;
+pub use path::end_text;
 pub use reporting::{compare, report};
-pub use sweep::report_sweep;
+pub use shift::Shift;
+pub use sweep::{first_of, report_sweep, swept, tick_of};
 pub use text_io::{CountedWriter, Sink, WriteFault};
 pub use what::What;
+pub use words::{mode_text, name_of};

@@ -202,8 +202,8 @@ fn push_because<R: Representation>(
     }
 }
 
-// The kind of the end of an index, by its name in recordings.
-fn end_text(stage: &Stage, index: usize) -> &'static str
+/// The kind of the end of an index, by its name in recordings.
+pub fn end_text(stage: &Stage, index: usize) -> &'static str
     ensures { result.now ≡ end_text (slice_get stage.now.ends index) }
 {
     let Some(end) = stage.ends.as_slice().get(index) else {

@@ -14,7 +14,7 @@ use stage_ops::{Join, Reason, State};
 use std::alloc::{AllocError, Global};
 use version_store::{Before, QueryFault, Version};
 
-pub(crate) fn rank_of<R: StateRepresentation>(version: &Version<R>, place: u32) -> u32
+pub fn rank_of<R: StateRepresentation>(version: &Version<R>, place: u32) -> u32
     requires { IsLive version.now.graph.places place }
     ensures { result ≡ rank version.now.graph.places place }
 {
@@ -24,7 +24,7 @@ pub(crate) fn rank_of<R: StateRepresentation>(version: &Version<R>, place: u32) 
     }
 }
 
-pub(crate) fn state_of<R: StateRepresentation>(version: &Version<R>, place: u32) -> State
+pub fn state_of<R: StateRepresentation>(version: &Version<R>, place: u32) -> State
     requires { IsLive version.now.graph.places place }
     ensures { result ≡ state_of version.now.graph place }
 {
@@ -34,7 +34,7 @@ pub(crate) fn state_of<R: StateRepresentation>(version: &Version<R>, place: u32)
     }
 }
 
-pub(crate) fn start_of<R: StateRepresentation>(version: &Version<R>, place: u32) -> Option<u64>
+pub fn start_of<R: StateRepresentation>(version: &Version<R>, place: u32) -> Option<u64>
     requires { IsLive version.now.graph.places place }
     ensures { result ≡ start_in (state_of version.now.graph place) }
 {
@@ -45,7 +45,7 @@ pub(crate) fn start_of<R: StateRepresentation>(version: &Version<R>, place: u32)
 }
 
 /// What the stage was in the parent.
-pub(crate) fn before_of<R: StateRepresentation>(version: &Version<R>, place: u32) -> Before
+pub fn before_of<R: StateRepresentation>(version: &Version<R>, place: u32) -> Before
     requires { IsLive version.now.graph.places place }
     ensures { result ≡ before version.now.origin place }
 {
@@ -56,7 +56,7 @@ pub(crate) fn before_of<R: StateRepresentation>(version: &Version<R>, place: u32
 }
 
 /// The places of the chain of blame.
-pub(crate) fn chain_of<R: StateRepresentation>(
+pub fn chain_of<R: StateRepresentation>(
     alloc: Global,
     version: &Version<R>,
     place: u32,
@@ -72,7 +72,7 @@ pub(crate) fn chain_of<R: StateRepresentation>(
 }
 
 /// The places of the path.
-pub(crate) fn path_of<R: StateRepresentation>(
+pub fn path_of<R: StateRepresentation>(
     alloc: Global,
     version: &Version<R>,
     place: u32,
@@ -88,7 +88,7 @@ pub(crate) fn path_of<R: StateRepresentation>(
 }
 
 /// The reason of the stage's state.
-pub(crate) fn reason_of<R: StateRepresentation>(version: &Version<R>, place: u32) -> Reason
+pub fn reason_of<R: StateRepresentation>(version: &Version<R>, place: u32) -> Reason
     requires { IsLive version.now.graph.places place }
     ensures { result ≡ reason_at version.now.graph place }
 {
@@ -98,7 +98,7 @@ pub(crate) fn reason_of<R: StateRepresentation>(version: &Version<R>, place: u32
     }
 }
 
-pub(crate) fn moment_of<R: StateRepresentation>(version: &Version<R>, place: u32) -> Option<u64>
+pub fn moment_of<R: StateRepresentation>(version: &Version<R>, place: u32) -> Option<u64>
     requires { IsLive version.now.graph.places place }
     ensures { result ≡ moment_in (state_of version.now.graph place) }
 {
@@ -109,7 +109,7 @@ pub(crate) fn moment_of<R: StateRepresentation>(version: &Version<R>, place: u32
 }
 
 /// The dependents: the places of the stages that have the stage as a feed.
-pub(crate) fn dependents_of<R: StateRepresentation>(version: &Version<R>, place: u32) -> &[u32]
+pub fn dependents_of<R: StateRepresentation>(version: &Version<R>, place: u32) -> &[u32]
     requires { IsLive version.now.graph.places place }
     ensures { result.now ≡ dependents version.now.graph.places place }
 {
@@ -119,7 +119,7 @@ pub(crate) fn dependents_of<R: StateRepresentation>(version: &Version<R>, place:
     }
 }
 
-pub(crate) fn join_of<R: StateRepresentation>(version: &Version<R>, place: u32) -> Join
+pub fn join_of<R: StateRepresentation>(version: &Version<R>, place: u32) -> Join
     requires { IsLive version.now.graph.places place }
     ensures { result ≡ joined (state_of version.now.graph place) }
 {

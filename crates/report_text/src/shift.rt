@@ -8,7 +8,7 @@ use version_store::{Before, Version};
 
 /// How many ticks later or earlier a stage completes.
 #[derive(Clone, Copy, Debug, PartialEq, Eq)]
-pub(crate) enum Shift {
+pub enum Shift {
     Later(u64),
     Earlier(u64),
 }
@@ -53,7 +53,7 @@ impl Shift {
     }
 
     /// The shift of the stage at a place, if it completes at another moment than in the parent.
-    pub(crate) fn at<R: StateRepresentation>(version: &Version<R>, place: u32) -> Option<Shift>
+    pub fn at<R: StateRepresentation>(version: &Version<R>, place: u32) -> Option<Shift>
         ensures { result ≡ shift_at version.now place }
     {
         match (version.before(place), version.moment(place)) {

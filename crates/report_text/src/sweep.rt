@@ -83,7 +83,7 @@ fn write_sweep<R: StateRepresentation, S: Sink>(
 }
 
 /// The trials by which the stage would complete sooner.
-fn swept<R: StateRepresentation, W: Runner>(
+pub fn swept<R: StateRepresentation, W: Runner>(
     alloc: Global,
     version: &Version<R>,
     target: u32,
@@ -100,7 +100,7 @@ fn swept<R: StateRepresentation, W: Runner>(
 }
 
 /// The tick at which the stage completes; 0 while it is pending, and then nothing makes it complete sooner.
-fn tick_of<R: StateRepresentation>(version: &Version<R>, target: u32) -> u64
+pub fn tick_of<R: StateRepresentation>(version: &Version<R>, target: u32) -> u64
     requires { IsLive version.now.graph.places target }
     ensures { result ≡ ticks_of (completion_of version.now.graph target) }
 {
@@ -111,7 +111,7 @@ fn tick_of<R: StateRepresentation>(version: &Version<R>, target: u32) -> u64
 }
 
 /// The first trials, up to this many.
-fn first_of(most: Option<usize>, trials: &[Trial]) -> &[Trial]
+pub fn first_of(most: Option<usize>, trials: &[Trial]) -> &[Trial]
     ensures { result.now ≡ first_of most trials.now }
 {
     match most {

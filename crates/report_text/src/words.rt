@@ -8,7 +8,8 @@ use stage_graph::{Graph, Representation};
 use std::alloc::AllocError;
 use std::fmt::Write;
 
-pub(crate) fn mode_text(mode: Mode) -> &'static str
+/// The mode, by its name in recordings.
+pub fn mode_text(mode: Mode) -> &'static str
     ensures { result.now ≡ mode_text mode }
 {
     match mode {
@@ -58,7 +59,7 @@ fn push_names<R: Representation>(
 }
 
 /// The name of the stage at a place.
-pub(crate) fn name_of<R: Representation>(graph: &Graph<R>, place: u32) -> &str
+pub fn name_of<R: Representation>(graph: &Graph<R>, place: u32) -> &str
     ensures { result.now ≡ name_of (stage_at graph.now.places place) }
 {
     match graph.stage(place) {

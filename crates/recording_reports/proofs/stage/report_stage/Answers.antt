@@ -7,21 +7,21 @@ write_stage-requires-clause-live g c κs within = live_where_found c.in-Ok-load.
 
 pub returns-in-Ok-write_stage-clause-written : goal.returns-in-Ok-write_stage-clause-written
 returns-in-Ok-write_stage-clause-written g c = (
-  stage_text c.args.asked c.in-Ok-load.version c.in-Ok-id_of.place,
-  text_of_stage c.args.asked c.args.name.now c.args.recording.now c.in-Ok.graph c.in-Ok-load.version c.in-Ok-id_of.place c.in-Ok.ensures c.in-Ok-load.ensures c.in-Ok-id_of.ensures,
+  stage_text c.args.form c.args.asked c.in-Ok-load.version c.in-Ok-id_of.place,
+  text_of_stage c.args.form c.args.asked c.args.name.now c.args.recording.now c.in-Ok.graph c.in-Ok-load.version c.in-Ok-id_of.place c.in-Ok.ensures c.in-Ok-load.ensures c.in-Ok-id_of.ensures,
   c.in-Ok-write_stage.ensures.ok,
 )
 
 pub returns-in-Err-Write-clause-written : goal.returns-in-Err-Write-clause-written
 returns-in-Err-Write-clause-written g c = (
-  stage_text c.args.asked c.in-Ok-load.version c.in-Ok-id_of.place,
-  text_of_stage c.args.asked c.args.name.now c.args.recording.now c.in-Ok.graph c.in-Ok-load.version c.in-Ok-id_of.place c.in-Ok.ensures c.in-Ok-load.ensures c.in-Ok-id_of.ensures,
+  stage_text c.args.form c.args.asked c.in-Ok-load.version c.in-Ok-id_of.place,
+  text_of_stage c.args.form c.args.asked c.args.name.now c.args.recording.now c.in-Ok.graph c.in-Ok-load.version c.in-Ok-id_of.place c.in-Ok.ensures c.in-Ok-load.ensures c.in-Ok-id_of.ensures,
   c.in-Err-Write.ensures.err,
 )
 
 pub returns-in-Err-Memory-clause-written : goal.returns-in-Err-Memory-clause-written
 returns-in-Err-Memory-clause-written g c = (
-  stage_text c.args.asked c.in-Ok-load.version c.in-Ok-id_of.place,
-  text_of_stage c.args.asked c.args.name.now c.args.recording.now c.in-Ok.graph c.in-Ok-load.version c.in-Ok-id_of.place c.in-Ok.ensures c.in-Ok-load.ensures c.in-Ok-id_of.ensures,
+  stage_text c.args.form c.args.asked c.in-Ok-load.version c.in-Ok-id_of.place,
+  text_of_stage c.args.form c.args.asked c.args.name.now c.args.recording.now c.in-Ok.graph c.in-Ok-load.version c.in-Ok-id_of.place c.in-Ok.ensures c.in-Ok-load.ensures c.in-Ok-id_of.ensures,
   c.in-Err-Memory.ensures.err,
 )

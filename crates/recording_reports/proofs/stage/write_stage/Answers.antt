@@ -5,4 +5,4 @@ use Rattle.recording_reports.proofs.stage.write_stage.Goals as goal
 
 pub returns-in-Explanation-clause-err : goal.returns-in-Explanation-clause-err
 returns-in-Explanation-clause-err g c =
-    of_the_text _ _ _ _ _ (ap (λ asked. stage_text asked c.args.version.now c.args.place) (sym c.in-Explanation.is)) c.explain.ensures.err
+    of_the_text _ _ _ _ _ (ap (λ asked. stage_text c.args.form asked c.args.version.now c.args.place) (sym c.in-Explanation.is)) c.explain.ensures.err

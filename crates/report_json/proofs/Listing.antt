@@ -1,0 +1,23 @@
+-- The values of a list, one after the other.
+use Rattle.std.proofs.Common.{◌≡◌, ℕ, ◌+◌, ◌<◌, ◌≤◌, List, [], ◌∷◌, ◌++◌, length, take, get_or, Option, Result, Ok, Err, OnErr, ap, sym, ◌∙◌}
+use Rattle.std.specs.Prelude.{filter_map}
+use Rattle.std.specs.List.{cons_option}
+use Rattle.std.proofs.lemmas.List.{take_all, take_more}
+use Rattle.std.proofs.lemmas.List.Elements.{filter_map-append}
+use Rattle.serde_json.specs.Data.{Data}
+
+-- a clause that is the same at every error
+pub on_err : {T E P : Type 0} (r : Result T E) → P → OnErr r P
+on_err (Ok x) p = tt
+on_err (Err e) p = p
+
+-- what one more place gives is added
+pub one_more : {X : Type 0} (f : X → Option Data) (places : List X) (i : ℕ) (d : X) (before after : List Data) (found : Option Data) → i < length places
+    → before ≡ filter_map f (take i places) → found ≡ f (get_or places i d) → after ≡ before ++ cons_option found [] → after ≡ filter_map f (take (i + 1) places)
+one_more f places i d before after found within so_far is added =
+    added ∙ ap (λ ds. ds ++ cons_option found []) so_far ∙ ap (λ entry. filter_map f (take i places) ++ cons_option entry []) is
+    ∙ sym (ap (filter_map f) (take_more places i d within) ∙ filter_map-append f (take i places) (get_or places i d ∷ []))
+
+-- past the last one all are there
+pub all_are_there : {X : Type 0} (f : X → Option Data) (places : List X) (i : ℕ) (found : List Data) → length places ≤ i → found ≡ filter_map f (take i places) → found ≡ filter_map f places
+all_are_there f places i found past so_far = so_far ∙ ap (filter_map f) (take_all i places past)

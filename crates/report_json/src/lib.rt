@@ -1,0 +1,23 @@
+//! Reports of a version as JSON, for programs: each is one object. The texts for people are those of `report_text`, and
+//! `tell_report` and those beside it write either.
+#![tactic(auto)]
+
+mod changes;
+mod entry;
+mod form;
+mod lines;
+mod object;
+mod one;
+mod path;
+mod reports;
+mod stages;
+mod sweep;
+mod telling;
+mod values;
+
+pub use form::{Form, Format};
+pub use lines::{write_answer, write_comparison, write_report, write_sweep};
+pub use object::Object;
+pub use reports::{comparison_value, report_value};
+pub use sweep::sweep_value;
+pub use telling::{tell_comparison, tell_report, tell_sweep};

@@ -1,0 +1,92 @@
+//! Objects that are put together member by member.
+ghost use Rattle.std.specs.Prelude.{◌≡◌, ◌∷◌, [], IfOk, OnOk, codes};
+ghost use Rattle.serde_json.specs.Data.{no_members, object as object_of, put};
+ghost use Rattle.serde_json.specs.View.{members_view, view};
+ghost use Rattle.report_json.specs.Json.{count, object, optional, text, with};
+ghost use Rattle.report_json.specs.Objects.{held};
+
+use serde_json::{Map, Value};
+use std::alloc::{AllocError, Global};
+
+/// An object to which members are added.
+#[derive(Drop)]
+pub struct Object {
+    members: Map<String, Value>,
+    alloc: Global,
+}
+
+impl Object {
+    /// An object without members.
+    pub fn new(alloc: Global) -> Object
+        ensures { held result ≡ no_members }
+    {
+        Object {
+            members: Map::new(alloc),
+            alloc,
+        }
+    }
+
+    /// An object of these members.
+    pub(crate) fn of(alloc: Global, members: Map<String, Value>) -> Object
+        ensures { held result ≡ members_view members.entries }
+    {
+        Object { members, alloc }
+    }
+
+    /// Adds a member.
+    pub fn value(&mut self, name: &str, value: Value) -> Result<(), AllocError>
+        ensures { OnOk result (held self.new ≡ put name.now (view value) (held self.old)) }
+    {
+        serde_json::put(&mut self.members, self.alloc, name, value)
+    }
+
+    /// Adds a text.
+    pub fn text(&mut self, name: &str, content: &str) -> Result<(), AllocError>
+        ensures { OnOk result (held self.new ≡ put name.now (text content.now) (held self.old)) }
+    {
+        let value = Value::try_from_str(self.alloc, content)?;
+        self.value(name, value)
+    }
+
+    /// Adds a number.
+    pub fn count(&mut self, name: &str, number: u64) -> Result<(), AllocError>
+        ensures { OnOk result (held self.new ≡ put name.now (count number) (held self.old)) }
+    {
+        self.value(name, Value::from(number))
+    }
+
+    /// Adds a number, or null where there is none.
+    pub fn optional_count(&mut self, name: &str, number: Option<u64>) -> Result<(), AllocError>
+        ensures { OnOk result (held self.new ≡ put name.now (optional count number) (held self.old)) }
+    {
+        match number {
+            Some(number) => self.count(name, number),
+            None => self.value(name, Value::Null),
+        }
+    }
+
+    /// The object as a value.
+    pub fn into_value(self) -> Value
+        ensures { view result ≡ object_of (held self) }
+    {
+        let Object { members, .. } = self;
+        Value::Object(members)
+    }
+}
+
+/// An object whose first member is its kind.
+pub(crate) fn of_kind(alloc: Global, kind: &str) -> Result<Object, AllocError>
+    ensures { IfOk result (λ object. held object ≡ with no_members ((codes "kind", text kind.now) ∷ [])) }
+{
+    let mut object = Object::new(alloc);
+    object.text("kind", kind)?;
+    Ok(object)
+}
+
+/// An object of its kind alone.
+pub(crate) fn kind_alone(alloc: Global, kind: &str) -> Result<Value, AllocError>
+    ensures { IfOk result (λ value. view value ≡ object ((codes "kind", text kind.now) ∷ [])) }
+{
+    let object = of_kind(alloc, kind)?;
+    Ok(object.into_value())
+}
