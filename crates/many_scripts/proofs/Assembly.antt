@@ -9,6 +9,7 @@ use Rattle.session_core.specs.Log.{opening_of}
 use Rattle.session_core.specs.Machine.{State}
 use Rattle.session_core.specs.TableView.{TableView}
 use Rattle.session_core.specs.declared.event.Entry.{Entry}
+use Rattle.report_json.specs.declared.form.Format.{Format}
 use Rattle.script_lines.specs.Lines.{lines_of}
 use Rattle.serve_script.specs.Answers.{opening_state}
 use Rattle.desk.specs.Clients.{AreNew, ClientView, HasSeen, IsNew, entries_of}
@@ -47,6 +48,14 @@ all_seated seats client script clients scripts P are all = all_unmap client P se
 pub all_scripts : {S C R : Type 0} (seats : List S) (client : S → C) (script : S → R) (clients : List C) (scripts : List R) (P : R → Type 0) → AreSeats seats client script clients scripts → All P scripts → All (λ s. P (script s)) seats
 all_scripts seats client script clients scripts P are all = all_unmap script P seats (subst (All P) (sym are.scripts_are) all)
 
+all_same : {C X : Type 0} (x : X) (clients : List C) → All (λ y. y ≡ x) (map (λ client. x) clients)
+all_same x [] = All-nil (λ y. y ≡ x)
+all_same x (client ∷ clients) = All-cons (λ y. y ≡ x) x (map (λ c. x) clients) refl (all_same x clients)
+
+-- what is the same for each client is the same in each seat
+pub alike : {S C X : Type 0} (seats : List S) (told_in : S → X) (x : X) (clients : List C) → map told_in seats ≡ map (λ client. x) clients → All (λ s. told_in s ≡ x) seats
+alike seats told_in x clients same = all_unmap told_in (λ y. y ≡ x) seats (subst (All (λ y. y ≡ x)) (sym same) (all_same x clients))
+
 new_heard : (number : ℕ) (first : PlainVersion) (c : ClientView) → IsNew number (first ∷ []) c → HasHeard c
 new_heard number first c new = record {
   some = let one = ap length new.2 in omega (arith, one);
@@ -82,17 +91,17 @@ all_ready (s ∷ ss) client script failures heard new reads = All-cons (λ t. Is
     })
     (all_ready ss client script failures (All-tail (λ t. HasHeard (client t)) s ss heard) (All-tail (λ t. (client t).calls ≡ []) s ss new) (All-tail (λ t. failures (script t) < 2 ^ 64 - 1) s ss reads))
 
-module _ {S P R : Type 0} (seated : S → ClientView) (script : S → R) (client : P → ClientView) (text : P → List ℕ) (remaining : R → Option (List ℕ)) (failures : R → ℕ) where
+module _ {S P R : Type 0} (seated : S → ClientView) (script : S → R) (client : P → ClientView) (text : P → List ℕ) (format : Format) (remaining : R → Option (List ℕ)) (failures : R → ℕ) where
   -- the result of a seat
   abbrev pub CameOf : S → Result P ManyFault → Type 0
-  CameOf seat play = MatchResult play (λ done. IsPlay remaining failures (seated seat) (script seat) (client done) (text done)) (EndsReading remaining failures (script seat))
+  CameOf seat play = MatchResult play (λ done. IsPlay format remaining failures (seated seat) (script seat) (client done) (text done)) (EndsReading remaining failures (script seat))
 
   pub record Assembled (log : List Entry) (versions : List PlainVersion) (number : ℕ) (seats : List S) (done : List P) : Type 0 where
     pub read : List (List ℕ)
     pub told : List (List ℕ)
     pub are_read : AllZip (IsRead remaining failures) (map script seats) read
-    pub played : AreOfLog log versions number read told
-    pub output : flat_map text done ≡ scripts_text number told
+    pub played : AreOfLog format log versions number read told
+    pub output : flat_map text done ≡ scripts_text format number told
     pub count : length read ≡ length seats
     pub calls : sum_by (λ c. length c.calls) (map client done) ≡ total number seats log
 
@@ -103,7 +112,7 @@ module _ {S P R : Type 0} (seated : S → ClientView) (script : S → R) (client
   assemble log versions first number [] (d ∷ ds) came new agree seen = absurd came
   assemble log versions first number (s ∷ ss) [] came new agree seen = absurd came
   assemble log versions first number (s ∷ ss) (d ∷ ds) came new agree seen =
-      let play : IsPlay remaining failures (seated s) (script s) (client d) (text d) = came.0 in
+      let play : IsPlay format remaining failures (seated s) (script s) (client d) (text d) = came.0 in
       let numbered : (seated s).number ≡ number = new.0.0 in
       let agrees : (client d).calls ≡ entries_of (client d).number log = All-head (Agrees log) (client d) (map client ds) agree in
       let goes = All-head (GoesWith versions) (client d) (map client ds) seen in
@@ -120,12 +129,12 @@ module _ {S P R : Type 0} (seated : S → ClientView) (script : S → R) (client
           record {
             seen = (client d).seen;
             goes_with = goes.one_begins;
-            played = subst (λ es. IsPlayed number (client d).seen [] (lines_of play.read) es play.told) same
-                (subst (λ who. IsPlayed who (client d).seen [] (lines_of play.read) (client d).calls play.told) numbered play.played);
+            played = subst (λ es. IsPlayed format 1 number (client d).seen [] (lines_of play.read) es play.told) same
+                (subst (λ who. IsPlayed format 1 who (client d).seen [] (lines_of play.read) (client d).calls play.told) numbered play.played);
           },
           rest.played,
         );
-        output = ap (λ t. t ++ flat_map text ds) (play.text_is ∙ ap (λ n. script_text n play.told) numbered) ∙ ap (λ o. script_text number play.told ++ o) rest.output;
+        output = ap (λ t. t ++ flat_map text ds) (play.text_is ∙ ap (λ n. script_text format n play.told) numbered) ∙ ap (λ o. script_text format number play.told ++ o) rest.output;
         count = let c = rest.count in omega (arith, c);
         calls = omega (arith, summed, here, others);
       }
@@ -159,8 +168,8 @@ module _ {S P R : Type 0} (seated : S → ClientView) (script : S → R) (client
   -- the whole output
   pub whole_output : (graph : PlainGraph) (log : TableView) (first : List PlainVersion) (n : ℕ) (seats : List S) (plays : List (Result P ManyFault)) (clients fresh : List ClientView) (scripts : List R) (output whole : List ℕ) (opened : State)
       → AllZip CameOf seats plays → AreGathered plays client text clients output → AreSeats seats seated script fresh scripts → AreNew first n fresh
-      → IsClosed log clients → opening_of log.state ≡ opened → opened ≡ opening_state graph → whole ≡ output ++ log_line (length log.history)
-      → IsOutputOf remaining failures graph scripts whole
+      → IsClosed log clients → opening_of log.state ≡ opened → opened ≡ opening_state graph → whole ≡ output ++ log_line format (length log.history)
+      → IsOutputOf format remaining failures graph scripts whole
   whole_output graph log first n seats plays clients fresh scripts output whole opened came gathered are new closed opening is text_is =
       let same = gathered.clients_are in
       let parts = assemble log.history log.state.versions first 1 seats gathered.done
@@ -182,14 +191,14 @@ module _ {S P R : Type 0} (seated : S → ClientView) (script : S → R) (client
               log.history (all_from seats 1 log.history counted);
           texts = parts.told;
           played = parts.played;
-          whole = text_is ∙ ap (λ o. o ++ log_line (length log.history)) (gathered.output_is ∙ parts.output);
+          whole = text_is ∙ ap (λ o. o ++ log_line format (length log.history)) (gathered.output_is ∙ parts.output);
         };
       }
 
--- the results of the seats, in terms of the clients before and after
-module _ {S P R : Type 0} (seated : S → ClientView) (script : S → R) (client : P → ClientView) (text : P → List ℕ) (remaining : R → Option (List ℕ)) (failures : R → ℕ) where
-  of_seats : (seats : List S) (done : List P) → AllZip (CameOf seated script client text remaining failures) seats (map Ok done)
-      → AllZip (λ (seat : ClientView × R) (play : ClientView × List ℕ). IsPlay remaining failures seat.0 seat.1 play.0 play.1) (zip (map seated seats) (map script seats)) (map (λ d. (client d, text d)) done)
+-- what came of the seats, said of the clients before and after
+module _ {S P R : Type 0} (seated : S → ClientView) (script : S → R) (client : P → ClientView) (text : P → List ℕ) (format : Format) (remaining : R → Option (List ℕ)) (failures : R → ℕ) where
+  of_seats : (seats : List S) (done : List P) → AllZip (CameOf seated script client text format remaining failures) seats (map Ok done)
+      → AllZip (λ (seat : ClientView × R) (play : ClientView × List ℕ). IsPlay format remaining failures seat.0 seat.1 play.0 play.1) (zip (map seated seats) (map script seats)) (map (λ d. (client d, text d)) done)
   of_seats [] [] came = tt
   of_seats [] (d ∷ ds) came = absurd came
   of_seats (s ∷ ss) [] came = absurd came
@@ -204,21 +213,21 @@ module _ {S P R : Type 0} (seated : S → ClientView) (script : S → R) (client
   texts_of (d ∷ ds) = ap (λ l. text d ++ l) (texts_of ds)
 
   pub are_played : (seats : List S) (plays : List (Result P ManyFault)) (clients fresh : List ClientView) (scripts : List R) (output : List ℕ)
-      → AllZip (CameOf seated script client text remaining failures) seats plays → AreGathered plays client text clients output → AreSeats seats seated script fresh scripts
-      → ArePlayed remaining failures fresh scripts clients output
+      → AllZip (CameOf seated script client text format remaining failures) seats plays → AreGathered plays client text clients output → AreSeats seats seated script fresh scripts
+      → ArePlayed format remaining failures fresh scripts clients output
   are_played seats plays clients fresh scripts output came gathered are = record {
     done = map (λ d. (client d, text d)) gathered.done;
-    played = subst (λ (l : List ClientView). AllZip (λ (seat : ClientView × R) (play : ClientView × List ℕ). IsPlay remaining failures seat.0 seat.1 play.0 play.1) (zip l scripts) (map (λ d. (client d, text d)) gathered.done)) are.clients_are
-        (subst (λ (l : List R). AllZip (λ (seat : ClientView × R) (play : ClientView × List ℕ). IsPlay remaining failures seat.0 seat.1 play.0 play.1) (zip (map seated seats) l) (map (λ d. (client d, text d)) gathered.done)) are.scripts_are
-        (of_seats seats gathered.done (subst (AllZip (CameOf seated script client text remaining failures) seats) gathered.plays_are came)));
+    played = subst (λ (l : List ClientView). AllZip (λ (seat : ClientView × R) (play : ClientView × List ℕ). IsPlay format remaining failures seat.0 seat.1 play.0 play.1) (zip l scripts) (map (λ d. (client d, text d)) gathered.done)) are.clients_are
+        (subst (λ (l : List R). AllZip (λ (seat : ClientView × R) (play : ClientView × List ℕ). IsPlay format remaining failures seat.0 seat.1 play.0 play.1) (zip (map seated seats) l) (map (λ d. (client d, text d)) gathered.done)) are.scripts_are
+        (of_seats seats gathered.done (subst (AllZip (CameOf seated script client text format remaining failures) seats) gathered.plays_are came)));
     clients_are = gathered.clients_are ∙ clients_of gathered.done;
     texts_are = gathered.output_is ∙ texts_of gathered.done;
   }
 
-module _ {R : Type 0} (remaining : R → Option (List ℕ)) (failures : R → ℕ) where
+module _ {R : Type 0} (format : Format) (remaining : R → Option (List ℕ)) (failures : R → ℕ) where
   all_done : (seats : List (ClientView × R)) (done : List (ClientView × List ℕ))
-      → AllZip (λ (seat : ClientView × R) (play : ClientView × List ℕ). IsPlay remaining failures seat.0 seat.1 play.0 play.1) seats done
-      → AllZip (CameOf (λ (seat : ClientView × R). seat.0) (λ (seat : ClientView × R). seat.1) (λ (play : ClientView × List ℕ). play.0) (λ (play : ClientView × List ℕ). play.1) remaining failures) seats (map Ok done)
+      → AllZip (λ (seat : ClientView × R) (play : ClientView × List ℕ). IsPlay format remaining failures seat.0 seat.1 play.0 play.1) seats done
+      → AllZip (CameOf (λ (seat : ClientView × R). seat.0) (λ (seat : ClientView × R). seat.1) (λ (play : ClientView × List ℕ). play.0) (λ (play : ClientView × List ℕ). play.1) format remaining failures) seats (map Ok done)
   all_done [] [] played = tt
   all_done [] (d ∷ ds) played = absurd played
   all_done (s ∷ ss) [] played = absurd played
@@ -237,10 +246,10 @@ module _ {R : Type 0} (remaining : R → Option (List ℕ)) (failures : R → �
 
   -- the output of clients that were new and have played
   pub output_of_played : (graph : PlainGraph) (first : List PlainVersion) (n : ℕ) (fresh clients : List ClientView) (scripts : List R) (texts output : List ℕ) (opening : State)
-      → ArePlayed remaining failures fresh scripts clients texts → IsWhole opening clients texts output → length fresh ≡ length scripts → AreNew first n fresh → opening ≡ opening_state graph
-      → IsOutputOf remaining failures graph scripts output
+      → ArePlayed format remaining failures fresh scripts clients texts → IsWhole format opening clients texts output → length fresh ≡ length scripts → AreNew first n fresh → opening ≡ opening_state graph
+      → IsOutputOf format remaining failures graph scripts output
   output_of_played graph first n fresh clients scripts texts output opening played whole same new is =
-      whole_output (λ (seat : ClientView × R). seat.0) (λ (seat : ClientView × R). seat.1) (λ (play : ClientView × List ℕ). play.0) (λ (play : ClientView × List ℕ). play.1) remaining failures
+      whole_output (λ (seat : ClientView × R). seat.0) (λ (seat : ClientView × R). seat.1) (λ (play : ClientView × List ℕ). play.0) (λ (play : ClientView × List ℕ). play.1) format remaining failures
       graph whole.log first n (zip fresh scripts) (map Ok played.done) clients fresh scripts texts output opening
       (all_done (zip fresh scripts) played.done played.played)
       (record { done = played.done; plays_are = refl; clients_are = played.clients_are; output_is = played.texts_are })
@@ -257,10 +266,10 @@ module _ {R : Type 0} (remaining : R → Option (List ℕ)) (failures : R → �
 
   module _ {W O : Type 0} (clients : W → List ClientView) (texts : W → List ℕ) (bytes : O → List ℕ) where
     pub comes_out : (gathered : Result W ManyFault) (result : Result O ManyFault) (graph : PlainGraph) (first : List PlainVersion) (n : ℕ) (fresh : List ClientView) (scripts : List R) (opening : State)
-        → IfOk gathered (λ ended. ArePlayed remaining failures fresh scripts (clients ended) (texts ended))
-        → IfOk result (λ output. IsOkAnd gathered (λ ended. IsWhole opening (clients ended) (texts ended) (bytes output)))
+        → IfOk gathered (λ ended. ArePlayed format remaining failures fresh scripts (clients ended) (texts ended))
+        → IfOk result (λ output. IsOkAnd gathered (λ ended. IsWhole format opening (clients ended) (texts ended) (bytes output)))
         → length fresh ≡ length scripts → AreNew first n fresh → opening ≡ opening_state graph
-        → IfOk result (λ output. IsOutputOf remaining failures graph scripts (bytes output))
+        → IfOk result (λ output. IsOutputOf format remaining failures graph scripts (bytes output))
     comes_out gathered (Err fault) graph first n fresh scripts opening played whole same new is = tt
     comes_out (Err fault) (Ok output) graph first n fresh scripts opening played whole same new is = absurd whole
     comes_out (Ok ended) (Ok output) graph first n fresh scripts opening played whole same new is =
@@ -273,23 +282,24 @@ module _ {R : Type 0} (remaining : R → Option (List ℕ)) (failures : R → �
   comes_to_fault gathered (Err fault) scripts ends (inl same) = subst (λ (r : Result _ _). IfErr r (EndsBy remaining failures scripts)) same ends
   comes_to_fault gathered (Err fault) scripts ends (inr (unread, unwritten)) = otherwise scripts fault unread unwritten
 
-module _ {S T R : Type 0} (client : S → ClientView) (script : S → R) (text : S → Result T ManyFault) (items : T → List ℕ) (remaining : R → Option (List ℕ)) (failures : R → ℕ) where
-  came : (seat : S) (c : ClientView) (r : Result T ManyFault) → MatchResult r (λ t. IsPlay remaining failures (client seat) (script seat) c (items t)) (EndsReading remaining failures (script seat))
-      → CameOf client script (λ (played : ClientView × T). played.0) (λ played. items played.1) remaining failures seat (with_client c r)
-  came seat c (Ok t) is = is
-  came seat c (Err fault) is = is
+module _ {S T R : Type 0} (client : S → ClientView) (script : S → R) (told_in : S → Format) (text : S → Result T ManyFault) (items : T → List ℕ) (format : Format) (remaining : R → Option (List ℕ)) (failures : R → ℕ) where
+  came : (seat : S) (c : ClientView) (r : Result T ManyFault) → told_in seat ≡ format → MatchResult r (λ t. IsPlay (told_in seat) remaining failures (client seat) (script seat) c (items t)) (EndsReading remaining failures (script seat))
+      → CameOf client script (λ (played : ClientView × T). played.0) (λ played. items played.1) format remaining failures seat (with_client c r)
+  came seat c (Ok t) same is = subst (λ f. IsPlay f remaining failures (client seat) (script seat) c (items t)) same is
+  came seat c (Err fault) same is = is
 
   -- the result of each seat, with its client
-  each_came : (seats ended : List S) → AllZip (λ before after. MatchResult (text after) (λ t. IsPlay remaining failures (client before) (script before) (client after) (items t)) (EndsReading remaining failures (script before))) seats ended
-      → AllZip (CameOf client script (λ (played : ClientView × T). played.0) (λ played. items played.1) remaining failures) seats (map (λ seat. with_client (client seat) (text seat)) ended)
-  each_came [] [] is = tt
-  each_came [] (e ∷ es) is = absurd is
-  each_came (s ∷ ss) [] is = absurd is
-  each_came (s ∷ ss) (e ∷ es) is = (came s (client e) (text e) is.0, each_came ss es is.1)
+  each_came : (seats ended : List S) → All (λ s. told_in s ≡ format) seats → AllZip (λ before after. MatchResult (text after) (λ t. IsPlay (told_in before) remaining failures (client before) (script before) (client after) (items t)) (EndsReading remaining failures (script before))) seats ended
+      → AllZip (CameOf client script (λ (played : ClientView × T). played.0) (λ played. items played.1) format remaining failures) seats (map (λ seat. with_client (client seat) (text seat)) ended)
+  each_came [] [] alike is = tt
+  each_came [] (e ∷ es) alike is = absurd is
+  each_came (s ∷ ss) [] alike is = absurd is
+  each_came (s ∷ ss) (e ∷ es) alike is =
+      (came s (client e) (text e) (All-head (λ t. told_in t ≡ format) s ss alike) is.0, each_came ss es (All-tail (λ t. told_in t ≡ format) s ss alike) is.1)
 
   -- the same where these stand in a list that is equal to it
-  pub each_came_back : (seats ended back : List S) → back ≡ ended
-      → AllZip (λ before after. MatchResult (text after) (λ t. IsPlay remaining failures (client before) (script before) (client after) (items t)) (EndsReading remaining failures (script before))) seats ended
-      → AllZip (CameOf client script (λ (played : ClientView × T). played.0) (λ played. items played.1) remaining failures) seats (map (λ seat. with_client (client seat) (text seat)) back)
-  each_came_back seats ended back same is =
-      subst (λ l. AllZip (CameOf client script (λ (played : ClientView × T). played.0) (λ played. items played.1) remaining failures) seats (map (λ seat. with_client (client seat) (text seat)) l)) (sym same) (each_came seats ended is)
+  pub each_came_back : (seats ended back : List S) → All (λ s. told_in s ≡ format) seats → back ≡ ended
+      → AllZip (λ before after. MatchResult (text after) (λ t. IsPlay (told_in before) remaining failures (client before) (script before) (client after) (items t)) (EndsReading remaining failures (script before))) seats ended
+      → AllZip (CameOf client script (λ (played : ClientView × T). played.0) (λ played. items played.1) format remaining failures) seats (map (λ seat. with_client (client seat) (text seat)) back)
+  each_came_back seats ended back alike same is =
+      subst (λ l. AllZip (CameOf client script (λ (played : ClientView × T). played.0) (λ played. items played.1) format remaining failures) seats (map (λ seat. with_client (client seat) (text seat)) l)) (sym same) (each_came seats ended alike is)

@@ -25,10 +25,13 @@ seat_send κ N H R gn gl sn yn sh yh sr = declared_send (seat.the_type κ N H R 
       (
         search sendable,
         (
-          search (sendable, client_send, states_send, states_sync, ranks_send, ranks_sync, dependents_send, dependents_sync, stages_send, stages_sync) depth 60 fits 100000,
+          search sendable,
           (
-            search sendable,
-            (search (sendable, crosses, many_fault_send) depth 60 fits 100000, tt),
+            search (sendable, client_send, states_send, states_sync, ranks_send, ranks_sync, dependents_send, dependents_sync, stages_send, stages_sync) depth 60 fits 100000,
+            (
+              search sendable,
+              (search (sendable, crosses, many_fault_send) depth 60 fits 100000, tt),
+            ),
           ),
         ),
       ),

@@ -9,7 +9,8 @@ use Rattle.session_core.specs.declared.event.Entry.{Entry}
 use Rattle.session_core.specs.declared.event.Event.{Event}
 use Rattle.session_core.specs.declared.event.Event.TheVariants.{Commit}
 use Rattle.session_core.specs.declared.event.Reply.{Reply}
-use Rattle.serve_script.specs.Replies.{reply_line}
+use Rattle.report_json.specs.declared.form.Form.{Form}
+use Rattle.serve_script.specs.Told.{reply_told}
 use Rattle.desk.specs.Clients.{ClientView, HasSeen, IsSameClient, SeesOn, named}
 use Rattle.many_scripts.specs.Played.{IsBooked, IsCommit, IsUnheardOf}
 use Rattle.many_scripts.specs.Playing.{Answers, Books, Commits, HasHeard}
@@ -90,35 +91,36 @@ books P c d event reply held holds text heard later booked printed answers = rec
   answers = answers;
 }
 
-pub answers_event : {T E : Type 0} (r : Result T E) (c d : ClientView) (event : Event) (reply : Reply) (held holds : Option (List ℕ))
-    → HasHeard c → SeesOn c d → Books c event reply d → OnOk r (Appends held holds (reply_line None event false reply))
-    → OnOk r (Answers (λ seen earlier. IsBooked c.number None event false) c d held holds)
-answers_event (Err e) c d event reply held holds heard later booked printed = tt
-answers_event (Ok x) c d event reply held holds heard later booked printed =
-    books (λ seen earlier. IsBooked c.number None event false) c d event reply held holds (reply_line None event false reply) heard later booked printed
-    (record { reply = reply; entry = refl; printed = refl })
+module _ (form : Form) where
+  pub answers_event : {T E : Type 0} (r : Result T E) (c d : ClientView) (event : Event) (reply : Reply) (held holds : Option (List ℕ))
+      → HasHeard c → SeesOn c d → Books c event reply d → OnOk r (Appends held holds (reply_told form None event false reply))
+      → OnOk r (Answers (λ seen earlier. IsBooked form c.number None event false) c d held holds)
+  answers_event (Err e) c d event reply held holds heard later booked printed = tt
+  answers_event (Ok x) c d event reply held holds heard later booked printed =
+      books (λ seen earlier. IsBooked form c.number None event false) c d event reply held holds (reply_told form None event false reply) heard later booked printed
+      (record { reply = reply; entry = refl; printed = refl })
 
-pub answers_commit : {T E : Type 0} (r : Result T E) (c d : ClientView) (session : ℕ) (base : PlainVersion) (edits given : List Edit) (listed : Bool) (reply : Reply) (held holds : Option (List ℕ))
-    → HasHeard c → SeesOn c d → Commits c session base given reply d → given ≡ edits → OnOk r (Appends held holds (reply_line (Some base) (Commit session base.number given) listed reply))
-    → OnOk r (Answers (λ seen earlier. IsCommit c.number session base.number edits listed base) c d held holds)
-answers_commit (Err e) c d session base edits given listed reply held holds heard later commits same printed = tt
-answers_commit (Ok x) c d session base edits given listed reply held holds heard later commits same printed =
-    subst (λ es. Answers (λ seen earlier. IsCommit c.number session base.number es listed base) c d held holds) same (by_cases commits)
-  where
-    by_cases : Commits c session base given reply d → Answers (λ seen earlier. IsCommit c.number session base.number given listed base) c d held holds
-    by_cases (inl (kept, refusal, refused, is)) =
-        prints (λ seen earlier. IsCommit c.number session base.number given listed base) c d held holds (reply_line (Some base) (Commit session base.number given) listed reply) heard later kept printed
-        (inl (record { refusal = refusal; refused = refused; printed = (refl, ap (reply_line (Some base) (Commit session base.number given) listed) is) }))
-    by_cases (inr booked) =
-        books (λ seen earlier. IsCommit c.number session base.number given listed base) c d (Commit session base.number given) reply held holds (reply_line (Some base) (Commit session base.number given) listed reply) heard later booked printed
-        (inr (record { reply = reply; entry = refl; printed = refl }))
+  pub answers_commit : {T E : Type 0} (r : Result T E) (c d : ClientView) (session : ℕ) (base : PlainVersion) (edits given : List Edit) (listed : Bool) (reply : Reply) (held holds : Option (List ℕ))
+      → HasHeard c → SeesOn c d → Commits c session base given reply d → given ≡ edits → OnOk r (Appends held holds (reply_told form (Some base) (Commit session base.number given) listed reply))
+      → OnOk r (Answers (λ seen earlier. IsCommit form c.number session base.number edits listed base) c d held holds)
+  answers_commit (Err e) c d session base edits given listed reply held holds heard later commits same printed = tt
+  answers_commit (Ok x) c d session base edits given listed reply held holds heard later commits same printed =
+      subst (λ es. Answers (λ seen earlier. IsCommit form c.number session base.number es listed base) c d held holds) same (by_cases commits)
+    where
+      by_cases : Commits c session base given reply d → Answers (λ seen earlier. IsCommit form c.number session base.number given listed base) c d held holds
+      by_cases (inl (kept, refusal, refused, is)) =
+          prints (λ seen earlier. IsCommit form c.number session base.number given listed base) c d held holds (reply_told form (Some base) (Commit session base.number given) listed reply) heard later kept printed
+          (inl (record { refusal = refusal; refused = refused; printed = (refl, ap (reply_told form (Some base) (Commit session base.number given) listed) is) }))
+      by_cases (inr booked) =
+          books (λ seen earlier. IsCommit form c.number session base.number given listed base) c d (Commit session base.number given) reply held holds (reply_told form (Some base) (Commit session base.number given) listed reply) heard later booked printed
+          (inr (record { reply = reply; entry = refl; printed = refl }))
 
--- the same, where the version was read before
-pub answers_commit_at : {T E : Type 0} (r : Result T E) (c d : ClientView) (session number : ℕ) (base known : PlainVersion) (edits given : List Edit) (listed : Bool) (reply : Reply) (held holds : Option (List ℕ))
-    → HasHeard c → SeesOn c d → Commits c session base given reply d → given ≡ edits → known ≡ base → number ≡ base.number
-    → OnOk r (Appends held holds (reply_line (Some known) (Commit session number given) listed reply))
-    → OnOk r (Answers (λ seen earlier. IsCommit c.number session base.number edits listed base) c d held holds)
-answers_commit_at r c d session number base known edits given listed reply held holds heard later commits same is numbered printed =
-    answers_commit r c d session base edits given listed reply held holds heard later commits same
-    (subst (λ v. OnOk r (Appends held holds (reply_line (Some v) (Commit session base.number given) listed reply))) is
-    (subst (λ n. OnOk r (Appends held holds (reply_line (Some known) (Commit session n given) listed reply))) numbered printed))
+  -- the same, where the version was looked at before
+  pub answers_commit_at : {T E : Type 0} (r : Result T E) (c d : ClientView) (session number : ℕ) (base known : PlainVersion) (edits given : List Edit) (listed : Bool) (reply : Reply) (held holds : Option (List ℕ))
+      → HasHeard c → SeesOn c d → Commits c session base given reply d → given ≡ edits → known ≡ base → number ≡ base.number
+      → OnOk r (Appends held holds (reply_told form (Some known) (Commit session number given) listed reply))
+      → OnOk r (Answers (λ seen earlier. IsCommit form c.number session base.number edits listed base) c d held holds)
+  answers_commit_at r c d session number base known edits given listed reply held holds heard later commits same is numbered printed =
+      answers_commit r c d session base edits given listed reply held holds heard later commits same
+      (subst (λ v. OnOk r (Appends held holds (reply_told form (Some v) (Commit session base.number given) listed reply))) is
+      (subst (λ n. OnOk r (Appends held holds (reply_told form (Some known) (Commit session n given) listed reply))) numbered printed))

@@ -1,7 +1,6 @@
 -- A script that is played line by line.
-use Rattle.std.proofs.Common.{◌≡◌, ℕ, ◌+◌, inl, inr, Bool, true, false, List, [], ◌∷◌, ◌++◌, length, sym, ap, ◌∙◌, subst, arith, append_assoc, append-nil, length-append, Option, Some, None, Result, Err, IfErr}
+use Rattle.std.proofs.Common.{◌≡◌, ℕ, ◌+◌, ◌≤◌, inl, inr, Bool, true, false, List, [], ◌∷◌, ◌++◌, length, sym, ap, ◌∙◌, subst, arith, append_assoc, append-nil, length-append, Option, Some, None, Result, Err, IfErr}
 use Rattle.std.specs.Io.KnownBytes.{Consumes}
-use Rattle.std.specs.List.{cons_option}
 use Rattle.std.proofs.KnownBytes.{Consumes-nil, Consumes-trans}
 use Rattle.script_lines.specs.Lines.{ScriptLine, lines_of}
 use Rattle.script_lines.specs.LineReader.{ReadsOn, StopsReading, line_read}
@@ -12,68 +11,82 @@ use Rattle.script_lines.proofs.Steps.{unfailed_in_answer}
 use Rattle.script_lines.specs.declared.fault.AnswerFault.{AnswerFault}
 use Rattle.script_lines.specs.declared.fault.ServeFault.{ServeFault}
 use Rattle.script_lines.specs.declared.fault.ServeFault.TheVariants.{Memory, Write, Read}
+use Rattle.report_json.specs.Forms.{form_of}
+use Rattle.report_json.specs.declared.form.Form.{Form}
+use Rattle.report_json.specs.declared.form.Format.{Format}
 use Rattle.desk.specs.Clients.{ClientView}
-use Rattle.many_scripts.specs.Played.{IsPlayed}
+use Rattle.many_scripts.specs.Played.{IsLine, IsPlayed}
 use Rattle.many_scripts.specs.Playing.{Answers, HasHeard, PlaysScript}
-use Rattle.many_scripts.proofs.LineByLine.{plays_none, plays_on}
+use Rattle.many_scripts.proofs.LineByLine.{plays_line, plays_none, plays_on}
 
--- this much was read, and its lines were played except for the unread bytes
-pub record PlaysOn (most : ℕ) (c d : ClientView) (reader : ReaderView) (had left : Option (List ℕ)) (held holds : Option (List ℕ)) : Type 0 where
+-- so much was read, and its lines were played but for what waits; the next one has this number, which the bytes bound
+pub record PlaysOn (format : Format) (most number : ℕ) (c d : ClientView) (reader : ReaderView) (had left : Option (List ℕ)) (held holds : Option (List ℕ)) : Type 0 where
   pub read : List ℕ
-  pub given : List ScriptLine
+  pub given : List (Option ScriptLine)
+  pub numbered : number ≡ 1 + length given
+  pub bounded : number + length reader.waiting + reader.left ≤ most + 1
   pub consumed : Consumes had left read
   pub counted : length read + reader.left ≡ most
   pub lines : (bytes : List ℕ) → lines_of (read ++ bytes) ≡ given ++ lines_of (reader.waiting ++ bytes)
-  pub plays : Answers (λ known earlier. IsPlayed c.number known earlier given) c d held holds
+  pub plays : Answers (λ known earlier. IsPlayed format 1 c.number known earlier given) c d held holds
 
-pub begins : (c : ClientView) (reader : ReaderView) (had held : Option (List ℕ)) → HasHeard c → reader.waiting ≡ [] → PlaysOn reader.left c c reader had had held held
-begins c reader had held heard none = record {
+pub begins : (format : Format) (c : ClientView) (reader : ReaderView) (had held : Option (List ℕ)) → HasHeard c → reader.waiting ≡ [] → PlaysOn format reader.left 1 c c reader had had held held
+begins format c reader had held heard none = record {
   read = [];
   given = [];
+  numbered = omega arith;
+  bounded = let empty = ap length none in omega (arith, empty);
   consumed = Consumes-nil had;
   counted = omega arith;
   lines = λ bytes. ap (λ w. lines_of (w ++ bytes)) (sym none);
-  plays = plays_none c held heard;
+  plays = plays_none format 1 c held heard;
 }
 
-append_cons : (lines : List ScriptLine) (line : Option ScriptLine) (others : List ScriptLine) → lines ++ cons_option line others ≡ (lines ++ cons_option line []) ++ others
-append_cons lines None others = ap (λ l. l ++ others) (sym (append-nil lines))
-append_cons lines (Some line) others = sym (append_assoc lines (line ∷ []) others)
+-- the lines with one more, where that one was answered under its number
+plays_more : (format : Format) (number : ℕ) (form : Form) (c m d : ClientView) (given : List (Option ScriptLine)) (line : Option ScriptLine) (a b e : Option (List ℕ)) → number ≡ 1 + length given → form ≡ form_of format (Some number)
+    → Answers (λ known earlier. IsPlayed format 1 c.number known earlier given) c m a b
+    → Answers (λ known earlier. IsLine form m.number known earlier line) m d b e
+    → Answers (λ known earlier. IsPlayed format 1 c.number known earlier (given ++ line ∷ [])) c d a e
+plays_more format number form c m d given line a b e numbered formed plays answers =
+    plays_on format 1 c m d given (line ∷ []) a b e plays
+    (subst (λ n. Answers (λ known earlier. IsPlayed format n m.number known earlier (line ∷ [])) m d b e) numbered (plays_line format number m d line b e (subst (λ f. Answers (λ known earlier. IsLine f m.number known earlier line) m d b e) formed answers)))
 
--- one more line
-pub goes_on : (most : ℕ) (c m d : ClientView) (before after : ReaderView) (had left still : Option (List ℕ)) (a b e : Option (List ℕ)) (line : Option ScriptLine) (more : Bool)
-    → PlaysOn most c m before had left a b → more ≡ true → ReadsOn more before after left still → line ≡ line_read after
-    → Answers (λ known earlier. IsPlayed m.number known earlier (cons_option line [])) m d b e → PlaysOn most c d after had still a e
-goes_on most c m d before after had left still a b e line more so_far is_more reads is answers =
+-- one line more
+pub goes_on : (format : Format) (most number : ℕ) (form : Form) (c m d : ClientView) (before after : ReaderView) (had left still : Option (List ℕ)) (a b e : Option (List ℕ)) (line : Option ScriptLine) (more : Bool)
+    → PlaysOn format most number c m before had left a b → more ≡ true → ReadsOn more before after left still → line ≡ line_read after
+    → form ≡ form_of format (Some number) → Answers (λ known earlier. IsLine form m.number known earlier line) m d b e → PlaysOn format most (number + 1) c d after had still a e
+goes_on format most number form c m d before after had left still a b e line more so_far is_more reads is formed answers =
     let on = subst (λ b. ReadsOn b before after left still) is_more reads in
     let joined = length-append so_far.read on.piece in
     let was = so_far.counted in
     let now = on.counted in
     record {
       read = so_far.read ++ on.piece;
-      given = so_far.given ++ cons_option line [];
+      given = so_far.given ++ line ∷ [];
+      numbered = let here = so_far.numbered in let longer = length-append so_far.given (line ∷ []) in omega (arith, here, longer);
+      bounded = let bound = so_far.bounded in let shorter = on.gives.1 in omega (arith, bound, shorter);
       consumed = Consumes-trans had left still so_far.read on.piece so_far.consumed on.consumed;
       counted = omega (arith, joined, was, now);
       lines = λ bytes.
           ap lines_of (append_assoc so_far.read on.piece bytes)
           ∙ so_far.lines (on.piece ++ bytes)
-          ∙ ap (λ l. so_far.given ++ l) (on.gives.0 bytes ∙ ap (λ o. cons_option o (lines_of (after.waiting ++ bytes))) (sym is))
-          ∙ append_cons so_far.given line (lines_of (after.waiting ++ bytes));
-      plays = plays_on c m d so_far.given (cons_option line []) a b e so_far.plays answers;
+          ∙ ap (λ l. so_far.given ++ l) (on.gives.0 bytes ∙ ap (λ o. o ∷ lines_of (after.waiting ++ bytes)) (sym is))
+          ∙ sym (append_assoc so_far.given (line ∷ []) (lines_of (after.waiting ++ bytes)));
+      plays = plays_more format number form c m d so_far.given line a b e so_far.numbered formed so_far.plays answers;
     }
 
 -- the last line
-pub comes_to_end : (most : ℕ) (c m d : ClientView) (before after : ReaderView) (had left still : Option (List ℕ)) (failures_before failures_after : ℕ) (a b e : Option (List ℕ)) (line : Option ScriptLine) (more : Bool)
-    → PlaysOn most c m before had left a b → more ≡ false → ReadsOn more before after left still → failures_after ≡ failures_before → line ≡ line_read after
-    → Answers (λ known earlier. IsPlayed m.number known earlier (cons_option line [])) m d b e → PlaysScript most c d had still failures_before failures_after a e
-comes_to_end most c m d before after had left still failures_before failures_after a b e line more so_far is_last reads unfailed is answers =
+pub comes_to_end : (format : Format) (most number : ℕ) (form : Form) (c m d : ClientView) (before after : ReaderView) (had left still : Option (List ℕ)) (failures_before failures_after : ℕ) (a b e : Option (List ℕ)) (line : Option ScriptLine) (more : Bool)
+    → PlaysOn format most number c m before had left a b → more ≡ false → ReadsOn more before after left still → failures_after ≡ failures_before → line ≡ line_read after
+    → form ≡ form_of format (Some number) → Answers (λ known earlier. IsLine form m.number known earlier line) m d b e → PlaysScript format most c d had still failures_before failures_after a e
+comes_to_end format most number form c m d before after had left still failures_before failures_after a b e line more so_far is_last reads unfailed is formed answers =
     let on = subst (λ b. ReadsOn b before after left still) is_last reads in
     let joined = length-append so_far.read on.piece in
     let was = so_far.counted in
     let now = on.counted in
     let some = on.gives.3 in
-    let lines : so_far.given ++ cons_option line [] ≡ lines_of (so_far.read ++ on.piece) =
-    ap (λ l. so_far.given ++ l) (ap (λ o. cons_option o []) is ∙ sym on.gives.0)
+    let lines : so_far.given ++ line ∷ [] ≡ lines_of (so_far.read ++ on.piece) =
+    ap (λ l. so_far.given ++ l) (ap (λ o. o ∷ []) is ∙ sym on.gives.0)
     ∙ sym (so_far.lines on.piece) in
     record {
       read = so_far.read ++ on.piece;
@@ -81,8 +94,8 @@ comes_to_end most c m d before after had left still failures_before failures_aft
       to_the_end = on.gives.2;
       below_the_most = omega (arith, joined, was, now, some);
       no_failure = unfailed;
-      plays = subst (λ l. Answers (λ known earlier. IsPlayed c.number known earlier l) c d a e) lines
-          (plays_on c m d so_far.given (cons_option line []) a b e so_far.plays answers);
+      plays = subst (λ l. Answers (λ known earlier. IsPlayed format 1 c.number known earlier l) c d a e) lines
+          (plays_more format number form c m d so_far.given line a b e so_far.numbered formed so_far.plays answers);
     }
 
 -- a fault ended the reading
@@ -94,10 +107,10 @@ ends_by Read read piece most left before after counted (inl failed) = inl failed
 ends_by Read read piece most left before after counted (inr (all, same)) =
     inr ((let joined = length-append read piece in omega (arith, joined, all, counted)), same)
 
-pub stops_on : (most : ℕ) (c m : ClientView) (before : ReaderView) (had left still : Option (List ℕ)) (first failures_before failures_after : ℕ) (a b : Option (List ℕ)) (fault : ServeFault)
-    → PlaysOn most c m before had left a b → failures_before ≡ first → StopsReading fault before.left left still failures_before failures_after
+pub stops_on : (format : Format) (most number : ℕ) (c m : ClientView) (before : ReaderView) (had left still : Option (List ℕ)) (first failures_before failures_after : ℕ) (a b : Option (List ℕ)) (fault : ServeFault)
+    → PlaysOn format most number c m before had left a b → failures_before ≡ first → StopsReading fault before.left left still failures_before failures_after
     → StopsReading fault most had still first failures_after
-stops_on most c m before had left still first failures_before failures_after a b fault so_far unfailed stops = record {
+stops_on format most number c m before had left still first failures_before failures_after a b fault so_far unfailed stops = record {
   piece = so_far.read ++ stops.piece;
   consumed = Consumes-trans had left still so_far.read stops.piece so_far.consumed stops.consumed;
   reads = subst (λ n. ReadsEndBy fault (length (so_far.read ++ stops.piece)) most n failures_after) unfailed
@@ -105,9 +118,9 @@ stops_on most c m before had left still first failures_before failures_after a b
 }
 
 -- an answer failed
-pub stops_answering : (most : ℕ) (c m : ClientView) (before after : ReaderView) (had left still : Option (List ℕ)) (first failures : ℕ) (a b : Option (List ℕ)) (fault : AnswerFault) (more : Bool)
-    → PlaysOn most c m before had left a b → ReadsOn more before after left still → failures ≡ first → StopsReading (served fault) most had still first failures
-stops_answering most c m before after had left still first failures a b fault more so_far on unfailed = record {
+pub stops_answering : (format : Format) (most number : ℕ) (c m : ClientView) (before after : ReaderView) (had left still : Option (List ℕ)) (first failures : ℕ) (a b : Option (List ℕ)) (fault : AnswerFault) (more : Bool)
+    → PlaysOn format most number c m before had left a b → ReadsOn more before after left still → failures ≡ first → StopsReading (served fault) most had still first failures
+stops_answering format most number c m before after had left still first failures a b fault more so_far on unfailed = record {
   piece = so_far.read ++ on.piece;
   consumed = Consumes-trans had left still so_far.read on.piece so_far.consumed on.consumed;
   reads = unfailed_in_answer fault (length (so_far.read ++ on.piece)) most first failures unfailed;

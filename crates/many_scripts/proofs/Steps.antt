@@ -10,8 +10,9 @@ use Rattle.session_core.specs.declared.event.Entry.{Entry}
 use Rattle.session_core.specs.declared.event.Event.TheVariants.{Head}
 use Rattle.session_core.specs.declared.event.Reply.TheVariants.{At, Refused}
 use Rattle.session_core.specs.declared.refusal.Refusal.{Refusal}
-use Rattle.serve_script.specs.Answers.{no_version_line, report_asked}
-use Rattle.serve_script.specs.Replies.{reply_line}
+use Rattle.report_json.specs.declared.form.Form.{Form}
+use Rattle.serve_script.specs.Answers.{report_asked}
+use Rattle.serve_script.specs.Told.{no_version_told, reply_told}
 use Rattle.desk.specs.Clients.{ClientView, HasSeen, IsSameClient, IsSeen, Keeps, SeesOn}
 use Rattle.many_scripts.specs.Played.{AtVersion, IsChange, IsCommit, IsPrinted, IsReport, IsReportAgainst, IsReportOf, IsUnheardOf}
 use Rattle.many_scripts.specs.Playing.{Answers, HasHeard}
@@ -43,156 +44,157 @@ after_reading (Ok x) P Q c m d held holds later same weaker a = record {
   answers = weaker a.entries a.text a.later (subst (λ calls. P d.seen calls a.entries a.text) same.1 a.answers);
 }
 
--- there is no version of the number
-prints_none : {T E : Type 0} (r : Result T E) (Found : PlainVersion → List Entry → List ℕ → Type 0) (c d : ClientView) (number : ℕ) (held holds : Option (List ℕ))
-    → HasHeard c → SeesOn c d → IsSameClient c d → length d.seen ≤ number → OnOk r (Appends held holds no_version_line)
-    → OnOk r (Answers (λ seen earlier entries text. AtVersion seen earlier number (λ version. Found version entries text) (IsPrinted no_version_line entries text)) c d held holds)
-prints_none (Err e) Found c d number held holds heard later same past printed = tt
-prints_none (Ok x) Found c d number held holds heard later same past printed =
-    prints (λ seen earlier entries text. AtVersion seen earlier number (λ version. Found version entries text) (IsPrinted no_version_line entries text)) c d held holds no_version_line heard later same printed
-    (inr (unheard c d number heard later same past, (refl, refl)))
+module _ (form : Form) where
+  -- there is no version of the number
+  prints_none : {T E : Type 0} (r : Result T E) (Found : PlainVersion → List Entry → List ℕ → Type 0) (c d : ClientView) (number : ℕ) (held holds : Option (List ℕ))
+      → HasHeard c → SeesOn c d → IsSameClient c d → length d.seen ≤ number → OnOk r (Appends held holds (no_version_told form))
+      → OnOk r (Answers (λ seen earlier entries text. AtVersion seen earlier number (λ version. Found version entries text) (IsPrinted (no_version_told form) entries text)) c d held holds)
+  prints_none (Err e) Found c d number held holds heard later same past printed = tt
+  prints_none (Ok x) Found c d number held holds heard later same past printed =
+      prints (λ seen earlier entries text. AtVersion seen earlier number (λ version. Found version entries text) (IsPrinted (no_version_told form) entries text)) c d held holds (no_version_told form) heard later same printed
+      (inr (unheard c d number heard later same past, (refl, refl)))
 
--- a report without a comparison
-pub reports : {T E : Type 0} (r : Result T E) (c : ClientView) (version : PlainVersion) (asked : Asked) (against : Option ℕ) (held holds : Option (List ℕ))
-    → HasHeard c → against ≡ None → OnOk r (Appends held holds (report_asked version None asked)) → OnOk r (Answers (λ seen earlier. IsReportAgainst seen earlier version asked against) c c held holds)
-reports (Err e) c version asked against held holds heard is printed = tt
-reports (Ok x) c version asked against held holds heard is printed =
-    subst (λ number. Answers (λ seen earlier. IsReportAgainst seen earlier version asked number) c c held holds) (sym is)
-    (prints (λ seen earlier. IsReportAgainst seen earlier version asked None) c c held holds (report_asked version None asked) heard (prefix_self c.seen) (refl, refl) printed (refl, refl))
+  -- a report that is compared with none
+  pub reports : {T E : Type 0} (r : Result T E) (c : ClientView) (version : PlainVersion) (asked : Asked) (against : Option ℕ) (held holds : Option (List ℕ))
+      → HasHeard c → against ≡ None → OnOk r (Appends held holds (report_asked form version None asked)) → OnOk r (Answers (λ seen earlier. IsReportAgainst form seen earlier version asked against) c c held holds)
+  reports (Err e) c version asked against held holds heard is printed = tt
+  reports (Ok x) c version asked against held holds heard is printed =
+      subst (λ number. Answers (λ seen earlier. IsReportAgainst form seen earlier version asked number) c c held holds) (sym is)
+      (prints (λ seen earlier. IsReportAgainst form seen earlier version asked None) c c held holds (report_asked form version None asked) heard (prefix_self c.seen) (refl, refl) printed (refl, refl))
 
--- a report that is compared with the version of a number
-pub reports_against : {T E : Type 0} (r : Result T E) (c d : ClientView) (version : PlainVersion) (asked : Asked) (number : ℕ) (against : PlainVersion) (held holds : Option (List ℕ))
-    → HasHeard c → SeesOn c d → IsSameClient c d → against.number ≡ number → IsSeen d against
-    → OnOk r (Appends held holds (report_asked version (Some against) asked)) → OnOk r (Answers (λ seen earlier. IsReportAgainst seen earlier version asked (Some number)) c d held holds)
-reports_against (Err e) c d version asked number against held holds heard later same numbered seen printed = tt
-reports_against (Ok x) c d version asked number against held holds heard later same numbered seen printed =
-    prints (λ seen earlier. IsReportAgainst seen earlier version asked (Some number)) c d held holds (report_asked version (Some against) asked) heard later same printed
-    (inl (against, stands_at d number against numbered seen, (refl, refl)))
+  -- a report that is compared with the version of a number
+  pub reports_against : {T E : Type 0} (r : Result T E) (c d : ClientView) (version : PlainVersion) (asked : Asked) (number : ℕ) (against : PlainVersion) (held holds : Option (List ℕ))
+      → HasHeard c → SeesOn c d → IsSameClient c d → against.number ≡ number → IsSeen d against
+      → OnOk r (Appends held holds (report_asked form version (Some against) asked)) → OnOk r (Answers (λ seen earlier. IsReportAgainst form seen earlier version asked (Some number)) c d held holds)
+  reports_against (Err e) c d version asked number against held holds heard later same numbered seen printed = tt
+  reports_against (Ok x) c d version asked number against held holds heard later same numbered seen printed =
+      prints (λ seen earlier. IsReportAgainst form seen earlier version asked (Some number)) c d held holds (report_asked form version (Some against) asked) heard later same printed
+      (inl (against, stands_at d number against numbered seen, (refl, refl)))
 
-pub reports_against_none : {T E : Type 0} (r : Result T E) (c d : ClientView) (version : PlainVersion) (asked : Asked) (number : ℕ) (held holds : Option (List ℕ))
-    → HasHeard c → SeesOn c d → IsSameClient c d → length d.seen ≤ number → OnOk r (Appends held holds no_version_line)
-    → OnOk r (Answers (λ seen earlier. IsReportAgainst seen earlier version asked (Some number)) c d held holds)
-reports_against_none r c d version asked number held holds heard later same past printed =
-    prints_none r (λ against. IsPrinted (report_asked version (Some against) asked)) c d number held holds heard later same past printed
+  pub reports_against_none : {T E : Type 0} (r : Result T E) (c d : ClientView) (version : PlainVersion) (asked : Asked) (number : ℕ) (held holds : Option (List ℕ))
+      → HasHeard c → SeesOn c d → IsSameClient c d → length d.seen ≤ number → OnOk r (Appends held holds (no_version_told form))
+      → OnOk r (Answers (λ seen earlier. IsReportAgainst form seen earlier version asked (Some number)) c d held holds)
+  reports_against_none r c d version asked number held holds heard later same past printed =
+      prints_none r (λ against. IsPrinted (report_asked form version (Some against) asked)) c d number held holds heard later same past printed
 
--- a report of the version of a number
-pub reports_version : {T E : Type 0} (r : Result T E) (c m d : ClientView) (number : ℕ) (version shown : PlainVersion) (asked : Asked) (held holds : Option (List ℕ))
-    → SeesOn c m → IsSameClient c m → version.number ≡ number → IsSeen m version → shown ≡ version
-    → OnOk r (Answers (λ seen earlier. IsReportOf seen earlier shown asked) m d held holds) → OnOk r (Answers (λ seen earlier. IsReport c.number seen earlier (subject.Version number) asked) c d held holds)
-reports_version r c m d number version shown asked held holds later same numbered seen is answers =
-    after_reading r (λ seen earlier. IsReportOf seen earlier version asked) (λ seen earlier. IsReport c.number seen earlier (subject.Version number) asked) c m d held holds later same
-    (λ entries text on report. inl (version, prefix_get m.seen d.seen number version on (stands_at m number version numbered seen), report))
-    (subst (λ v. OnOk r (Answers (λ seen earlier. IsReportOf seen earlier v asked) m d held holds)) is answers)
+  -- a report of the version of a number
+  pub reports_version : {T E : Type 0} (r : Result T E) (c m d : ClientView) (number : ℕ) (version shown : PlainVersion) (asked : Asked) (held holds : Option (List ℕ))
+      → SeesOn c m → IsSameClient c m → version.number ≡ number → IsSeen m version → shown ≡ version
+      → OnOk r (Answers (λ seen earlier. IsReportOf form seen earlier shown asked) m d held holds) → OnOk r (Answers (λ seen earlier. IsReport form c.number seen earlier (subject.Version number) asked) c d held holds)
+  reports_version r c m d number version shown asked held holds later same numbered seen is answers =
+      after_reading r (λ seen earlier. IsReportOf form seen earlier version asked) (λ seen earlier. IsReport form c.number seen earlier (subject.Version number) asked) c m d held holds later same
+      (λ entries text on report. inl (version, prefix_get m.seen d.seen number version on (stands_at m number version numbered seen), report))
+      (subst (λ v. OnOk r (Answers (λ seen earlier. IsReportOf form seen earlier v asked) m d held holds)) is answers)
 
-pub reports_none : {T E : Type 0} (r : Result T E) (c d : ClientView) (number : ℕ) (asked : Asked) (held holds : Option (List ℕ))
-    → HasHeard c → SeesOn c d → IsSameClient c d → length d.seen ≤ number → OnOk r (Appends held holds no_version_line)
-    → OnOk r (Answers (λ seen earlier. IsReport c.number seen earlier (subject.Version number) asked) c d held holds)
-reports_none (Err e) c d number asked held holds heard later same past printed = tt
-reports_none (Ok x) c d number asked held holds heard later same past printed =
-    prints (λ seen earlier. IsReport c.number seen earlier (subject.Version number) asked) c d held holds no_version_line heard later same printed
-    (inr (unheard c d number heard later same past, (refl, refl)))
+  pub reports_none : {T E : Type 0} (r : Result T E) (c d : ClientView) (number : ℕ) (asked : Asked) (held holds : Option (List ℕ))
+      → HasHeard c → SeesOn c d → IsSameClient c d → length d.seen ≤ number → OnOk r (Appends held holds (no_version_told form))
+      → OnOk r (Answers (λ seen earlier. IsReport form c.number seen earlier (subject.Version number) asked) c d held holds)
+  reports_none (Err e) c d number asked held holds heard later same past printed = tt
+  reports_none (Ok x) c d number asked held holds heard later same past printed =
+      prints (λ seen earlier. IsReport form c.number seen earlier (subject.Version number) asked) c d held holds (no_version_told form) heard later same printed
+      (inr (unheard c d number heard later same past, (refl, refl)))
 
--- the head was requested, and then reported
-pub reports_head : {T E : Type 0} (r : Result T E) (c m d : ClientView) (session : ℕ) (version shown : PlainVersion) (asked : Asked) (held holds : Option (List ℕ))
-    → SeesOn c m → Keeps c (Head session) (At version.number) m → IsSeen m version → shown ≡ version
-    → OnOk r (Answers (λ seen earlier. IsReportOf seen earlier shown asked) m d held holds)
-    → OnOk r (Answers (λ seen earlier. IsReport c.number seen earlier (subject.Head session) asked) c d held holds)
-reports_head (Err e) c m d session version shown asked held holds later kept seen is answers = tt
-reports_head (Ok x) c m d session version shown asked held holds later kept seen is a = record {
-  entries = entry c.number (Head session) (At version.number) ∷ a.entries;
-  text = a.text;
-  number = a.number ∙ kept.0;
-  calls = a.calls ∙ ap (λ calls. calls ++ a.entries) kept.1 ∙ append_assoc c.calls (entry c.number (Head session) (At version.number) ∷ []) a.entries;
-  later = prefix_trans c.seen m.seen d.seen later a.later;
-  heard = a.heard;
-  printed = a.printed;
-  answers = inr (record {
-    head = version.number;
-    version = version;
-    found = prefix_get m.seen d.seen version.number version a.later seen;
-    later = a.entries;
-    entry = refl;
-    report =
-        subst (λ calls. IsReportOf d.seen calls version asked a.entries a.text) kept.1
-        (subst (λ v. IsReportOf d.seen m.calls v asked a.entries a.text) is a.answers);
-  });
-}
+  -- the head was asked for, and then reported
+  pub reports_head : {T E : Type 0} (r : Result T E) (c m d : ClientView) (session : ℕ) (version shown : PlainVersion) (asked : Asked) (held holds : Option (List ℕ))
+      → SeesOn c m → Keeps c (Head session) (At version.number) m → IsSeen m version → shown ≡ version
+      → OnOk r (Answers (λ seen earlier. IsReportOf form seen earlier shown asked) m d held holds)
+      → OnOk r (Answers (λ seen earlier. IsReport form c.number seen earlier (subject.Head session) asked) c d held holds)
+  reports_head (Err e) c m d session version shown asked held holds later kept seen is answers = tt
+  reports_head (Ok x) c m d session version shown asked held holds later kept seen is a = record {
+    entries = entry c.number (Head session) (At version.number) ∷ a.entries;
+    text = a.text;
+    number = a.number ∙ kept.0;
+    calls = a.calls ∙ ap (λ calls. calls ++ a.entries) kept.1 ∙ append_assoc c.calls (entry c.number (Head session) (At version.number) ∷ []) a.entries;
+    later = prefix_trans c.seen m.seen d.seen later a.later;
+    heard = a.heard;
+    printed = a.printed;
+    answers = inr (record {
+      head = version.number;
+      version = version;
+      found = prefix_get m.seen d.seen version.number version a.later seen;
+      later = a.entries;
+      entry = refl;
+      report =
+          subst (λ calls. IsReportOf form d.seen calls version asked a.entries a.text) kept.1
+          (subst (λ v. IsReportOf form d.seen m.calls v asked a.entries a.text) is a.answers);
+    });
+  }
 
--- the head was refused
-pub reports_refused : {T E : Type 0} (r : Result T E) (c d : ClientView) (session : ℕ) (refusal : Refusal) (asked : Asked) (held holds : Option (List ℕ))
-    → HasHeard c → SeesOn c d → Keeps c (Head session) (Refused refusal) d → HasSeen d (Refused refusal)
-    → OnOk r (Appends held holds (reply_line None (Head session) false (Refused refusal)))
-    → OnOk r (Answers (λ seen earlier. IsReport c.number seen earlier (subject.Head session) asked) c d held holds)
-reports_refused (Err e) c d session refusal asked held holds heard later kept seen printed = tt
-reports_refused (Ok x) c d session refusal asked held holds heard later kept seen printed =
-    books (λ seen earlier. IsReport c.number seen earlier (subject.Head session) asked) c d (Head session) (Refused refusal) held holds (reply_line None (Head session) false (Refused refusal)) heard later (kept, seen) printed
-    (inl (record { refusal = refusal; entry = refl; printed = refl }))
+  -- the head was refused
+  pub reports_refused : {T E : Type 0} (r : Result T E) (c d : ClientView) (session : ℕ) (refusal : Refusal) (asked : Asked) (held holds : Option (List ℕ))
+      → HasHeard c → SeesOn c d → Keeps c (Head session) (Refused refusal) d → HasSeen d (Refused refusal)
+      → OnOk r (Appends held holds (reply_told form None (Head session) false (Refused refusal)))
+      → OnOk r (Answers (λ seen earlier. IsReport form c.number seen earlier (subject.Head session) asked) c d held holds)
+  reports_refused (Err e) c d session refusal asked held holds heard later kept seen printed = tt
+  reports_refused (Ok x) c d session refusal asked held holds heard later kept seen printed =
+      books (λ seen earlier. IsReport form c.number seen earlier (subject.Head session) asked) c d (Head session) (Refused refusal) held holds (reply_told form None (Head session) false (Refused refusal)) heard later (kept, seen) printed
+      (inl (record { refusal = refusal; entry = refl; printed = refl }))
 
--- ---- edits
+  -- ---- edits
 
-pub edits_none : {T E : Type 0} (r : Result T E) (c d : ClientView) (session number : ℕ) (edits : List Edit) (listed : Bool) (held holds : Option (List ℕ))
-    → HasHeard c → SeesOn c d → IsSameClient c d → length d.seen ≤ number
-    → OnOk r (Appends held holds no_version_line) → OnOk r (Answers (λ seen earlier. IsChange c.number seen earlier session (Some number) edits listed) c d held holds)
-edits_none (Err e) c d session number edits listed held holds heard later same past printed = tt
-edits_none (Ok x) c d session number edits listed held holds heard later same past printed =
-    prints (λ seen earlier. IsChange c.number seen earlier session (Some number) edits listed) c d held holds no_version_line heard later same printed
-    (inr (unheard c d number heard later same past, (refl, refl)))
+  pub edits_none : {T E : Type 0} (r : Result T E) (c d : ClientView) (session number : ℕ) (edits : List Edit) (listed : Bool) (held holds : Option (List ℕ))
+      → HasHeard c → SeesOn c d → IsSameClient c d → length d.seen ≤ number
+      → OnOk r (Appends held holds (no_version_told form)) → OnOk r (Answers (λ seen earlier. IsChange form c.number seen earlier session (Some number) edits listed) c d held holds)
+  edits_none (Err e) c d session number edits listed held holds heard later same past printed = tt
+  edits_none (Ok x) c d session number edits listed held holds heard later same past printed =
+      prints (λ seen earlier. IsChange form c.number seen earlier session (Some number) edits listed) c d held holds (no_version_told form) heard later same printed
+      (inr (unheard c d number heard later same past, (refl, refl)))
 
--- a version was read, and then edited
-pub edits_read : {T E : Type 0} (r : Result T E) (c m d : ClientView) (session number : ℕ) (version base : PlainVersion) (edits : List Edit) (listed : Bool) (held holds : Option (List ℕ))
-    → SeesOn c m → IsSameClient c m → version.number ≡ number → IsSeen m version → base ≡ version
-    → OnOk r (Answers (λ seen earlier. IsCommit m.number session base.number edits listed base) m d held holds)
-    → OnOk r (Answers (λ seen earlier. IsChange c.number seen earlier session (Some number) edits listed) c d held holds)
-edits_read (Err e) c m d session number version base edits listed held holds later same numbered seen is answers = tt
-edits_read (Ok x) c m d session number version base edits listed held holds later same numbered seen is a = record {
-  entries = a.entries;
-  text = a.text;
-  number = a.number ∙ same.0;
-  calls = a.calls ∙ ap (λ calls. calls ++ a.entries) same.1;
-  later = prefix_trans c.seen m.seen d.seen later a.later;
-  heard = a.heard;
-  printed = a.printed;
-  answers = inl (
-    version,
-    prefix_get m.seen d.seen number version a.later (stands_at m number version numbered seen),
-    subst (λ n. IsCommit c.number session n edits listed version a.entries a.text) numbered
-        (subst (λ v. IsCommit c.number session v.number edits listed v a.entries a.text) is
-        (subst (λ who. IsCommit who session base.number edits listed base a.entries a.text) same.0 a.answers)),
-  );
-}
+  -- a version was read, and then edited
+  pub edits_read : {T E : Type 0} (r : Result T E) (c m d : ClientView) (session number : ℕ) (version base : PlainVersion) (edits : List Edit) (listed : Bool) (held holds : Option (List ℕ))
+      → SeesOn c m → IsSameClient c m → version.number ≡ number → IsSeen m version → base ≡ version
+      → OnOk r (Answers (λ seen earlier. IsCommit form m.number session base.number edits listed base) m d held holds)
+      → OnOk r (Answers (λ seen earlier. IsChange form c.number seen earlier session (Some number) edits listed) c d held holds)
+  edits_read (Err e) c m d session number version base edits listed held holds later same numbered seen is answers = tt
+  edits_read (Ok x) c m d session number version base edits listed held holds later same numbered seen is a = record {
+    entries = a.entries;
+    text = a.text;
+    number = a.number ∙ same.0;
+    calls = a.calls ∙ ap (λ calls. calls ++ a.entries) same.1;
+    later = prefix_trans c.seen m.seen d.seen later a.later;
+    heard = a.heard;
+    printed = a.printed;
+    answers = inl (
+      version,
+      prefix_get m.seen d.seen number version a.later (stands_at m number version numbered seen),
+      subst (λ n. IsCommit form c.number session n edits listed version a.entries a.text) numbered
+          (subst (λ v. IsCommit form c.number session v.number edits listed v a.entries a.text) is
+          (subst (λ who. IsCommit form who session base.number edits listed base a.entries a.text) same.0 a.answers)),
+    );
+  }
 
--- the head was requested, and then edited
-pub edits_head : {T E : Type 0} (r : Result T E) (c m d : ClientView) (session : ℕ) (version base : PlainVersion) (edits : List Edit) (listed : Bool) (held holds : Option (List ℕ))
-    → SeesOn c m → Keeps c (Head session) (At version.number) m → IsSeen m version → base ≡ version
-    → OnOk r (Answers (λ seen earlier. IsCommit m.number session base.number edits listed base) m d held holds)
-    → OnOk r (Answers (λ seen earlier. IsChange c.number seen earlier session None edits listed) c d held holds)
-edits_head (Err e) c m d session version base edits listed held holds later kept seen is answers = tt
-edits_head (Ok x) c m d session version base edits listed held holds later kept seen is a = record {
-  entries = entry c.number (Head session) (At version.number) ∷ a.entries;
-  text = a.text;
-  number = a.number ∙ kept.0;
-  calls = a.calls ∙ ap (λ calls. calls ++ a.entries) kept.1 ∙ append_assoc c.calls (entry c.number (Head session) (At version.number) ∷ []) a.entries;
-  later = prefix_trans c.seen m.seen d.seen later a.later;
-  heard = a.heard;
-  printed = a.printed;
-  answers = inr (record {
-    head = version.number;
-    version = version;
-    found = prefix_get m.seen d.seen version.number version a.later seen;
-    later = a.entries;
-    entry = refl;
-    commit =
-        subst (λ v. IsCommit c.number session v.number edits listed v a.entries a.text) is
-        (subst (λ who. IsCommit who session base.number edits listed base a.entries a.text) kept.0 a.answers);
-  });
-}
+  -- the head was asked for, and then edited
+  pub edits_head : {T E : Type 0} (r : Result T E) (c m d : ClientView) (session : ℕ) (version base : PlainVersion) (edits : List Edit) (listed : Bool) (held holds : Option (List ℕ))
+      → SeesOn c m → Keeps c (Head session) (At version.number) m → IsSeen m version → base ≡ version
+      → OnOk r (Answers (λ seen earlier. IsCommit form m.number session base.number edits listed base) m d held holds)
+      → OnOk r (Answers (λ seen earlier. IsChange form c.number seen earlier session None edits listed) c d held holds)
+  edits_head (Err e) c m d session version base edits listed held holds later kept seen is answers = tt
+  edits_head (Ok x) c m d session version base edits listed held holds later kept seen is a = record {
+    entries = entry c.number (Head session) (At version.number) ∷ a.entries;
+    text = a.text;
+    number = a.number ∙ kept.0;
+    calls = a.calls ∙ ap (λ calls. calls ++ a.entries) kept.1 ∙ append_assoc c.calls (entry c.number (Head session) (At version.number) ∷ []) a.entries;
+    later = prefix_trans c.seen m.seen d.seen later a.later;
+    heard = a.heard;
+    printed = a.printed;
+    answers = inr (record {
+      head = version.number;
+      version = version;
+      found = prefix_get m.seen d.seen version.number version a.later seen;
+      later = a.entries;
+      entry = refl;
+      commit =
+          subst (λ v. IsCommit form c.number session v.number edits listed v a.entries a.text) is
+          (subst (λ who. IsCommit form who session base.number edits listed base a.entries a.text) kept.0 a.answers);
+    });
+  }
 
--- the head was refused
-pub edits_refused : {T E : Type 0} (r : Result T E) (c d : ClientView) (session : ℕ) (refusal : Refusal) (edits : List Edit) (listed : Bool) (held holds : Option (List ℕ))
-    → HasHeard c → SeesOn c d → Keeps c (Head session) (Refused refusal) d → HasSeen d (Refused refusal)
-    → OnOk r (Appends held holds (reply_line None (Head session) listed (Refused refusal)))
-    → OnOk r (Answers (λ seen earlier. IsChange c.number seen earlier session None edits listed) c d held holds)
-edits_refused (Err e) c d session refusal edits listed held holds heard later kept seen printed = tt
-edits_refused (Ok x) c d session refusal edits listed held holds heard later kept seen printed =
-    books (λ seen earlier. IsChange c.number seen earlier session None edits listed) c d (Head session) (Refused refusal) held holds (reply_line None (Head session) listed (Refused refusal)) heard later (kept, seen) printed
-    (inl (record { refusal = refusal; entry = refl; printed = refl }))
+  -- the head was refused
+  pub edits_refused : {T E : Type 0} (r : Result T E) (c d : ClientView) (session : ℕ) (refusal : Refusal) (edits : List Edit) (listed : Bool) (held holds : Option (List ℕ))
+      → HasHeard c → SeesOn c d → Keeps c (Head session) (Refused refusal) d → HasSeen d (Refused refusal)
+      → OnOk r (Appends held holds (reply_told form None (Head session) listed (Refused refusal)))
+      → OnOk r (Answers (λ seen earlier. IsChange form c.number seen earlier session None edits listed) c d held holds)
+  edits_refused (Err e) c d session refusal edits listed held holds heard later kept seen printed = tt
+  edits_refused (Ok x) c d session refusal edits listed held holds heard later kept seen printed =
+      books (λ seen earlier. IsChange form c.number seen earlier session None edits listed) c d (Head session) (Refused refusal) held holds (reply_told form None (Head session) listed (Refused refusal)) heard later (kept, seen) printed
+      (inl (record { refusal = refusal; entry = refl; printed = refl }))

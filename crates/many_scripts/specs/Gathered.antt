@@ -1,6 +1,7 @@
--- Lists of several clients and of their results.
+-- Lists of what several clients have and have done.
 use Rattle.std.specs.Prelude.{◌≡◌, ℕ, List, ◌++◌, map, length, Option, Result, Ok, Err}
 use Rattle.std.specs.List.{AllZip, flat_map, zip}
+use Rattle.report_json.specs.declared.form.Format.{Format}
 use Rattle.session_core.specs.Log.{opening_of}
 use Rattle.session_core.specs.Machine.{State}
 use Rattle.session_core.specs.TableView.{TableView}
@@ -27,15 +28,15 @@ pub record AreGathered {P C E : Type 0} (plays : List (Result P E)) (client : P 
   pub output_is : output ≡ flat_map text done
 
 -- each client has played its script: these are the clients before and after, and their texts one after the other
-pub record ArePlayed {R : Type 0} (remaining : R → Option (List ℕ)) (failures : R → ℕ) (fresh : List ClientView) (scripts : List R) (clients : List ClientView) (texts : List ℕ) : Type 0 where
+pub record ArePlayed {R : Type 0} (format : Format) (remaining : R → Option (List ℕ)) (failures : R → ℕ) (fresh : List ClientView) (scripts : List R) (clients : List ClientView) (texts : List ℕ) : Type 0 where
   pub done : List (ClientView × List ℕ)
-  pub played : AllZip (λ (seat : ClientView × R) (play : ClientView × List ℕ). IsPlay remaining failures seat.0 seat.1 play.0 play.1) (zip fresh scripts) done
+  pub played : AllZip (λ (seat : ClientView × R) (play : ClientView × List ℕ). IsPlay format remaining failures seat.0 seat.1 play.0 play.1) (zip fresh scripts) done
   pub clients_are : clients ≡ map (λ (play : ClientView × List ℕ). play.0) done
   pub texts_are : texts ≡ flat_map (λ (play : ClientView × List ℕ). play.1) done
 
--- the clients' desk, which began so, is closed, and the output is the texts and then how many entries its log has
-pub record IsWhole (opening : State) (clients : List ClientView) (texts output : List ℕ) : Type 0 where
+-- the clients' desk, which has begun so, is closed, and the output is the texts and then how many entries its log has
+pub record IsWhole (format : Format) (opening : State) (clients : List ClientView) (texts output : List ℕ) : Type 0 where
   pub log : TableView
   pub closed : IsClosed log clients
   pub opened : opening_of log.state ≡ opening
-  pub output_is : output ≡ texts ++ log_line (length log.history)
+  pub output_is : output ≡ texts ++ log_line format (length log.history)

@@ -10,6 +10,7 @@ use Rattle.session_core.specs.declared.event.Event.TheVariants.{Commit}
 use Rattle.session_core.specs.declared.event.Reply.{Reply}
 use Rattle.session_core.specs.declared.event.Reply.TheVariants.{Refused}
 use Rattle.session_core.specs.declared.refusal.Refusal.{Refusal}
+use Rattle.report_json.specs.declared.form.Format.{Format}
 use Rattle.script_lines.specs.Lines.{lines_of}
 use Rattle.desk.specs.Clients.{ClientView, HasSeen, IsSameClient, Keeps, SeesOn}
 use Rattle.many_scripts.specs.Played.{IsPlayed}
@@ -46,10 +47,10 @@ pub record Answers (Holds : List PlainVersion → List Entry → List Entry → 
   pub answers : Holds d.seen c.calls entries text
 
 -- the script was read to its end, less than the most of it, with no failure, and the client did and printed what its lines say
-pub record PlaysScript (most : ℕ) (c d : ClientView) (had left : Option (List ℕ)) (failures_before failures_after : ℕ) (held holds : Option (List ℕ)) : Type 0 where
+pub record PlaysScript (format : Format) (most : ℕ) (c d : ClientView) (had left : Option (List ℕ)) (failures_before failures_after : ℕ) (held holds : Option (List ℕ)) : Type 0 where
   pub read : List ℕ
   pub consumed : Consumes had left read
   pub to_the_end : IsAtEnd left
   pub below_the_most : length read < most
   pub no_failure : failures_after ≡ failures_before
-  pub plays : Answers (λ seen earlier. IsPlayed c.number seen earlier (lines_of read)) c d held holds
+  pub plays : Answers (λ seen earlier. IsPlayed format 1 c.number seen earlier (lines_of read)) c d held holds

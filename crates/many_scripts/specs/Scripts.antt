@@ -4,6 +4,7 @@ use Rattle.std.specs.List.{AllZip}
 use Rattle.std.specs.Io.KnownBytes.{Appends, Consumes, IsAtEnd}
 use Rattle.text_io.specs.Sink.{AppendsPrefix}
 use Rattle.stage_graph.specs.Plain.{PlainGraph}
+use Rattle.report_json.specs.declared.form.Format.{Format}
 use Rattle.script_lines.specs.Lines.{lines_of}
 use Rattle.desk.specs.Clients.{ClientView, SeesOn}
 use Rattle.many_scripts.specs.Outputs.{IsOutput, script_text}
@@ -40,20 +41,20 @@ pub record IsReady {R : Type 0} (failures : R → ℕ) (c : ClientView) (script 
   pub reads : failures script < 2 ^ 64 - 1
 
 -- what a new client has done and printed for its script, under the client's number
-pub record IsPlay {R : Type 0} (remaining : R → Option (List ℕ)) (failures : R → ℕ) (c : ClientView) (script : R) (d : ClientView) (text : List ℕ) : Type 0 where
+pub record IsPlay {R : Type 0} (format : Format) (remaining : R → Option (List ℕ)) (failures : R → ℕ) (c : ClientView) (script : R) (d : ClientView) (text : List ℕ) : Type 0 where
   pub read : List ℕ
   pub is_read : IsRead remaining failures script read
   pub number : d.number ≡ c.number
   pub told : List ℕ
-  pub text_is : text ≡ script_text c.number told
-  pub played : IsPlayed c.number d.seen [] (lines_of read) d.calls told
+  pub text_is : text ≡ script_text format c.number told
+  pub played : IsPlayed format 1 c.number d.seen [] (lines_of read) d.calls told
   pub later : SeesOn c d
 
 -- each script was read to its end, and this is the output for them
-pub record IsOutputOf {R : Type 0} (remaining : R → Option (List ℕ)) (failures : R → ℕ) (graph : PlainGraph) (scripts : List R) (output : List ℕ) : Type 0 where
+pub record IsOutputOf {R : Type 0} (format : Format) (remaining : R → Option (List ℕ)) (failures : R → ℕ) (graph : PlainGraph) (scripts : List R) (output : List ℕ) : Type 0 where
   pub read : List (List ℕ)
   pub are_read : AllZip (IsRead remaining failures) scripts read
-  pub is_output : IsOutput graph read output
+  pub is_output : IsOutput format graph read output
 
 -- a fault of reading comes only where it failed for some script, and one of writing does not come
 abbrev pub EndsBy : {R : Type 0} → (R → Option (List ℕ)) → (R → ℕ) → List R → ManyFault → Type 0
@@ -61,13 +62,13 @@ EndsBy {R} remaining failures scripts Read = (script : R) × Contains scripts sc
 EndsBy remaining failures scripts Write = ⊥
 EndsBy remaining failures scripts fault = Unit {0}
 
--- ---- the effect of `many`
+-- ---- what `many` has done
 
 -- the output for what was read of the scripts was written
-abbrev pub Writes : {R : Type 0} → (R → Option (List ℕ)) → (R → ℕ) → PlainGraph → List R → Option (List ℕ) → Option (List ℕ) → Type 0
-Writes remaining failures graph scripts held holds = (output : List ℕ) × IsOutputOf remaining failures graph scripts output × Appends held holds output
+abbrev pub Writes : {R : Type 0} → Format → (R → Option (List ℕ)) → (R → ℕ) → PlainGraph → List R → Option (List ℕ) → Option (List ℕ) → Type 0
+Writes format remaining failures graph scripts held holds = (output : List ℕ) × IsOutputOf format remaining failures graph scripts output × Appends held holds output
 
 -- at a fault of writing a prefix of such an output was written, and at any other nothing; a fault of reading comes only where it failed
-abbrev pub EndsManyBy : {R : Type 0} → (R → Option (List ℕ)) → (R → ℕ) → PlainGraph → List R → Option (List ℕ) → Option (List ℕ) → ManyFault → Type 0
-EndsManyBy remaining failures graph scripts held holds Write = (output : List ℕ) × IsOutputOf remaining failures graph scripts output × AppendsPrefix held holds output
-EndsManyBy remaining failures graph scripts held holds fault = EndsBy remaining failures scripts fault × (holds ≡ held)
+abbrev pub EndsManyBy : {R : Type 0} → Format → (R → Option (List ℕ)) → (R → ℕ) → PlainGraph → List R → Option (List ℕ) → Option (List ℕ) → ManyFault → Type 0
+EndsManyBy format remaining failures graph scripts held holds Write = (output : List ℕ) × IsOutputOf format remaining failures graph scripts output × AppendsPrefix held holds output
+EndsManyBy format remaining failures graph scripts held holds fault = EndsBy remaining failures scripts fault × (holds ≡ held)

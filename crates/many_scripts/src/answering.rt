@@ -1,10 +1,9 @@
 //! Answers the steps of a script.
-ghost use Rattle.std.specs.Prelude.{◌≡◌, ◌+◌, ◌-◌, ◌^◌, ◌<◌, false, None, Some, OnOk, option_copied};
+ghost use Rattle.std.specs.Prelude.{◌≡◌, ◌+◌, ◌-◌, ◌^◌, ◌<◌, false, None, Some, OnOk};
 ghost use Rattle.std.specs.Io.KnownBytes.{Appends};
 ghost use Rattle.script_lines.specs.Faults.{failed_writes};
 ghost use Rattle.recording.specs.declared.step.Subject.TheVariants.{Version as Numbered, Head as Stand};
-ghost use Rattle.serve_script.specs.Answers.{no_version_line};
-ghost use Rattle.serve_script.specs.Replies.{reply_line};
+ghost use Rattle.serve_script.specs.Told.{reply_told};
 ghost use Rattle.many_scripts.specs.Played.{IsBooked, IsChange, IsCommit, IsReport, IsReportAgainst, IsReportOf, IsStep};
 ghost use Rattle.many_scripts.specs.Playing.{Answers, HasHeard, IsAskedAlone};
 
@@ -14,32 +13,13 @@ use desk::{Client, Desk, Known, Naming, ReadFault};
 use level_pool::Runner;
 use recording::{Asked, Step, Subject};
 use script_lines::AnswerFault;
-use serve_script::{against_in, push_reply, write_asked, write_text};
+use serve_script::{against_in, tell_no_version, tell_reply, write_asked};
 use session_core::{Event, Reply, TableFault};
 use share_tree::Held;
 use stage_graph::Edits;
-use std::alloc::Global;
 use std::sync::Wait;
 use text_io::Sink;
 use version_store::{StateRepresentation, Version};
-
-/// Writes the reply to an event, which is on this base if it is a commit.
-fn write_reply<K: StateRepresentation, S: Sink>(
-    alloc: Global,
-    base: Option<&Version<K>>,
-    event: &Event,
-    listed: bool,
-    reply: Reply,
-    sink: &mut S,
-) -> Result<(), AnswerFault>
-    requires { S.failures sink.old < 2 ^ 64 - 1 }
-    ensures ok { OnOk result (Appends (S.held sink.old) (S.held sink.new) (reply_line (option_copied base.entry) event.now listed reply)) }
-    ensures failures { S.failures sink.new ≡ S.failures sink.old + failed_writes result }
-{
-    let mut line = String::new(alloc);
-    push_reply(&mut line, base, event, listed, reply)?;
-    write_text(line.as_bytes(), sink)
-}
 
 /// No version of a desk.
 fn no_version<N: Naming, K: StateRepresentation, H: Wait + Drop>(
@@ -59,20 +39,11 @@ fn write_lone_reply<N: Naming, K: StateRepresentation, H: Wait + Drop, W, S: Sin
     sink: &mut S,
 ) -> Result<(), AnswerFault>
     requires { S.failures sink.old < 2 ^ 64 - 1 }
-    ensures ok { OnOk result (Appends (S.held sink.old) (S.held sink.new) (reply_line None event.now listed reply)) }
+    ensures ok { OnOk result (Appends (S.held sink.old) (S.held sink.new) (reply_told access.now.form None event.now listed reply)) }
     ensures failures { S.failures sink.new ≡ S.failures sink.old + failed_writes result }
 {
     let base = no_version(access.desk);
-    write_reply(access.alloc, base, event, listed, reply, sink)
-}
-
-/// Writes that there is no version of the number.
-fn write_no_version<S: Sink>(sink: &mut S) -> Result<(), AnswerFault>
-    requires { S.failures sink.old < 2 ^ 64 - 1 }
-    ensures ok { OnOk result (Appends (S.held sink.old) (S.held sink.new) no_version_line) }
-    ensures failures { S.failures sink.new ≡ S.failures sink.old + failed_writes result }
-{
-    write_text(b"refused 52 NoVersion\n", sink)
+    tell_reply(access.alloc, base, event, listed, reply, access.form, sink)
 }
 
 /// Asks the desk for an event that is no commit, and writes its reply.
@@ -85,7 +56,7 @@ fn answer_event<N: Naming, K: StateRepresentation, H: Wait + Drop, W, S: Sink>(
     requires alone { IsAskedAlone event.now }
     requires heard { HasHeard client.old }
     requires room { S.failures sink.old < 2 ^ 64 - 1 }
-    ensures ok { OnOk result (Answers (λ seen earlier. IsBooked client.old.number None event.now false) client.old client.new (S.held sink.old) (S.held sink.new)) }
+    ensures ok { OnOk result (Answers (λ seen earlier. IsBooked access.now.form client.old.number None event.now false) client.old client.new (S.held sink.old) (S.held sink.new)) }
     ensures failures { S.failures sink.new ≡ S.failures sink.old + failed_writes result }
 {
     let reply = book(access, client, event)?;
@@ -104,7 +75,7 @@ fn answer_commit<N: Naming, K: StateRepresentation, H: Wait + Drop, W: Runner, S
 ) -> Result<(), AnswerFault>
     requires heard { HasHeard client.old }
     requires room { S.failures sink.old < 2 ^ 64 - 1 }
-    ensures ok { OnOk result (Answers (λ seen earlier. IsCommit client.old.number session base.now.number edits listed base.now) client.old client.new (S.held sink.old) (S.held sink.new)) }
+    ensures ok { OnOk result (Answers (λ seen earlier. IsCommit access.now.form client.old.number session base.now.number edits listed base.now) client.old client.new (S.held sink.old) (S.held sink.new)) }
     ensures failures { S.failures sink.new ≡ S.failures sink.old + failed_writes result }
 {
     let edit = Held::new(access.alloc, edits)?;
@@ -114,7 +85,15 @@ fn answer_commit<N: Naming, K: StateRepresentation, H: Wait + Drop, W: Runner, S
         base: base.number(),
         edit,
     };
-    write_reply(access.alloc, Some(&**base), &event, listed, reply, sink)
+    tell_reply(
+        access.alloc,
+        Some(&**base),
+        &event,
+        listed,
+        reply,
+        access.form,
+        sink,
+    )
 }
 
 /// Asks the desk for edits of the version of a number, and writes the reply.
@@ -129,12 +108,12 @@ fn answer_at<N: Naming, K: StateRepresentation, H: Wait + Drop, W: Runner, S: Si
 ) -> Result<(), AnswerFault>
     requires heard { HasHeard client.old }
     requires room { S.failures sink.old < 2 ^ 64 - 1 }
-    ensures ok { OnOk result (Answers (λ seen earlier. IsChange client.old.number seen earlier session (Some number) edits listed) client.old client.new (S.held sink.old) (S.held sink.new)) }
+    ensures ok { OnOk result (Answers (λ seen earlier. IsChange access.now.form client.old.number seen earlier session (Some number) edits listed) client.old client.new (S.held sink.old) (S.held sink.new)) }
     ensures failures { S.failures sink.new ≡ S.failures sink.old + failed_writes result }
 {
     match client.version(number) {
         Ok(base) => answer_commit(access, client, session, &base, edits, listed, sink),
-        Err(ReadFault::NoVersion) => write_no_version(sink),
+        Err(ReadFault::NoVersion) => tell_no_version(access.alloc, access.form, sink),
         Err(ReadFault::Memory) => Err(AnswerFault::Memory),
     }
 }
@@ -150,7 +129,7 @@ fn answer_head<N: Naming, K: StateRepresentation, H: Wait + Drop, W: Runner, S: 
 ) -> Result<(), AnswerFault>
     requires heard { HasHeard client.old }
     requires room { S.failures sink.old < 2 ^ 64 - 1 }
-    ensures ok { OnOk result (Answers (λ seen earlier. IsChange client.old.number seen earlier session None edits listed) client.old client.new (S.held sink.old) (S.held sink.new)) }
+    ensures ok { OnOk result (Answers (λ seen earlier. IsChange access.now.form client.old.number seen earlier session None edits listed) client.old client.new (S.held sink.old) (S.held sink.new)) }
     ensures failures { S.failures sink.new ≡ S.failures sink.old + failed_writes result }
 {
     match access.desk.snapshot(access.rt, client, session) {
@@ -176,7 +155,7 @@ fn answer_change<N: Naming, K: StateRepresentation, H: Wait + Drop, W: Runner, S
 ) -> Result<(), AnswerFault>
     requires heard { HasHeard client.old }
     requires room { S.failures sink.old < 2 ^ 64 - 1 }
-    ensures ok { OnOk result (Answers (λ seen earlier. IsChange client.old.number seen earlier session base edits listed) client.old client.new (S.held sink.old) (S.held sink.new)) }
+    ensures ok { OnOk result (Answers (λ seen earlier. IsChange access.now.form client.old.number seen earlier session base edits listed) client.old client.new (S.held sink.old) (S.held sink.new)) }
     ensures failures { S.failures sink.new ≡ S.failures sink.old + failed_writes result }
 {
     match base {
@@ -195,13 +174,21 @@ fn answer_of<N: Naming, K: StateRepresentation, H: Wait + Drop, W: Runner, S: Si
 ) -> Result<(), AnswerFault>
     requires heard { HasHeard client.old }
     requires room { S.failures sink.old < 2 ^ 64 - 1 }
-    ensures ok { OnOk result (Answers (λ seen earlier. IsReportOf seen earlier version.now asked.now) client.old client.new (S.held sink.old) (S.held sink.new)) }
+    ensures ok { OnOk result (Answers (λ seen earlier. IsReportOf access.now.form seen earlier version.now asked.now) client.old client.new (S.held sink.old) (S.held sink.new)) }
     ensures failures { S.failures sink.new ≡ S.failures sink.old + failed_writes result }
 {
     match against_in(asked) {
         None => {
             let against = no_version(access.desk);
-            write_asked(access.alloc, version, against, asked, access.runner, sink)
+            write_asked(
+                access.alloc,
+                version,
+                against,
+                asked,
+                access.runner,
+                access.form,
+                sink,
+            )
         }
         Some(number) => answer_against(access, client, version, number, asked, sink),
     }
@@ -218,7 +205,7 @@ fn answer_against<N: Naming, K: StateRepresentation, H: Wait + Drop, W: Runner, 
 ) -> Result<(), AnswerFault>
     requires heard { HasHeard client.old }
     requires room { S.failures sink.old < 2 ^ 64 - 1 }
-    ensures ok { OnOk result (Answers (λ seen earlier. IsReportAgainst seen earlier version.now asked.now (Some number)) client.old client.new (S.held sink.old) (S.held sink.new)) }
+    ensures ok { OnOk result (Answers (λ seen earlier. IsReportAgainst access.now.form seen earlier version.now asked.now (Some number)) client.old client.new (S.held sink.old) (S.held sink.new)) }
     ensures failures { S.failures sink.new ≡ S.failures sink.old + failed_writes result }
 {
     match client.version(number) {
@@ -228,9 +215,10 @@ fn answer_against<N: Naming, K: StateRepresentation, H: Wait + Drop, W: Runner, 
             Some(&*against),
             asked,
             access.runner,
+            access.form,
             sink,
         ),
-        Err(ReadFault::NoVersion) => write_no_version(sink),
+        Err(ReadFault::NoVersion) => tell_no_version(access.alloc, access.form, sink),
         Err(ReadFault::Memory) => Err(AnswerFault::Memory),
     }
 }
@@ -245,12 +233,12 @@ fn answer_version<N: Naming, K: StateRepresentation, H: Wait + Drop, W: Runner, 
 ) -> Result<(), AnswerFault>
     requires heard { HasHeard client.old }
     requires room { S.failures sink.old < 2 ^ 64 - 1 }
-    ensures ok { OnOk result (Answers (λ seen earlier. IsReport client.old.number seen earlier (Numbered number) asked.now) client.old client.new (S.held sink.old) (S.held sink.new)) }
+    ensures ok { OnOk result (Answers (λ seen earlier. IsReport access.now.form client.old.number seen earlier (Numbered number) asked.now) client.old client.new (S.held sink.old) (S.held sink.new)) }
     ensures failures { S.failures sink.new ≡ S.failures sink.old + failed_writes result }
 {
     match client.version(number) {
         Ok(version) => answer_of(access, client, &version, asked, sink),
-        Err(ReadFault::NoVersion) => write_no_version(sink),
+        Err(ReadFault::NoVersion) => tell_no_version(access.alloc, access.form, sink),
         Err(ReadFault::Memory) => Err(AnswerFault::Memory),
     }
 }
@@ -265,7 +253,7 @@ fn answer_stand<N: Naming, K: StateRepresentation, H: Wait + Drop, W: Runner, S:
 ) -> Result<(), AnswerFault>
     requires heard { HasHeard client.old }
     requires room { S.failures sink.old < 2 ^ 64 - 1 }
-    ensures ok { OnOk result (Answers (λ seen earlier. IsReport client.old.number seen earlier (Stand session) asked.now) client.old client.new (S.held sink.old) (S.held sink.new)) }
+    ensures ok { OnOk result (Answers (λ seen earlier. IsReport access.now.form client.old.number seen earlier (Stand session) asked.now) client.old client.new (S.held sink.old) (S.held sink.new)) }
     ensures failures { S.failures sink.new ≡ S.failures sink.old + failed_writes result }
 {
     match access.desk.snapshot(access.rt, client, session) {
@@ -289,7 +277,7 @@ fn answer_report<N: Naming, K: StateRepresentation, H: Wait + Drop, W: Runner, S
 ) -> Result<(), AnswerFault>
     requires heard { HasHeard client.old }
     requires room { S.failures sink.old < 2 ^ 64 - 1 }
-    ensures ok { OnOk result (Answers (λ seen earlier. IsReport client.old.number seen earlier subject asked.now) client.old client.new (S.held sink.old) (S.held sink.new)) }
+    ensures ok { OnOk result (Answers (λ seen earlier. IsReport access.now.form client.old.number seen earlier subject asked.now) client.old client.new (S.held sink.old) (S.held sink.new)) }
     ensures failures { S.failures sink.new ≡ S.failures sink.old + failed_writes result }
 {
     match subject {
@@ -307,7 +295,7 @@ pub(crate) fn answer_step<N: Naming, K: StateRepresentation, H: Wait + Drop, W: 
 ) -> Result<(), AnswerFault>
     requires heard { HasHeard client.old }
     requires room { S.failures sink.old < 2 ^ 64 - 1 }
-    ensures ok { OnOk result (Answers (λ seen earlier. IsStep client.old.number seen earlier step) client.old client.new (S.held sink.old) (S.held sink.new)) }
+    ensures ok { OnOk result (Answers (λ seen earlier. IsStep access.now.form client.old.number seen earlier step) client.old client.new (S.held sink.old) (S.held sink.new)) }
     ensures failures { S.failures sink.new ≡ S.failures sink.old + failed_writes result }
 {
     match step {

@@ -17,11 +17,12 @@ ghost use Rattle.many_scripts.specs.declared.fault.ManyFault.{ManyFault};
 
 use crate::fault::ManyFault;
 use crate::gathering::{Ended, ended_by};
+use crate::headings::log_line;
 use desk::{Client, CloseFault, Desk, Naming, NewArchive, start};
 use level_pool::Workers;
+use report_json::Format;
 use stage_graph::{Graph, InShared};
 use std::alloc::{AllocError, Global};
-use std::fmt::Write;
 use std::marker::Brand;
 use std::sync::Wait;
 use std::sync::ledger::Blank;
@@ -49,13 +50,17 @@ fn entries_of_closed<N: Naming, K: StateRepresentation, H: Wait + Drop>(
 }
 
 /// The texts with the last line, which has the number of the log's entries.
-fn with_log_line(alloc: Global, texts: Vec<u8>, count: usize) -> Result<Vec<u8>, AllocError>
-    ensures { IfOk result (λ whole. whole.items ≡ texts.items ++ log_line count) }
+fn with_log_line(
+    alloc: Global,
+    format: Format,
+    texts: Vec<u8>,
+    entries: usize,
+) -> Result<Vec<u8>, AllocError>
+    ensures { IfOk result (λ whole. whole.items ≡ texts.items ++ log_line format entries) }
 {
-    let mut line = String::new(alloc);
-    writeln!(line, "log {count}")?;
+    let line = log_line(alloc, format, entries)?;
     let mut whole = texts;
-    whole.extend_from_slice(line.as_bytes())?;
+    whole.extend_from_slice(&line)?;
     Ok(whole)
 }
 
@@ -83,17 +88,18 @@ fn begun<N: Naming, K: StateRepresentation, H: Wait + Drop>(
 /// The output once the desk of the clients is closed, if all scripts were played.
 fn output_of<N: Naming, K: StateRepresentation, H: Wait + Drop>(
     alloc: Global,
+    format: Format,
     desk: Desk<N, K, H>,
     gathered: Result<Ended<Client<N, K>>, ManyFault>,
 ) -> Result<Vec<u8>, ManyFault>
     requires { N.clients ≡ N.parts }
-    ensures ok { IfOk result (λ output. IsOkAnd gathered (λ ended. IsWhole N.opening ended.clients.items ended.texts.items output.items)) }
+    ensures ok { IfOk result (λ output. IsOkAnd gathered (λ ended. IsWhole format N.opening ended.clients.items ended.texts.items output.items)) }
     ensures err { IfErr result (λ fault. (gathered ≡ Err fault) ⊎ ((fault ≢ ManyFault.Read) × (fault ≢ ManyFault.Write))) }
 {
     let ended = gathered?;
     let Ended { clients, texts } = ended;
     let count = entries_of_closed(desk, clients)?;
-    Ok(with_log_line(alloc, texts, count)?)
+    Ok(with_log_line(alloc, format, texts, count)?)
 }
 
 /// The output for the scripts, by the clients of the desk that has this name.
@@ -109,6 +115,7 @@ fn played<
     workers: Workers,
     scripts: Vec<R>,
     graph: Graph<InShared>,
+    format: Format,
 ) -> Result<Vec<u8>, ManyFault>
     requires ranked { IsRanked graph.places }
     requires scripts { (1 ≤ vec_len scripts) × (vec_len scripts ≤ 64) }
@@ -117,13 +124,13 @@ fn played<
     requires parts { (blank.parts ≡ N.parts) × (blank.parts ≡ vec_len scripts) × (N.clients ≡ vec_len scripts) }
     requires book { archive.seen.book ≡ N.book }
     requires opening { N.opening ≡ opening_state graph }
-    ensures ok { IfOk result (λ output. IsOutputOf R.remaining R.failures graph scripts.items output.items) }
+    ensures ok { IfOk result (λ output. IsOutputOf format R.remaining R.failures graph scripts.items output.items) }
     ensures err { IfErr result (EndsBy R.remaining R.failures scripts.items) }
 {
     let count = scripts.len() as u32;
     let (desk, clients) = begun::<N, InShared, H>(rt, alloc, blank, archive, graph, count)?;
-    let ended = ended_by(&rt, alloc, &desk, workers, clients, scripts);
-    output_of(alloc, desk, ended)
+    let ended = ended_by(&rt, alloc, &desk, workers, format, clients, scripts);
+    output_of(alloc, format, desk, ended)
 }
 
 /// The output for the scripts, by the clients of a new desk.
@@ -133,16 +140,17 @@ fn by_new_desk<H: Threads + Wait + Copy + Drop + Send + Sync, R: Source + Send +
     workers: Workers,
     scripts: Vec<R>,
     graph: Graph<InShared>,
+    format: Format,
 ) -> Result<Vec<u8>, ManyFault>
     requires ranked { IsRanked graph.places }
     requires scripts { (1 ≤ vec_len scripts) × (vec_len scripts ≤ 64) }
     requires reads { All (λ script. R.failures script < 2 ^ 64 - 1) scripts.items }
-    ensures ok { IfOk result (λ output. IsOutputOf R.remaining R.failures graph scripts.items output.items) }
+    ensures ok { IfOk result (λ output. IsOutputOf format R.remaining R.failures graph scripts.items output.items) }
     ensures err { IfErr result (EndsBy R.remaining R.failures scripts.items) }
 {
     let blank = Blank::new(scripts.len() as u64);
     let archive = NewArchive::new();
-    played::<Brand, H, R>(rt, alloc, blank, archive, workers, scripts, graph)
+    played::<Brand, H, R>(rt, alloc, blank, archive, workers, scripts, graph, format)
 }
 
 /// Answers several scripts, each by a client of its own in a thread of its own, about one recording: version 0 has the
@@ -159,17 +167,18 @@ pub fn many<H: Threads + Wait + Copy + Drop + Send + Sync, R: Source + Send + Dr
     sink: &mut S,
     graph: Graph<InShared>,
     workers: usize,
+    format: Format,
 ) -> Result<(), ManyFault>
     requires ranked { IsRanked graph.places }
     requires scripts { (1 ≤ vec_len scripts) × (vec_len scripts ≤ 64) }
     requires workers { (1 ≤ workers) × (workers ≤ 16) }
     requires reads { All (λ script. R.failures script < 2 ^ 64 - 1) scripts.items }
     requires writes { S.failures sink.old < 2 ^ 64 - 1 }
-    ensures ok { OnOk result (Writes R.remaining R.failures graph scripts.items (S.held sink.old) (S.held sink.new)) }
-    ensures err { IfErr result (EndsManyBy R.remaining R.failures graph scripts.items (S.held sink.old) (S.held sink.new)) }
+    ensures ok { OnOk result (Writes format R.remaining R.failures graph scripts.items (S.held sink.old) (S.held sink.new)) }
+    ensures err { IfErr result (EndsManyBy format R.remaining R.failures graph scripts.items (S.held sink.old) (S.held sink.new)) }
     ensures failures { S.failures sink.new ≡ S.failures sink.old + failed_writes_of_many result }
 {
-    let output = by_new_desk(rt, alloc, Workers::new(workers), scripts, graph)?;
+    let output = by_new_desk(rt, alloc, Workers::new(workers), scripts, graph, format)?;
     write_output(&output, sink)
 }
 

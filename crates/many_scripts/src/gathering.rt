@@ -10,23 +10,26 @@ use crate::fault::ManyFault;
 use crate::seats::{Seat, play_by_workers};
 use desk::{Client, Desk, Naming};
 use level_pool::Workers;
+use report_json::Format;
 use stage_graph::InShared;
 use std::alloc::{AllocError, Global};
 use std::sync::Wait;
 use std::thread::{self, Threads};
 use text_io::Source;
 
-/// Each client with its script.
+/// Each client with its script, all of which are answered in this format.
 fn seats_of<'a, N: Naming, H: Wait + Drop, R: Drop>(
     rt: &'a H,
     alloc: Global,
     desk: &'a Desk<N, InShared, H>,
     workers: Workers,
+    format: Format,
     clients: Vec<Client<N, InShared>>,
     scripts: Vec<R>,
 ) -> Result<Vec<Seat<'a, N, H, R>>, AllocError>
     requires { vec_len clients ≡ vec_len scripts }
-    ensures { IfOk result (λ seats. AreSeats seats.items (λ seat. seat.client) (λ seat. seat.source) clients.items scripts.items) }
+    ensures seats { IfOk result (λ seats. AreSeats seats.items (λ seat. seat.client) (λ seat. seat.source) clients.items scripts.items) }
+    ensures format { IfOk result (λ seats. map (λ seat. seat.format) seats.items ≡ map (λ client. format) clients.items) }
 {
     let mut seats = Vec::with_capacity(alloc, clients.len())?;
     let mut sources = scripts.into_iter();
@@ -39,6 +42,7 @@ fn seats_of<'a, N: Naming, H: Wait + Drop, R: Drop>(
             alloc,
             desk,
             workers,
+            format,
             client,
             source,
             text: Ok(Vec::new(alloc)),
@@ -53,7 +57,7 @@ fn play_all<N: Naming + Send + Sync, H: Threads + Wait + Drop + Send + Sync, R: 
     seats: &mut [Seat<'_, N, H, R>],
 )
     requires ready { All (λ seat. IsReady R.failures seat.client seat.source) seats.old }
-    ensures { AllZip (λ before after. MatchResult after.text (λ text. IsPlay R.remaining R.failures before.client before.source after.client text.items) (EndsReading R.remaining R.failures before.source)) seats.old seats.new }
+    ensures { AllZip (λ before after. MatchResult after.text (λ text. IsPlay before.format R.remaining R.failures before.client before.source after.client text.items) (EndsReading R.remaining R.failures before.source)) seats.old seats.new }
 {
     let threads = seats.len().max(1);
     thread::for_each_mut(
@@ -62,13 +66,14 @@ fn play_all<N: Naming + Send + Sync, H: Threads + Wait + Drop + Send + Sync, R: 
         threads,
         &|_, seat: &mut Seat<'_, N, H, R>|
             requires { IsReady R.failures seat.now.client seat.now.source }
-            ensures { MatchResult seat.exit.now.text (λ text. IsPlay R.remaining R.failures seat.entry.now.client seat.entry.now.source seat.exit.now.client text.items) (EndsReading R.remaining R.failures seat.entry.now.source) }
+            ensures { MatchResult seat.exit.now.text (λ text. IsPlay seat.entry.now.format R.remaining R.failures seat.entry.now.client seat.entry.now.source seat.exit.now.client text.items) (EndsReading R.remaining R.failures seat.entry.now.source) }
         {
             seat.text = play_by_workers(
                 seat.rt,
                 seat.alloc,
                 seat.desk,
                 seat.workers,
+                seat.format,
                 &mut seat.client,
                 &mut seat.source,
             );
@@ -146,6 +151,7 @@ pub(crate) fn ended_by<
     alloc: Global,
     desk: &Desk<N, InShared, H>,
     workers: Workers,
+    format: Format,
     clients: Vec<Client<N, InShared>>,
     scripts: Vec<R>,
 ) -> Result<Ended<Client<N, InShared>>, ManyFault>
@@ -153,10 +159,10 @@ pub(crate) fn ended_by<
     requires heard { All HasHeard clients.items }
     requires new { All (λ client. client.calls ≡ []) clients.items }
     requires reads { All (λ script. R.failures script < 2 ^ 64 - 1) scripts.items }
-    ensures ok { IfOk result (λ ended. ArePlayed R.remaining R.failures clients.items scripts.items ended.clients.items ended.texts.items) }
+    ensures ok { IfOk result (λ ended. ArePlayed format R.remaining R.failures clients.items scripts.items ended.clients.items ended.texts.items) }
     ensures err { IfErr result (EndsBy R.remaining R.failures scripts.items) }
 {
-    let mut seats = seats_of(rt, alloc, desk, workers, clients, scripts)?;
+    let mut seats = seats_of(rt, alloc, desk, workers, format, clients, scripts)?;
     play_all(rt, &mut seats);
     gather(alloc, seats)
 }

@@ -7,6 +7,7 @@ mod desk_scripts;
 mod events;
 mod fault;
 mod gathering;
+mod headings;
 mod lines;
 mod playing;
 mod seats;

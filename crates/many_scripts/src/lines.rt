@@ -1,7 +1,6 @@
 //! Answers the lines of a script.
-ghost use Rattle.std.specs.Prelude.{◌≡◌, ◌+◌, ◌-◌, ◌^◌, ◌<◌, [], Err, Result, OnOk};
+ghost use Rattle.std.specs.Prelude.{◌≡◌, ◌+◌, ◌-◌, ◌^◌, ◌<◌, Some, Err, Result, OnOk};
 ghost use Rattle.std.specs.Io.KnownBytes.{Appends};
-ghost use Rattle.std.specs.List.{cons_option};
 ghost use Rattle.std.specs.Option.{option_map};
 ghost use Rattle.recording.specs.Reads.{IsRead};
 ghost use Rattle.recording.specs.StepOf.{step_of};
@@ -9,8 +8,8 @@ ghost use Rattle.recording.specs.declared.fault.Fault.{Fault};
 ghost use Rattle.recording.specs.declared.step.Step.{Step};
 ghost use Rattle.script_lines.specs.Faults.{failed_writes};
 ghost use Rattle.script_lines.specs.Seen.{seen};
-ghost use Rattle.serve_script.specs.Answers.{fault_line};
-ghost use Rattle.many_scripts.specs.Played.{IsLine, IsNamed, IsPlayed};
+ghost use Rattle.serve_script.specs.Told.{fault_told};
+ghost use Rattle.many_scripts.specs.Played.{IsLine, IsNamed};
 ghost use Rattle.many_scripts.specs.Playing.{Answers, HasHeard};
 
 use crate::access::Access;
@@ -18,34 +17,23 @@ use crate::answering::answer_step;
 use desk::{Client, Naming};
 use level_pool::Runner;
 use recording::{Fault, read_step};
+use report_json::Form;
 use script_lines::{AnswerFault, Line};
-use serve_script::write_text;
+use serve_script::tell_fault;
 use std::alloc::Global;
-use std::fmt::Write;
 use std::sync::Wait;
 use text_io::Sink;
 use version_store::StateRepresentation;
 
-/// Writes why a line has no step.
-fn write_fault<S: Sink>(alloc: Global, fault: &Fault, sink: &mut S) -> Result<(), AnswerFault>
-    requires { S.failures sink.old < 2 ^ 64 - 1 }
-    ensures ok { OnOk result (Appends (S.held sink.old) (S.held sink.new) (fault_line fault.now)) }
-    ensures failures { S.failures sink.new ≡ S.failures sink.old + failed_writes result }
-{
-    let mut line = String::new(alloc);
-    writeln!(line, "{fault}")?;
-    write_text(line.as_bytes(), sink)
-}
-
 /// Writes why a line has no step, unless memory ran out.
-fn refuse<S: Sink>(alloc: Global, fault: Fault, sink: &mut S) -> Result<(), AnswerFault>
+fn refuse<S: Sink>(alloc: Global, fault: Fault, form: Form, sink: &mut S) -> Result<(), AnswerFault>
     requires { S.failures sink.old < 2 ^ 64 - 1 }
-    ensures ok { OnOk result (((meant : Result Step Fault) → IsRead (Err fault) meant → meant ≡ Err fault) × Appends (S.held sink.old) (S.held sink.new) (fault_line fault)) }
+    ensures ok { OnOk result (((meant : Result Step Fault) → IsRead (Err fault) meant → meant ≡ Err fault) × Appends (S.held sink.old) (S.held sink.new) (fault_told form fault)) }
     ensures failures { S.failures sink.new ≡ S.failures sink.old + failed_writes result }
 {
     match fault {
         Fault::Memory => Err(AnswerFault::Memory),
-        fault => write_fault(alloc, &fault, sink),
+        fault => tell_fault(alloc, &fault, form, sink),
     }
 }
 
@@ -58,12 +46,12 @@ fn answer_bytes<N: Naming, K: StateRepresentation, H: Wait + Drop, W: Runner, S:
 ) -> Result<(), AnswerFault>
     requires heard { HasHeard client.old }
     requires room { S.failures sink.old < 2 ^ 64 - 1 }
-    ensures ok { OnOk result (Answers (λ known earlier. IsNamed client.old.number known earlier (step_of bytes.now)) client.old client.new (S.held sink.old) (S.held sink.new)) }
+    ensures ok { OnOk result (Answers (λ known earlier. IsNamed access.now.form client.old.number known earlier (step_of bytes.now)) client.old client.new (S.held sink.old) (S.held sink.new)) }
     ensures failures { S.failures sink.new ≡ S.failures sink.old + failed_writes result }
 {
     match read_step(access.alloc, bytes) {
         Ok(step) => answer_step(access, client, step, sink),
-        Err(fault) => refuse(access.alloc, fault, sink),
+        Err(fault) => refuse(access.alloc, fault, access.form, sink),
     }
 }
 
@@ -76,29 +64,30 @@ fn answer_line<N: Naming, K: StateRepresentation, H: Wait + Drop, W: Runner, S: 
 ) -> Result<(), AnswerFault>
     requires heard { HasHeard client.old }
     requires room { S.failures sink.old < 2 ^ 64 - 1 }
-    ensures ok { OnOk result (Answers (λ known earlier. IsLine client.old.number known earlier (seen line.entry)) client.old client.new (S.held sink.old) (S.held sink.new)) }
+    ensures ok { OnOk result (Answers (λ known earlier. IsLine access.now.form client.old.number known earlier (Some (seen line.entry))) client.old client.new (S.held sink.old) (S.held sink.new)) }
     ensures failures { S.failures sink.new ≡ S.failures sink.old + failed_writes result }
 {
     match line {
         Line::Kept(bytes) => answer_bytes(access, client, bytes, sink),
-        Line::TooLong => write_fault(access.alloc, &Fault::TooLong, sink),
+        Line::TooLong => tell_fault(access.alloc, &Fault::TooLong, access.form, sink),
     }
 }
 
-/// Answers the line, if there is one.
+/// Answers the line in this form, if it is no blank one.
 pub(crate) fn answer_any<N: Naming, K: StateRepresentation, H: Wait + Drop, W: Runner, S: Sink>(
     access: &Access<'_, N, K, H, W>,
+    form: Form,
     client: &mut Client<N, K>,
     line: Option<Line<'_>>,
     sink: &mut S,
 ) -> Result<(), AnswerFault>
     requires heard { HasHeard client.old }
     requires room { S.failures sink.old < 2 ^ 64 - 1 }
-    ensures ok { OnOk result (Answers (λ known earlier. IsPlayed client.old.number known earlier (cons_option (option_map seen line.entry) [])) client.old client.new (S.held sink.old) (S.held sink.new)) }
+    ensures ok { OnOk result (Answers (λ known earlier. IsLine form client.old.number known earlier (option_map seen line.entry)) client.old client.new (S.held sink.old) (S.held sink.new)) }
     ensures failures { S.failures sink.new ≡ S.failures sink.old + failed_writes result }
 {
     match line {
-        Some(line) => answer_line(access, client, line, sink),
+        Some(line) => answer_line(&access.in_form(form), client, line, sink),
         None => Ok(()),
     }
 }

@@ -8,6 +8,7 @@ use crate::access::Access;
 use crate::lines::answer_any;
 use desk::{Client, Naming};
 use level_pool::Runner;
+use report_json::Format;
 use script_lines::{LineReader, ServeFault};
 use std::sync::Wait;
 use text_io::{Sink, Source};
@@ -23,6 +24,7 @@ pub(crate) fn play<
     S: Sink,
 >(
     access: &Access<'_, N, K, H, W>,
+    format: Format,
     client: &mut Client<N, K>,
     reader: &mut LineReader,
     source: &mut R,
@@ -30,17 +32,32 @@ pub(crate) fn play<
 ) -> Result<(), ServeFault>
     requires heard { HasHeard client.old }
     requires nothing { reader.old.waiting ≡ [] }
+    requires count { reader.old.left < 2 ^ 64 - 1 }
     requires reads { R.failures source.old < 2 ^ 64 - 1 }
     requires writes { S.failures sink.old < 2 ^ 64 - 1 }
-    ensures ok { OnOk result (PlaysScript reader.old.left client.old client.new (R.remaining source.old) (R.remaining source.new)
+    ensures ok { OnOk result (PlaysScript format reader.old.left client.old client.new (R.remaining source.old) (R.remaining source.new)
         (R.failures source.old) (R.failures source.new) (S.held sink.old) (S.held sink.new)) }
     ensures err { IfErr result (λ fault. StopsReading fault reader.old.left (R.remaining source.old) (R.remaining source.new)
         (R.failures source.old) (R.failures source.new)) }
     ensures failures { S.failures sink.new ≡ S.failures sink.old + failed_writes_of_serve result }
 {
+    let mut number = 1;
     while reader.advance(source)? {
-        answer_any(access, client, reader.line(), sink)?;
+        answer_any(
+            access,
+            format.form(Some(number)),
+            client,
+            reader.line(),
+            sink,
+        )?;
+        number += 1;
     }
-    answer_any(access, client, reader.line(), sink)?;
+    answer_any(
+        access,
+        format.form(Some(number)),
+        client,
+        reader.line(),
+        sink,
+    )?;
     Ok(())
 }

@@ -1,19 +1,18 @@
 //! A client with its script, which it answers in a thread of its own.
-ghost use Rattle.std.specs.Prelude.{◌≡◌, ◌-◌, ◌^◌, ◌<◌, ◌++◌, [], codes, length, IfOk, IfErr};
-ghost use Rattle.std.specs.Fmt.{decimal};
-ghost use Rattle.report_text.specs.Texts.{line_end};
+ghost use Rattle.std.specs.Prelude.{◌≡◌, ◌-◌, ◌^◌, ◌<◌, [], length, IfOk, IfErr};
 ghost use Rattle.many_scripts.specs.Playing.{HasHeard};
 ghost use Rattle.many_scripts.specs.Scripts.{EndsReading, IsPlay, IsReady};
 
 use crate::access::Access;
 use crate::fault::ManyFault;
+use crate::headings::script_line;
 use crate::playing::play;
 use desk::{Client, Desk, Naming};
 use level_pool::{NoGate, OneThread, Runner, Scoped, Workers};
+use report_json::Format;
 use script_lines::{LineReader, ServeFault};
 use stage_graph::InShared;
 use std::alloc::{AllocError, Global};
-use std::fmt::Write;
 use std::sync::Wait;
 use std::thread::Threads;
 use text_io::{CountedWriter, Source};
@@ -32,12 +31,13 @@ pub(crate) struct Seat<'a, N: Naming, H: Wait + Drop, R> {
     pub(crate) alloc: Global,
     pub(crate) desk: &'a Desk<N, InShared, H>,
     pub(crate) workers: Workers,
+    pub(crate) format: Format,
     pub(crate) client: Client<N, InShared>,
     pub(crate) source: R,
     pub(crate) text: Result<Vec<u8>, ManyFault>,
 }
 
-/// What a new client writes for its script, where this many workers compute its levels.
+/// What a new client writes for its script in this format, where this many workers compute its levels.
 pub(crate) fn play_by_workers<
     N: Naming,
     K: StateRepresentation,
@@ -48,11 +48,12 @@ pub(crate) fn play_by_workers<
     alloc: Global,
     desk: &Desk<N, K, H>,
     workers: Workers,
+    format: Format,
     client: &mut Client<N, K>,
     source: &mut R,
 ) -> Result<Vec<u8>, ManyFault>
     requires { IsReady R.failures client.old source.old }
-    ensures ok { IfOk result (λ text. IsPlay R.remaining R.failures client.old source.old client.new text.items) }
+    ensures ok { IfOk result (λ text. IsPlay format R.remaining R.failures client.old source.old client.new text.items) }
     ensures err { IfErr result (EndsReading R.remaining R.failures source.old) }
 {
     let count = workers.count();
@@ -64,7 +65,9 @@ pub(crate) fn play_by_workers<
                 alloc,
                 desk,
                 runner,
+                form: format.form(None),
             },
+            format,
             client,
             source,
         )
@@ -76,20 +79,13 @@ pub(crate) fn play_by_workers<
                 alloc,
                 desk,
                 runner,
+                form: format.form(None),
             },
+            format,
             client,
             source,
         )
     }
-}
-
-/// The first line of a script's text.
-fn begun_text(alloc: Global, number: u32) -> Result<Vec<u8>, AllocError>
-    ensures { IfOk result (λ text. text.items ≡ codes "script " ++ decimal number ++ line_end) }
-{
-    let mut line = String::new(alloc);
-    writeln!(line, "script {number}")?;
-    Ok(line.into_bytes())
 }
 
 fn filled_buffer(alloc: Global, len: usize) -> Result<Vec<u8>, AllocError>
@@ -101,19 +97,20 @@ fn filled_buffer(alloc: Global, len: usize) -> Result<Vec<u8>, AllocError>
 /// What a new client writes for its script.
 fn play_alone<N: Naming, K: StateRepresentation, H: Wait + Drop, W: Runner, R: Source>(
     access: &Access<'_, N, K, H, W>,
+    format: Format,
     client: &mut Client<N, K>,
     source: &mut R,
 ) -> Result<Vec<u8>, ManyFault>
     requires heard { HasHeard client.old }
     requires new { client.old.calls ≡ [] }
     requires reads { R.failures source.old < 2 ^ 64 - 1 }
-    ensures ok { IfOk result (λ text. IsPlay R.remaining R.failures client.old source.old client.new text.items) }
+    ensures ok { IfOk result (λ text. IsPlay format R.remaining R.failures client.old source.old client.new text.items) }
     ensures err { IfErr result (EndsReading R.remaining R.failures source.old) }
 {
-    let mut sink = CountedWriter::new(begun_text(access.alloc, client.number())?);
+    let mut sink = CountedWriter::new(script_line(access.alloc, format, client.number())?);
     let buffer = filled_buffer(access.alloc, AT_ONCE)?;
     let mut reader = LineReader::new(access.alloc, buffer, MOST);
-    match play(access, client, &mut reader, source, &mut sink) {
+    match play(access, format, client, &mut reader, source, &mut sink) {
         Ok(()) => Ok(sink.into_inner()),
         Err(ServeFault::Read) => Err(ManyFault::Read),
         Err(ServeFault::Write) | Err(ServeFault::Memory) => Err(ManyFault::Memory),

@@ -6,6 +6,7 @@ ghost use Rattle.text_io.specs.Counted.{read_failures};
 use crate::devices::{Short, Turns};
 use many_scripts::{ManyFault, many};
 use recording::read_recording;
+use report_json::Format;
 use stage_graph::{Graph, InShared};
 use std::alloc::Global;
 use std::io::{Read, Write};
@@ -47,7 +48,7 @@ where
 {
     let mut sink = CountedWriter::new(writer);
     let graph = graph_of(alloc, recording)?;
-    let end = many(rt, alloc, scripts, &mut sink, graph, workers);
+    let end = many(rt, alloc, scripts, &mut sink, graph, workers, Format::Text);
     Ok((end, sink.into_inner()))
 }
 

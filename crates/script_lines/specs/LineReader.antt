@@ -1,20 +1,19 @@
--- What a line reader reads, and what it returns.
-use Rattle.std.specs.Prelude.{◌≡◌, ℕ, ◌+◌, ◌<◌, ◌≤◌, Bool, true, false, List, [], ◌++◌, length, Option}
-use Rattle.std.specs.List.{cons_option}
+-- What a line reader reads, and what it gives.
+use Rattle.std.specs.Prelude.{◌≡◌, ℕ, ◌+◌, ◌<◌, Bool, true, false, List, [], ◌∷◌, ◌++◌, length, Option}
 use Rattle.std.specs.Io.KnownBytes.{Consumes, IsAtEnd}
 use Rattle.script_lines.specs.Lines.{ScriptLine, comes_after, line_begun, lines_of}
 use Rattle.script_lines.specs.ReaderView.{ReaderView}
 use Rattle.script_lines.specs.Serves.{ReadsEndBy}
 use Rattle.script_lines.specs.declared.fault.ServeFault.{ServeFault}
 
--- the line that was read last, if it is one
+-- the line that was read last; None where it is a blank one
 abbrev pub line_read : ReaderView → Option ScriptLine
 line_read reader = line_begun reader.line
 
--- a line has ended: it is the first of those to come. Or nothing is unread any more
+-- a line has ended: it is the first of those to come. Or nothing waits any more
 abbrev pub TakesLine : Bool → ReaderView → ReaderView → Type 0
 TakesLine true before after =
-    ((bytes : List ℕ) → comes_after before.line (before.waiting ++ bytes) ≡ cons_option (line_read after) (lines_of (after.waiting ++ bytes)))
+    ((bytes : List ℕ) → comes_after before.line (before.waiting ++ bytes) ≡ line_read after ∷ lines_of (after.waiting ++ bytes))
     × (length after.waiting < length before.waiting)
 TakesLine false before after =
     ((bytes : List ℕ) → comes_after before.line (before.waiting ++ bytes) ≡ comes_after after.line bytes)
@@ -32,25 +31,25 @@ ReadsPiece more before after had left = IsPiece more after.waiting before.left a
 -- where this was read: the line is the first of those to come; or it is the last of all, and the source has ended
 abbrev pub GivesLine : Bool → ReaderView → ReaderView → List ℕ → Option (List ℕ) → Type 0
 GivesLine true before after piece left =
-    ((bytes : List ℕ) → lines_of (before.waiting ++ (piece ++ bytes)) ≡ cons_option (line_read after) (lines_of (after.waiting ++ bytes)))
+    ((bytes : List ℕ) → lines_of (before.waiting ++ (piece ++ bytes)) ≡ line_read after ∷ lines_of (after.waiting ++ bytes))
     × (length after.waiting + after.left < length before.waiting + before.left)
 GivesLine false before after piece left =
-    (lines_of (before.waiting ++ piece) ≡ cons_option (line_read after) []) × (after.waiting ≡ []) × IsAtEnd left × (0 < after.left)
+    (lines_of (before.waiting ++ piece) ≡ line_read after ∷ []) × (after.waiting ≡ []) × IsAtEnd left × (0 < after.left)
 
--- what was read up to the end of a line, or of the source
+-- what was read on the way to the end of a line, or of the source
 pub record ReadsOn (more : Bool) (before after : ReaderView) (had left : Option (List ℕ)) : Type 0 where
   pub piece : List ℕ
   pub consumed : Consumes had left piece
   pub counted : length piece + after.left ≡ before.left
   pub gives : GivesLine more before after piece left
 
--- what was read before a fault
+-- what was read before a fault ended it
 pub record StopsReading (fault : ServeFault) (most : ℕ) (had left : Option (List ℕ)) (failures_before failures_after : ℕ) : Type 0 where
   pub piece : List ℕ
   pub consumed : Consumes had left piece
   pub reads : ReadsEndBy fault (length piece) most failures_before failures_after
 
--- no byte that was read is lost: a line is begun, and the lines that come are those of all that was unread and was read
+-- no byte that was read is lost: a line is begun, and the lines that come are those of all that waited and was read
 pub record KeepsRead (before after : ReaderView) (had left : Option (List ℕ)) : Type 0 where
   pub piece : List ℕ
   pub consumed : Consumes had left piece

@@ -1,5 +1,5 @@
 -- The fields of a line that is being read.
-use Rattle.std.specs.Prelude.{ℕ, ◌≤◌, length}
+use Rattle.std.specs.Prelude.{◌≤◌, length}
 use Rattle.script_lines.specs.Lines.{IsUnbroken}
 use Rattle.script_lines.specs.declared.partial_line.PartialLine.TheInside.{Inside}
 

@@ -1,5 +1,5 @@
 -- The fields of a line reader.
-use Rattle.std.specs.Prelude.{ℕ, ◌<◌, ◌≤◌, length}
+use Rattle.std.specs.Prelude.{◌<◌, ◌≤◌, length}
 use Rattle.script_lines.specs.Lines.{IsBegun}
 use Rattle.script_lines.specs.declared.line_reader.LineReader.TheInside.{Inside}
 

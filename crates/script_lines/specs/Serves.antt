@@ -7,7 +7,7 @@ use Rattle.script_lines.specs.declared.fault.ServeFault.{ServeFault}
 use Rattle.script_lines.specs.declared.fault.ServeFault.TheVariants.{Memory, Write, Read}
 
 -- all was read, less than the most, with no failure, and the answers to all its lines were written
-pub record ServesAll (most : ℕ) (answers : List ScriptLine → List ℕ) (had left : Option (List ℕ)) (failures_before failures_after : ℕ)
+pub record ServesAll (most : ℕ) (answers : List (Option ScriptLine) → List ℕ) (had left : Option (List ℕ)) (failures_before failures_after : ℕ)
     (held holds : Option (List ℕ)) : Type 0 where
   pub read : List ℕ
   pub consumed : Consumes had left read
@@ -23,7 +23,7 @@ ReadsEndBy Write read most failures_before failures_after = failures_after ≡ f
 ReadsEndBy Read read most failures_before failures_after = (failures_after ≡ failures_before + 1) ⊎ ((read ≡ most) × (failures_after ≡ failures_before))
 
 -- no more than the most was read, and a prefix was written of the answers to it
-pub record ServesPart (most : ℕ) (answers : List ScriptLine → List ℕ) (had left : Option (List ℕ)) (failures_before failures_after : ℕ)
+pub record ServesPart (most : ℕ) (answers : List (Option ScriptLine) → List ℕ) (had left : Option (List ℕ)) (failures_before failures_after : ℕ)
     (held holds : Option (List ℕ)) (fault : ServeFault) : Type 0 where
   pub read : List ℕ
   pub consumed : Consumes had left read

@@ -9,7 +9,7 @@ pub enum Line<'a> {
     TooLong,
 }
 
-// Whether the text between two line ends is blank, and so skipped: empty, or byte 13 alone.
+// Whether the text between two line ends is a blank line.
 pub(crate) fn is_blank(text: &[u8]) -> bool
     ensures { result ≡ is_blank text.now }
 {

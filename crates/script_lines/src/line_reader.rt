@@ -64,7 +64,7 @@ impl LineReader {
         }
     }
 
-    /// The line, if it has ended and is not blank.
+    /// The line, if it has ended; None where it is a blank one.
     pub fn line(&self) -> Option<Line<'_>>
         ensures { option_map seen result ≡ line_read self.now }
     {

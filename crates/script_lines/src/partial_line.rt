@@ -58,7 +58,7 @@ impl PartialLine {
         Ok(())
     }
 
-    /// The line, if it ends here and is not blank.
+    /// The line, if it ends here; None where it is a blank one.
     pub fn line(&self) -> Option<Line<'_>>
         ensures { option_map seen result ≡ line_begun self.now }
     {

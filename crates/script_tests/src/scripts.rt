@@ -4,6 +4,7 @@ ghost use Rattle.stage_graph.specs.Walk.{IsRanked};
 
 use level_pool::{OneThread, Runner};
 use recording::read_recording;
+use report_json::Format;
 use serve_script::{ServeFault, serve};
 use stage_graph::{Graph, InShared};
 use std::alloc::Global;
@@ -104,7 +105,7 @@ fn served<W: Runner>(
     let mut source = CountedReader::new(reader);
     let mut sink = CountedWriter::new(writer);
     let graph = graph_of(alloc, FIRST_RUN)?;
-    let end = serve(alloc, runner, &mut source, &mut sink, graph);
+    let end = serve(alloc, runner, &mut source, &mut sink, graph, Format::Text);
     Ok((end, sink.into_inner().taken))
 }
 
@@ -218,7 +219,14 @@ fn endless_reader(rt: HostRuntime) -> Result<(), Fail> {
     let mut source = CountedReader::new(Endless);
     let mut sink = CountedWriter::new(Vec::new(alloc));
     let graph = graph_of(alloc, FIRST_RUN)?;
-    let end = serve(alloc, &OneThread::new(&rt), &mut source, &mut sink, graph);
+    let end = serve(
+        alloc,
+        &OneThread::new(&rt),
+        &mut source,
+        &mut sink,
+        graph,
+        Format::Text,
+    );
     assert_eq!(rt; end, Err(ServeFault::Read));
     assert!(rt; sink.into_inner().is_empty());
     Ok(())
@@ -288,7 +296,14 @@ fn flushed_before_each_read(rt: HostRuntime) -> Result<(), Fail> {
         });
         let mut sink = CountedWriter::new(PipeWriter { pipe: &pipe });
         let graph = graph_of(alloc, FIRST_RUN)?;
-        let end = serve(alloc, &OneThread::new(&rt), &mut source, &mut sink, graph);
+        let end = serve(
+            alloc,
+            &OneThread::new(&rt),
+            &mut source,
+            &mut sink,
+            graph,
+            Format::Text,
+        );
         assert_eq!(rt; end, Ok(()));
         assert_eq!(rt; pipe.early_reads.load(Ordering::SeqCst), 0);
         assert_eq!(rt; pipe.held_back.load(Ordering::SeqCst), 0);

@@ -1,2 +1,4 @@
 pub mod Answers
 pub mod Replies
+pub mod Told
+pub mod Values

@@ -4,25 +4,21 @@ ghost use Rattle.std.specs.Option.{option_and_then};
 ghost use Rattle.std.specs.Io.KnownBytes.{Appends};
 ghost use Rattle.text_io.specs.Sink.{AppendsPrefix};
 ghost use Rattle.stage_graph.specs.Plain.{place_named};
-ghost use Rattle.report_text.specs.Reports.{text};
+ghost use Rattle.report_json.specs.Told.{comparison_told, report_told, sweep_told};
 ghost use Rattle.script_lines.specs.Faults.{failed_writes};
-ghost use Rattle.report_text.specs.AgainstTexts.{comparison_text};
-ghost use Rattle.report_text.specs.SweepTexts.{sweep_report};
 ghost use Rattle.serve_script.specs.Answers.{against_in, compared_asked, or_no_stage, report_among, report_asked, swept_asked, told_asked, what_asked};
 
+use crate::telling::{tell_no_stage, tell_no_version};
 use level_pool::Runner;
 use recording::Asked;
-use report_text::{Comparison, ReportFault, What, compare, report, report_sweep};
+use report_json::{Form, tell_comparison, tell_report, tell_sweep};
+use report_text::{Comparison, ReportFault, What};
 use script_lines::AnswerFault;
 use session_core::Table;
 use stage_graph::Name;
 use std::alloc::Global;
 use text_io::Sink;
 use version_store::{StateRepresentation, Version};
-
-const NO_STAGE: &[u8] = b"refused 10 NoStage\n";
-
-const NO_VERSION: &[u8] = b"refused 52 NoVersion\n";
 
 /// The number of the version that a report compares with.
 pub fn against_in(asked: &Asked) -> Option<u32>
@@ -55,17 +51,18 @@ pub(crate) fn answer_report<R: StateRepresentation, W: Runner, S: Sink>(
     version: u32,
     asked: &Asked,
     runner: &W,
+    form: Form,
     sink: &mut S,
 ) -> Result<(), AnswerFault>
     requires { S.failures sink.old < 2 ^ 64 - 1 }
-    ensures ok { OnOk result (Appends (S.held sink.old) (S.held sink.new) (report_among table.now.state.versions version asked.now)) }
-    ensures err { OnErr result (AppendsPrefix (S.held sink.old) (S.held sink.new) (report_among table.now.state.versions version asked.now)) }
+    ensures ok { OnOk result (Appends (S.held sink.old) (S.held sink.new) (report_among form table.now.state.versions version asked.now)) }
+    ensures err { OnErr result (AppendsPrefix (S.held sink.old) (S.held sink.new) (report_among form table.now.state.versions version asked.now)) }
     ensures failures { S.failures sink.new ≡ S.failures sink.old + failed_writes result }
 {
     let against = against_of(table, asked);
     match table.version(version) {
-        Ok(version) => write_asked(alloc, version, against, asked, runner, sink),
-        Err(_) => write_text(NO_VERSION, sink),
+        Ok(version) => write_asked(alloc, version, against, asked, runner, form, sink),
+        Err(_) => tell_no_version(alloc, form, sink),
     }
 }
 
@@ -76,24 +73,27 @@ pub fn write_asked<R: StateRepresentation, W: Runner, S: Sink>(
     against: Option<&Version<R>>,
     asked: &Asked,
     runner: &W,
+    form: Form,
     sink: &mut S,
 ) -> Result<(), AnswerFault>
     requires { S.failures sink.old < 2 ^ 64 - 1 }
-    ensures ok { OnOk result (Appends (S.held sink.old) (S.held sink.new) (report_asked version.now (option_copied against.entry) asked.now)) }
-    ensures err { OnErr result (AppendsPrefix (S.held sink.old) (S.held sink.new) (report_asked version.now (option_copied against.entry) asked.now)) }
+    ensures ok { OnOk result (Appends (S.held sink.old) (S.held sink.new) (report_asked form version.now (option_copied against.entry) asked.now)) }
+    ensures err { OnErr result (AppendsPrefix (S.held sink.old) (S.held sink.new) (report_asked form version.now (option_copied against.entry) asked.now)) }
     ensures failures { S.failures sink.new ≡ S.failures sink.old + failed_writes result }
 {
     match asked {
         Asked::All | Asked::One(_) | Asked::Blame(_) | Asked::Path(_) | Asked::Times => {
-            write_told(alloc, version, asked, sink)
+            write_told(alloc, version, asked, form, sink)
         }
-        Asked::Changes(None) => write_told(alloc, version, asked, sink),
-        Asked::Drift(None) => write_told(alloc, version, asked, sink),
-        Asked::Sweep(name) => write_sweep(alloc, version, name, runner, sink),
+        Asked::Changes(None) => write_told(alloc, version, asked, form, sink),
+        Asked::Drift(None) => write_told(alloc, version, asked, form, sink),
+        Asked::Sweep(name) => write_sweep(alloc, version, name, runner, form, sink),
         Asked::Changes(Some(_)) => {
-            write_comparison(alloc, version, against, Comparison::Changes, sink)
+            write_comparison(alloc, version, against, Comparison::Changes, form, sink)
         }
-        Asked::Drift(Some(_)) => write_comparison(alloc, version, against, Comparison::Drift, sink),
+        Asked::Drift(Some(_)) => {
+            write_comparison(alloc, version, against, Comparison::Drift, form, sink)
+        }
     }
 }
 
@@ -102,16 +102,17 @@ fn write_told<R: StateRepresentation, S: Sink>(
     alloc: Global,
     version: &Version<R>,
     asked: &Asked,
+    form: Form,
     sink: &mut S,
 ) -> Result<(), AnswerFault>
     requires { S.failures sink.old < 2 ^ 64 - 1 }
-    ensures ok { OnOk result (Appends (S.held sink.old) (S.held sink.new) (told_asked version.now asked.now)) }
-    ensures err { OnErr result (AppendsPrefix (S.held sink.old) (S.held sink.new) (told_asked version.now asked.now)) }
+    ensures ok { OnOk result (Appends (S.held sink.old) (S.held sink.new) (told_asked form version.now asked.now)) }
+    ensures err { OnErr result (AppendsPrefix (S.held sink.old) (S.held sink.new) (told_asked form version.now asked.now)) }
     ensures failures { S.failures sink.new ≡ S.failures sink.old + failed_writes result }
 {
     match what_asked(version, asked) {
-        Some(what) => write_report(alloc, version, what, sink),
-        None => write_text(NO_STAGE, sink),
+        Some(what) => write_report(alloc, version, what, form, sink),
+        None => tell_no_stage(alloc, form, sink),
     }
 }
 
@@ -121,16 +122,17 @@ fn write_sweep<R: StateRepresentation, W: Runner, S: Sink>(
     version: &Version<R>,
     name: &Name,
     runner: &W,
+    form: Form,
     sink: &mut S,
 ) -> Result<(), AnswerFault>
     requires { S.failures sink.old < 2 ^ 64 - 1 }
-    ensures ok { OnOk result (Appends (S.held sink.old) (S.held sink.new) (swept_asked version.now name.now)) }
-    ensures err { OnErr result (AppendsPrefix (S.held sink.old) (S.held sink.new) (swept_asked version.now name.now)) }
+    ensures ok { OnOk result (Appends (S.held sink.old) (S.held sink.new) (swept_asked form version.now name.now)) }
+    ensures err { OnErr result (AppendsPrefix (S.held sink.old) (S.held sink.new) (swept_asked form version.now name.now)) }
     ensures failures { S.failures sink.new ≡ S.failures sink.old + failed_writes result }
 {
     match place_named(version, name) {
-        Some(place) => write_sweep_at(alloc, version, place, runner, sink),
-        None => write_text(NO_STAGE, sink),
+        Some(place) => write_sweep_at(alloc, version, place, runner, form, sink),
+        None => tell_no_stage(alloc, form, sink),
     }
 }
 
@@ -140,16 +142,17 @@ fn write_sweep_at<R: StateRepresentation, W: Runner, S: Sink>(
     version: &Version<R>,
     place: u32,
     runner: &W,
+    form: Form,
     sink: &mut S,
 ) -> Result<(), AnswerFault>
     requires { S.failures sink.old < 2 ^ 64 - 1 }
-    ensures ok { OnOk result (Appends (S.held sink.old) (S.held sink.new) (or_no_stage (sweep_report version.now place None))) }
-    ensures err { OnErr result (AppendsPrefix (S.held sink.old) (S.held sink.new) (or_no_stage (sweep_report version.now place None))) }
+    ensures ok { OnOk result (Appends (S.held sink.old) (S.held sink.new) (or_no_stage form (sweep_told form version.now place None))) }
+    ensures err { OnErr result (AppendsPrefix (S.held sink.old) (S.held sink.new) (or_no_stage form (sweep_told form version.now place None))) }
     ensures failures { S.failures sink.new ≡ S.failures sink.old + failed_writes result }
 {
-    match report_sweep(alloc, version, place, None, runner, sink) {
+    match tell_sweep(alloc, version, place, None, runner, form, sink) {
         Ok(()) => Ok(()),
-        Err(ReportFault::NoStage) => write_text(NO_STAGE, sink),
+        Err(ReportFault::NoStage) => tell_no_stage(alloc, form, sink),
         Err(ReportFault::Write) => Err(AnswerFault::Write),
         Err(ReportFault::Memory) => Err(AnswerFault::Memory),
     }
@@ -161,16 +164,17 @@ fn write_comparison<R: StateRepresentation, S: Sink>(
     version: &Version<R>,
     against: Option<&Version<R>>,
     comparison: Comparison,
+    form: Form,
     sink: &mut S,
 ) -> Result<(), AnswerFault>
     requires { S.failures sink.old < 2 ^ 64 - 1 }
-    ensures ok { OnOk result (Appends (S.held sink.old) (S.held sink.new) (compared_asked comparison version.now (option_copied against.entry))) }
-    ensures err { OnErr result (AppendsPrefix (S.held sink.old) (S.held sink.new) (compared_asked comparison version.now (option_copied against.entry))) }
+    ensures ok { OnOk result (Appends (S.held sink.old) (S.held sink.new) (compared_asked form comparison version.now (option_copied against.entry))) }
+    ensures err { OnErr result (AppendsPrefix (S.held sink.old) (S.held sink.new) (compared_asked form comparison version.now (option_copied against.entry))) }
     ensures failures { S.failures sink.new ≡ S.failures sink.old + failed_writes result }
 {
     match against {
-        Some(against) => write_against(alloc, version, against, comparison, sink),
-        None => write_text(NO_VERSION, sink),
+        Some(against) => write_against(alloc, version, against, comparison, form, sink),
+        None => tell_no_version(alloc, form, sink),
     }
 }
 
@@ -179,14 +183,15 @@ fn write_against<R: StateRepresentation, S: Sink>(
     version: &Version<R>,
     against: &Version<R>,
     comparison: Comparison,
+    form: Form,
     sink: &mut S,
 ) -> Result<(), AnswerFault>
     requires { S.failures sink.old < 2 ^ 64 - 1 }
-    ensures ok { OnOk result (Appends (S.held sink.old) (S.held sink.new) (comparison_text comparison version.now against.now)) }
-    ensures err { OnErr result (AppendsPrefix (S.held sink.old) (S.held sink.new) (comparison_text comparison version.now against.now)) }
+    ensures ok { OnOk result (Appends (S.held sink.old) (S.held sink.new) (comparison_told form comparison version.now against.now)) }
+    ensures err { OnErr result (AppendsPrefix (S.held sink.old) (S.held sink.new) (comparison_told form comparison version.now against.now)) }
     ensures failures { S.failures sink.new ≡ S.failures sink.old + failed_writes result }
 {
-    match compare(alloc, version, against, comparison, sink) {
+    match tell_comparison(alloc, version, against, comparison, form, sink) {
         Ok(()) => Ok(()),
         Err(ReportFault::NoStage) => unreachable!(),
         Err(ReportFault::Write) => Err(AnswerFault::Write),
@@ -199,30 +204,20 @@ fn write_report<R: StateRepresentation, S: Sink>(
     alloc: Global,
     version: &Version<R>,
     what: What,
+    form: Form,
     sink: &mut S,
 ) -> Result<(), AnswerFault>
     requires { S.failures sink.old < 2 ^ 64 - 1 }
-    ensures ok { OnOk result (Appends (S.held sink.old) (S.held sink.new) (or_no_stage (text version.now what))) }
-    ensures err { OnErr result (AppendsPrefix (S.held sink.old) (S.held sink.new) (or_no_stage (text version.now what))) }
+    ensures ok { OnOk result (Appends (S.held sink.old) (S.held sink.new) (or_no_stage form (report_told form version.now what))) }
+    ensures err { OnErr result (AppendsPrefix (S.held sink.old) (S.held sink.new) (or_no_stage form (report_told form version.now what))) }
     ensures failures { S.failures sink.new ≡ S.failures sink.old + failed_writes result }
 {
-    match report(alloc, version, what, sink) {
+    match tell_report(alloc, version, what, form, sink) {
         Ok(()) => Ok(()),
-        Err(ReportFault::NoStage) => write_text(NO_STAGE, sink),
+        Err(ReportFault::NoStage) => tell_no_stage(alloc, form, sink),
         Err(ReportFault::Write) => Err(AnswerFault::Write),
         Err(ReportFault::Memory) => Err(AnswerFault::Memory),
     }
-}
-
-/// Writes a text.
-pub fn write_text<S: Sink>(text: &[u8], sink: &mut S) -> Result<(), AnswerFault>
-    requires { S.failures sink.old < 2 ^ 64 - 1 }
-    ensures ok { OnOk result (Appends (S.held sink.old) (S.held sink.new) text.now) }
-    ensures err { OnErr result (AppendsPrefix (S.held sink.old) (S.held sink.new) text.now) }
-    ensures failures { S.failures sink.new ≡ S.failures sink.old + failed_writes result }
-{
-    sink.write(text)?;
-    Ok(())
 }
 
 /// The requested report of one version; none if it is of a stage that is not there, and if it is a sweep or

@@ -1,4 +1,4 @@
-//! A script of steps, answered: the step on each line is executed, and its reply or report is written.
+//! A script of steps, answered: what each line names is done, and its reply or report is written, as text or as JSON.
 //!
 //! [`serve`] answers a whole script. The definition `answers` says which bytes it writes.
 #![tactic(auto)]
@@ -7,8 +7,10 @@ mod asking;
 mod reply;
 mod server;
 mod serving;
+mod telling;
+mod values;
 
-pub use asking::{against_in, write_asked, write_text};
-pub use reply::push_reply;
+pub use asking::{against_in, write_asked};
 pub use script_lines::ServeFault;
 pub use serving::serve;
+pub use telling::{tell_fault, tell_no_version, tell_reply};

@@ -1,18 +1,45 @@
 //! The lines by which replies are printed.
-ghost use Rattle.std.specs.Prelude.{◌≡◌, ◌++◌, [], OnOk, string_bytes, option_copied, slice_index_or};
+ghost use Rattle.std.specs.Prelude.{◌≡◌, ◌++◌, [], IfOk, OnOk, string_bytes, option_copied, slice_index_or};
 ghost use Rattle.std.specs.List.{filter_map};
+ghost use Rattle.recording.specs.FaultTexts.{fault_text};
+ghost use Rattle.report_text.specs.Texts.{line_end};
 ghost use Rattle.session_core.specs.Headline.{session_of};
 ghost use Rattle.serve_script.specs.Replies.{added_in, base_in, dependent_text, detail_text, index_text, name_of_user, refused_line, reply_line, user_name};
 
+use recording::Fault;
 use session_core::{Event, Refusal, Reply, Table};
 use stage_graph::{Edit, Graph, Name};
-use std::alloc::AllocError;
+use std::alloc::{AllocError, Global};
 use std::fmt::Write;
 use version_store::{StateRepresentation, Version};
 
-/// Appends the line of the reply to an event to a text. `listed` says whether the edits of the event came as a list,
-/// so that a refusal prints the index of its edit; `base` is the version that a commit edits.
-pub fn push_reply<R: StateRepresentation>(
+/// The line of the reply to an event. `listed` says whether the edits of the event came as a list, so that a refusal tells
+/// the index of its edit; `base` is the version that a commit edits.
+pub(crate) fn reply_line<R: StateRepresentation>(
+    alloc: Global,
+    base: Option<&Version<R>>,
+    event: &Event,
+    listed: bool,
+    reply: Reply,
+) -> Result<String, AllocError>
+    ensures { IfOk result (λ line. string_bytes line ≡ reply_line (option_copied base.entry) event.now listed reply) }
+{
+    let mut line = String::new(alloc);
+    push_reply(&mut line, base, event, listed, reply)?;
+    Ok(line)
+}
+
+/// The line that says why a line names no step.
+pub(crate) fn fault_line(alloc: Global, fault: &Fault) -> Result<String, AllocError>
+    ensures { IfOk result (λ line. string_bytes line ≡ fault_text fault.now ++ line_end) }
+{
+    let mut line = String::new(alloc);
+    writeln!(line, "{fault}")?;
+    Ok(line)
+}
+
+/// Puts the line of the reply to an event at the end of a text.
+fn push_reply<R: StateRepresentation>(
     line: &mut String,
     base: Option<&Version<R>>,
     event: &Event,
@@ -47,7 +74,7 @@ pub(crate) fn base_of<'a, R: StateRepresentation>(
 }
 
 /// The session of an event.
-fn session_of(event: &Event) -> u32
+pub(crate) fn session_of(event: &Event) -> u32
     ensures { result ≡ session_of event.now }
 {
     match event {
@@ -117,7 +144,7 @@ fn push_index(line: &mut String, listed: bool, place: Option<usize>) -> Result<(
 }
 
 /// The name of the stage that has a place in the graph of a commit's base, or after its edits.
-fn user_name<'a, R: StateRepresentation>(
+pub(crate) fn user_name<'a, R: StateRepresentation>(
     base: Option<&'a Version<R>>,
     event: &'a Event,
     place: u32,

@@ -1,6 +1,7 @@
 //! Answers the lines of a script.
-ghost use Rattle.std.specs.Prelude.{◌≡◌, ◌∷◌, ◌+◌, ◌-◌, ◌^◌, ◌<◌, Some, Err, Result, IfOk, OnOk, OnErr};
-ghost use Rattle.text_io.specs.Sink.{Advances, AppendsPrefix, StopsShort};
+ghost use Rattle.std.specs.Prelude.{◌≡◌, ◌+◌, ◌-◌, ◌^◌, ◌<◌, Some, Err, Result, IfOk, OnOk, OnErr};
+ghost use Rattle.std.specs.Io.KnownBytes.{Appends};
+ghost use Rattle.text_io.specs.Sink.{AppendsPrefix};
 ghost use Rattle.script_lines.specs.Seen.{seen};
 ghost use Rattle.stage_graph.specs.Walk.{IsRanked};
 ghost use Rattle.script_lines.specs.Faults.{failed_writes};
@@ -9,19 +10,21 @@ ghost use Rattle.recording.specs.StepOf.{step_of};
 ghost use Rattle.recording.specs.declared.fault.Fault.{Fault};
 ghost use Rattle.recording.specs.declared.step.Step.{Step};
 ghost use Rattle.session_core.specs.Machine.{step};
-ghost use Rattle.serve_script.specs.Answers.{IsAnswered, answer_change, answer_event, answer_head, answer_named, answer_report, answer_stand, answer_step, answered, answers_from, fault_line, opening_state};
-ghost use Rattle.serve_script.specs.Replies.{base_in, reply_line};
+ghost use Rattle.serve_script.specs.Answers.{IsAnswered, answer_change, answer_event, answer_head, answer_named, answer_report, answer_stand, answer_line, answer_step, answered, opening_state};
+ghost use Rattle.serve_script.specs.Told.{fault_told, reply_told};
+ghost use Rattle.serve_script.specs.Replies.{base_in};
 
 use crate::asking::answer_report;
-use crate::reply::{base_of, push_reply};
+use crate::reply::base_of;
+use crate::telling::{tell_fault, tell_reply};
 use level_pool::Runner;
 use recording::{Asked, Fault, Step, Subject, read_step};
+use report_json::Form;
 use script_lines::{AnswerFault, Line};
 use session_core::{Event, Reply, Table};
 use share_tree::Held;
 use stage_graph::{Edits, Graph};
 use std::alloc::{AllocError, Global};
-use std::fmt::Write;
 use std::marker::Model;
 use text_io::Sink;
 use version_store::{StateRepresentation, Version};
@@ -35,7 +38,6 @@ pub(crate) struct Server<'a, R: StateRepresentation, W> {
     alloc: Global,
     runner: &'a W,
     table: Table<R>,
-    line: String,
 }
 
 impl<'a, R: StateRepresentation, W> Model for Server<'a, R, W> {
@@ -65,7 +67,6 @@ impl<'a, R: StateRepresentation, W: Runner> Server<'a, R, W> {
             alloc,
             runner,
             table: Table::new(alloc, version, MOST_VERSIONS)?,
-            line: String::new(alloc),
         })
     }
 
@@ -84,15 +85,16 @@ impl<'a, R: StateRepresentation, W: Runner> Server<'a, R, W> {
         &mut self,
         event: Event,
         listed: bool,
+        form: Form,
         sink: &mut S,
     ) -> Result<(), AnswerFault>
         requires { S.failures sink.old < 2 ^ 64 - 1 }
-        ensures ok { OnOk result (IsAnswered (answer_event self.old event listed) self.new (S.held sink.old) (S.held sink.new)) }
-        ensures err { OnErr result (AppendsPrefix (S.held sink.old) (S.held sink.new) (answer_event self.old event listed).0) }
+        ensures ok { OnOk result (IsAnswered (answer_event form self.old event listed) self.new (S.held sink.old) (S.held sink.new)) }
+        ensures err { OnErr result (AppendsPrefix (S.held sink.old) (S.held sink.new) (answer_event form self.old event listed).0) }
         ensures failures { S.failures sink.new ≡ S.failures sink.old + failed_writes result }
     {
         let reply = self.take(&event)?;
-        self.write_reply(&event, listed, reply, sink)
+        self.write_reply(&event, listed, reply, form, sink)
     }
 
     /// Processes edits of the version at which a session stands, and writes the reply.
@@ -101,11 +103,12 @@ impl<'a, R: StateRepresentation, W: Runner> Server<'a, R, W> {
         session: u32,
         edits: Edits,
         listed: bool,
+        form: Form,
         sink: &mut S,
     ) -> Result<(), AnswerFault>
         requires { S.failures sink.old < 2 ^ 64 - 1 }
-        ensures ok { OnOk result (IsAnswered (answer_head self.old session edits listed) self.new (S.held sink.old) (S.held sink.new)) }
-        ensures err { OnErr result (AppendsPrefix (S.held sink.old) (S.held sink.new) (answer_head self.old session edits listed).0) }
+        ensures ok { OnOk result (IsAnswered (answer_head form self.old session edits listed) self.new (S.held sink.old) (S.held sink.new)) }
+        ensures err { OnErr result (AppendsPrefix (S.held sink.old) (S.held sink.new) (answer_head form self.old session edits listed).0) }
         ensures failures { S.failures sink.new ≡ S.failures sink.old + failed_writes result }
     {
         let event = Event::Head { session };
@@ -117,42 +120,27 @@ impl<'a, R: StateRepresentation, W: Runner> Server<'a, R, W> {
                     base,
                     edit,
                 };
-                self.answer_event(event, listed, sink)
+                self.answer_event(event, listed, form, sink)
             }
-            reply => self.write_reply(&event, listed, reply, sink),
+            reply => self.write_reply(&event, listed, reply, form, sink),
         }
     }
 
     fn write_reply<S: Sink>(
-        &mut self,
+        &self,
         event: &Event,
         listed: bool,
         reply: Reply,
+        form: Form,
         sink: &mut S,
     ) -> Result<(), AnswerFault>
         requires { S.failures sink.old < 2 ^ 64 - 1 }
-        ensures ok { OnOk result (IsAnswered (answered (reply_line (base_in self.old event.now) event.now listed reply) self.old) self.new (S.held sink.old) (S.held sink.new)) }
-        ensures err { OnErr result (AppendsPrefix (S.held sink.old) (S.held sink.new) (reply_line (base_in self.old event.now) event.now listed reply)) }
+        ensures ok { OnOk result (Appends (S.held sink.old) (S.held sink.new) (reply_told form (base_in self.now event.now) event.now listed reply)) }
+        ensures err { OnErr result (AppendsPrefix (S.held sink.old) (S.held sink.new) (reply_told form (base_in self.now event.now) event.now listed reply)) }
         ensures failures { S.failures sink.new ≡ S.failures sink.old + failed_writes result }
     {
-        self.line.clear();
         let base = base_of(&self.table, event);
-        push_reply(&mut self.line, base, event, listed, reply)?;
-        sink.write(self.line.as_bytes())?;
-        Ok(())
-    }
-
-    /// Writes why a line has no step.
-    fn write_fault<S: Sink>(&mut self, fault: &Fault, sink: &mut S) -> Result<(), AnswerFault>
-        requires { S.failures sink.old < 2 ^ 64 - 1 }
-        ensures ok { OnOk result (IsAnswered (answered (fault_line fault.now) self.old) self.new (S.held sink.old) (S.held sink.new)) }
-        ensures err { OnErr result (AppendsPrefix (S.held sink.old) (S.held sink.new) (fault_line fault.now)) }
-        ensures failures { S.failures sink.new ≡ S.failures sink.old + failed_writes result }
-    {
-        self.line.clear();
-        writeln!(self.line, "{fault}")?;
-        sink.write(self.line.as_bytes())?;
-        Ok(())
+        tell_reply(self.alloc, base, event, listed, reply, form, sink)
     }
 
     /// Processes edits of a version or of the session's head, and writes the reply.
@@ -162,11 +150,12 @@ impl<'a, R: StateRepresentation, W: Runner> Server<'a, R, W> {
         base: Option<u32>,
         edits: Edits,
         listed: bool,
+        form: Form,
         sink: &mut S,
     ) -> Result<(), AnswerFault>
         requires { S.failures sink.old < 2 ^ 64 - 1 }
-        ensures ok { OnOk result (IsAnswered (answer_change self.old session base edits listed) self.new (S.held sink.old) (S.held sink.new)) }
-        ensures err { OnErr result (AppendsPrefix (S.held sink.old) (S.held sink.new) (answer_change self.old session base edits listed).0) }
+        ensures ok { OnOk result (IsAnswered (answer_change form self.old session base edits listed) self.new (S.held sink.old) (S.held sink.new)) }
+        ensures err { OnErr result (AppendsPrefix (S.held sink.old) (S.held sink.new) (answer_change form self.old session base edits listed).0) }
         ensures failures { S.failures sink.new ≡ S.failures sink.old + failed_writes result }
     {
         match base {
@@ -177,9 +166,9 @@ impl<'a, R: StateRepresentation, W: Runner> Server<'a, R, W> {
                     base,
                     edit,
                 };
-                self.answer_event(event, listed, sink)
+                self.answer_event(event, listed, form, sink)
             }
-            None => self.answer_head(session, edits, listed, sink),
+            None => self.answer_head(session, edits, listed, form, sink),
         }
     }
 
@@ -188,11 +177,12 @@ impl<'a, R: StateRepresentation, W: Runner> Server<'a, R, W> {
         &mut self,
         session: u32,
         asked: &Asked,
+        form: Form,
         sink: &mut S,
     ) -> Result<(), AnswerFault>
         requires { S.failures sink.old < 2 ^ 64 - 1 }
-        ensures ok { OnOk result (IsAnswered (answer_stand self.old session asked.now) self.new (S.held sink.old) (S.held sink.new)) }
-        ensures err { OnErr result (AppendsPrefix (S.held sink.old) (S.held sink.new) (answer_stand self.old session asked.now).0) }
+        ensures ok { OnOk result (IsAnswered (answer_stand form self.old session asked.now) self.new (S.held sink.old) (S.held sink.new)) }
+        ensures err { OnErr result (AppendsPrefix (S.held sink.old) (S.held sink.new) (answer_stand form self.old session asked.now).0) }
         ensures failures { S.failures sink.new ≡ S.failures sink.old + failed_writes result }
     {
         let event = Event::Head { session };
@@ -203,9 +193,10 @@ impl<'a, R: StateRepresentation, W: Runner> Server<'a, R, W> {
                 version,
                 asked,
                 self.runner,
+                form,
                 sink,
             ),
-            reply => self.write_reply(&event, false, reply, sink),
+            reply => self.write_reply(&event, false, reply, form, sink),
         }
     }
 
@@ -214,11 +205,12 @@ impl<'a, R: StateRepresentation, W: Runner> Server<'a, R, W> {
         &mut self,
         subject: Subject,
         asked: &Asked,
+        form: Form,
         sink: &mut S,
     ) -> Result<(), AnswerFault>
         requires { S.failures sink.old < 2 ^ 64 - 1 }
-        ensures ok { OnOk result (IsAnswered (answer_report self.old subject asked.now) self.new (S.held sink.old) (S.held sink.new)) }
-        ensures err { OnErr result (AppendsPrefix (S.held sink.old) (S.held sink.new) (answer_report self.old subject asked.now).0) }
+        ensures ok { OnOk result (IsAnswered (answer_report form self.old subject asked.now) self.new (S.held sink.old) (S.held sink.new)) }
+        ensures err { OnErr result (AppendsPrefix (S.held sink.old) (S.held sink.new) (answer_report form self.old subject asked.now).0) }
         ensures failures { S.failures sink.new ≡ S.failures sink.old + failed_writes result }
     {
         match subject {
@@ -228,59 +220,75 @@ impl<'a, R: StateRepresentation, W: Runner> Server<'a, R, W> {
                 version,
                 asked,
                 self.runner,
+                form,
                 sink,
             ),
-            Subject::Head(session) => self.answer_stand(session, asked, sink),
+            Subject::Head(session) => self.answer_stand(session, asked, form, sink),
         }
     }
 
     /// Executes a step, and writes the reply or the report.
-    fn answer_step<S: Sink>(&mut self, asked: Step, sink: &mut S) -> Result<(), AnswerFault>
+    fn answer_step<S: Sink>(
+        &mut self,
+        asked: Step,
+        form: Form,
+        sink: &mut S,
+    ) -> Result<(), AnswerFault>
         requires { S.failures sink.old < 2 ^ 64 - 1 }
-        ensures ok { OnOk result (IsAnswered (answer_step self.old asked) self.new (S.held sink.old) (S.held sink.new)) }
-        ensures err { OnErr result (AppendsPrefix (S.held sink.old) (S.held sink.new) (answer_step self.old asked).0) }
+        ensures ok { OnOk result (IsAnswered (answer_step form self.old asked) self.new (S.held sink.old) (S.held sink.new)) }
+        ensures err { OnErr result (AppendsPrefix (S.held sink.old) (S.held sink.new) (answer_step form self.old asked).0) }
         ensures failures { S.failures sink.new ≡ S.failures sink.old + failed_writes result }
     {
         match asked {
             Step::Open { session, version } => {
-                self.answer_event(Event::Open { session, version }, false, sink)
+                self.answer_event(Event::Open { session, version }, false, form, sink)
             }
-            Step::Head { session } => self.answer_event(Event::Head { session }, false, sink),
-            Step::Undo { session } => self.answer_event(Event::Undo { session }, false, sink),
-            Step::Close { session } => self.answer_event(Event::Close { session }, false, sink),
+            Step::Head { session } => self.answer_event(Event::Head { session }, false, form, sink),
+            Step::Undo { session } => self.answer_event(Event::Undo { session }, false, form, sink),
+            Step::Close { session } => self.answer_event(
+                Event::Close { session },
+                false,
+                form,
+                sink,
+            ),
             Step::Change {
                 session,
                 base,
                 edits,
                 listed,
-            } => self.answer_change(session, base, edits, listed, sink),
-            Step::Report { subject, asked } => self.answer_subject(subject, &asked, sink),
+            } => self.answer_change(session, base, edits, listed, form, sink),
+            Step::Report { subject, asked } => self.answer_subject(subject, &asked, form, sink),
         }
     }
 
     /// Writes why a line has no step, unless memory ran out.
-    fn refuse<S: Sink>(&mut self, fault: Fault, sink: &mut S) -> Result<(), AnswerFault>
+    fn refuse<S: Sink>(&self, fault: Fault, form: Form, sink: &mut S) -> Result<(), AnswerFault>
         requires { S.failures sink.old < 2 ^ 64 - 1 }
-        ensures ok { (meant : Result Step Fault) → IsRead (Err fault) meant → OnOk result (IsAnswered (answer_named self.old meant) self.new (S.held sink.old) (S.held sink.new)) }
-        ensures err { (meant : Result Step Fault) → IsRead (Err fault) meant → OnErr result (AppendsPrefix (S.held sink.old) (S.held sink.new) (answer_named self.old meant).0) }
+        ensures ok { (meant : Result Step Fault) → IsRead (Err fault) meant → OnOk result (IsAnswered (answer_named form self.now meant) self.now (S.held sink.old) (S.held sink.new)) }
+        ensures err { (meant : Result Step Fault) → IsRead (Err fault) meant → OnErr result (AppendsPrefix (S.held sink.old) (S.held sink.new) (answer_named form self.now meant).0) }
         ensures failures { S.failures sink.new ≡ S.failures sink.old + failed_writes result }
     {
         match fault {
             Fault::Memory => Err(AnswerFault::Memory),
-            fault => self.write_fault(&fault, sink),
+            fault => tell_fault(self.alloc, &fault, form, sink),
         }
     }
 
     /// Executes the step in the bytes of a line.
-    fn answer_bytes<S: Sink>(&mut self, bytes: &[u8], sink: &mut S) -> Result<(), AnswerFault>
+    fn answer_bytes<S: Sink>(
+        &mut self,
+        bytes: &[u8],
+        form: Form,
+        sink: &mut S,
+    ) -> Result<(), AnswerFault>
         requires { S.failures sink.old < 2 ^ 64 - 1 }
-        ensures ok { OnOk result (IsAnswered (answer_named self.old (step_of bytes.now)) self.new (S.held sink.old) (S.held sink.new)) }
-        ensures err { OnErr result (AppendsPrefix (S.held sink.old) (S.held sink.new) (answer_named self.old (step_of bytes.now)).0) }
+        ensures ok { OnOk result (IsAnswered (answer_named form self.old (step_of bytes.now)) self.new (S.held sink.old) (S.held sink.new)) }
+        ensures err { OnErr result (AppendsPrefix (S.held sink.old) (S.held sink.new) (answer_named form self.old (step_of bytes.now)).0) }
         ensures failures { S.failures sink.new ≡ S.failures sink.old + failed_writes result }
     {
         match read_step(self.alloc, bytes) {
-            Ok(step) => self.answer_step(step, sink),
-            Err(fault) => self.refuse(fault, sink),
+            Ok(step) => self.answer_step(step, form, sink),
+            Err(fault) => self.refuse(fault, form, sink),
         }
     }
 
@@ -288,16 +296,17 @@ impl<'a, R: StateRepresentation, W: Runner> Server<'a, R, W> {
     pub(crate) fn answer<S: Sink>(
         &mut self,
         line: Line<'_>,
+        form: Form,
         sink: &mut S,
     ) -> Result<(), AnswerFault>
         requires { S.failures sink.old < 2 ^ 64 - 1 }
-        ensures ok { OnOk result (Advances (λ lines. answers_from self.old (seen line.entry ∷ lines)) (answers_from self.new) (S.held sink.old) (S.held sink.new)) }
-        ensures err { OnErr result (StopsShort (λ lines. answers_from self.old (seen line.entry ∷ lines)) (S.held sink.old) (S.held sink.new)) }
+        ensures ok { OnOk result (IsAnswered (answer_line form self.old (Some (seen line.entry))) self.new (S.held sink.old) (S.held sink.new)) }
+        ensures err { OnErr result (AppendsPrefix (S.held sink.old) (S.held sink.new) (answer_line form self.old (Some (seen line.entry))).0) }
         ensures failures { S.failures sink.new ≡ S.failures sink.old + failed_writes result }
     {
         match line {
-            Line::Kept(bytes) => self.answer_bytes(bytes, sink),
-            Line::TooLong => self.write_fault(&Fault::TooLong, sink),
+            Line::Kept(bytes) => self.answer_bytes(bytes, form, sink),
+            Line::TooLong => tell_fault(self.alloc, &Fault::TooLong, form, sink),
         }
     }
 }

@@ -1,7 +1,6 @@
 //! The loop that reads a script and answers its lines.
-ghost use Rattle.std.specs.Prelude.{◌≡◌, [], ◌++◌, ◌+◌, ◌-◌, ◌^◌, ◌<◌, length, Some, OnOk, OnErr, IfOk, IfErr};
+ghost use Rattle.std.specs.Prelude.{◌≡◌, [], ◌∷◌, ◌++◌, ◌+◌, ◌-◌, ◌^◌, ◌<◌, ◌≤◌, length, Some, OnOk, OnErr, IfOk, IfErr};
 ghost use Rattle.std.specs.Option.{option_map};
-ghost use Rattle.std.specs.List.{cons_option};
 ghost use Rattle.text_io.specs.Sink.{Advances, StopsShort};
 ghost use Rattle.stage_graph.specs.Walk.{IsRanked};
 ghost use Rattle.script_lines.specs.Faults.{failed_writes, failed_writes_of_serve};
@@ -12,6 +11,7 @@ ghost use Rattle.serve_script.specs.Answers.{answers_from, answers_to};
 
 use crate::server::Server;
 use level_pool::Runner;
+use report_json::Format;
 use script_lines::{AnswerFault, Line, LineReader, ServeFault};
 use stage_graph::Graph;
 use std::alloc::{AllocError, Global};
@@ -35,20 +35,21 @@ pub fn serve<K: StateRepresentation, W: Runner, R: Source, S: Sink>(
     source: &mut R,
     sink: &mut S,
     graph: Graph<K>,
+    format: Format,
 ) -> Result<(), ServeFault>
     requires ranked { IsRanked graph.places }
     requires reads { R.failures source.old < 2 ^ 64 - 1 }
     requires writes { S.failures sink.old < 2 ^ 64 - 1 }
-    ensures ok { OnOk result (ServesAll (2 ^ 30) (answers_to graph) (R.remaining source.old) (R.remaining source.new)
+    ensures ok { OnOk result (ServesAll (2 ^ 30) (answers_to format graph) (R.remaining source.old) (R.remaining source.new)
         (R.failures source.old) (R.failures source.new) (S.held sink.old) (S.held sink.new)) }
-    ensures err { IfErr result (ServesPart (2 ^ 30) (answers_to graph) (R.remaining source.old) (R.remaining source.new)
+    ensures err { IfErr result (ServesPart (2 ^ 30) (answers_to format graph) (R.remaining source.old) (R.remaining source.new)
         (R.failures source.old) (R.failures source.new) (S.held sink.old) (S.held sink.new)) }
     ensures failures { S.failures sink.new ≡ S.failures sink.old + failed_writes_of_serve result }
 {
     let mut server = Server::new(alloc, graph, runner)?;
     let buffer = filled_buffer(alloc, AT_ONCE)?;
     let mut lines = LineReader::new(alloc, buffer, MOST);
-    serve_lines(&mut lines, source, &mut server, sink)
+    serve_lines(&mut lines, source, &mut server, format, sink)
 }
 
 fn filled_buffer(alloc: Global, len: usize) -> Result<Vec<u8>, AllocError>
@@ -62,75 +63,85 @@ fn serve_lines<K: StateRepresentation, W: Runner, R: Source, S: Sink>(
     lines: &mut LineReader,
     source: &mut R,
     server: &mut Server<'_, K, W>,
+    format: Format,
     sink: &mut S,
 ) -> Result<(), ServeFault>
     requires begun { lines.old.line ≡ Some [] }
     requires waiting { lines.old.waiting ≡ [] }
+    requires count { lines.old.left < 2 ^ 64 - 1 }
     requires reads { R.failures source.old < 2 ^ 64 - 1 }
     requires writes { S.failures sink.old < 2 ^ 64 - 1 }
-    ensures ok { OnOk result (ServesAll lines.old.left (answers_from server.old) (R.remaining source.old) (R.remaining source.new)
+    ensures ok { OnOk result (ServesAll lines.old.left (answers_from format 1 server.old) (R.remaining source.old) (R.remaining source.new)
         (R.failures source.old) (R.failures source.new) (S.held sink.old) (S.held sink.new)) }
-    ensures err { IfErr result (ServesPart lines.old.left (answers_from server.old) (R.remaining source.old) (R.remaining source.new)
+    ensures err { IfErr result (ServesPart lines.old.left (answers_from format 1 server.old) (R.remaining source.old) (R.remaining source.new)
         (R.failures source.old) (R.failures source.new) (S.held sink.old) (S.held sink.new)) }
     ensures failures { S.failures sink.new ≡ S.failures sink.old + failed_writes_of_serve result }
 {
+    let mut number = 1;
     loop {
-        answer_waiting(lines, server, sink)?;
+        answer_waiting(lines, &mut number, server, format, sink)?;
         sink.flush()?;
         if lines.left() == 0 {
             return Err(ServeFault::Read);
         }
         if !lines.read_more(source)? {
-            answer_any(lines.line(), server, sink)?;
+            answer_any(lines.line(), number, server, format, sink)?;
             sink.flush()?;
             return Ok(());
         }
     }
 }
 
-// Answers the lines that end in the piece that was read last.
+// Answers the lines that end in what waits; `number` is that of the line that is begun.
 fn answer_waiting<K: StateRepresentation, W: Runner, S: Sink>(
     lines: &mut LineReader,
+    number: &mut u64,
     server: &mut Server<'_, K, W>,
+    format: Format,
     sink: &mut S,
 ) -> Result<(), AnswerFault>
-    requires { S.failures sink.old < 2 ^ 64 - 1 }
+    requires room { S.failures sink.old < 2 ^ 64 - 1 }
+    requires count { number.old + length lines.old.waiting < 2 ^ 64 }
+    ensures count { OnOk result (number.new ≤ number.old + length lines.old.waiting) }
     ensures begun { OnOk result (IsBegun lines.new.line) }
     ensures waiting { OnOk result (lines.new.waiting ≡ []) }
     ensures left { lines.new.left ≡ lines.old.left }
     ensures ok { OnOk result (Advances
-        (λ bytes. answers_from server.old (comes_after lines.old.line (lines.old.waiting ++ bytes)))
-        (λ bytes. answers_from server.new (comes_after lines.new.line (lines.new.waiting ++ bytes)))
+        (λ bytes. answers_from format number.old server.old (comes_after lines.old.line (lines.old.waiting ++ bytes)))
+        (λ bytes. answers_from format number.new server.new (comes_after lines.new.line (lines.new.waiting ++ bytes)))
         (S.held sink.old) (S.held sink.new)) }
     ensures err { OnErr result (StopsShort
-        (λ bytes. answers_from server.old (comes_after lines.old.line (lines.old.waiting ++ bytes)))
+        (λ bytes. answers_from format number.old server.old (comes_after lines.old.line (lines.old.waiting ++ bytes)))
         (S.held sink.old) (S.held sink.new)) }
     ensures failures { S.failures sink.new ≡ S.failures sink.old + failed_writes result }
 {
     while lines.take_line()? {
-        answer_any(lines.line(), server, sink)?;
+        answer_any(lines.line(), *number, server, format, sink)?;
+        *number += 1;
         lines.clear();
     }
     Ok(())
 }
 
-// Answers the line, if there is one.
+// Answers the line of this number, if it is no blank one.
 fn answer_any<K: StateRepresentation, W: Runner, S: Sink>(
     line: Option<Line<'_>>,
+    number: u64,
     server: &mut Server<'_, K, W>,
+    format: Format,
     sink: &mut S,
 ) -> Result<(), AnswerFault>
     requires { S.failures sink.old < 2 ^ 64 - 1 }
     ensures ok { OnOk result (Advances
-        (λ lines. answers_from server.old (cons_option (option_map seen line.entry) lines))
-        (answers_from server.new) (S.held sink.old) (S.held sink.new)) }
+        (λ lines. answers_from format number server.old (option_map seen line.entry ∷ lines))
+        (answers_from format (number + 1) server.new) (S.held sink.old) (S.held sink.new)) }
     ensures err { OnErr result (StopsShort
-        (λ lines. answers_from server.old (cons_option (option_map seen line.entry) lines))
+        (λ lines. answers_from format number server.old (option_map seen line.entry ∷ lines))
         (S.held sink.old) (S.held sink.new)) }
     ensures failures { S.failures sink.new ≡ S.failures sink.old + failed_writes result }
 {
     match line {
-        Some(line) => server.answer(line, sink),
+        Some(line) => server.answer(line, format.form(Some(number)), sink),
         None => Ok(()),
     }
 }

@@ -24,11 +24,11 @@ ended_by-ended-requires-clause-new g c κs within = fresh_new c.in_ok-desk.clien
 
 pub returns-clause-ok : goal.returns-clause-ok
 returns-clause-ok g c =
-    comes_out g.R.Source.remaining g.R.Source.failures (λ ended. ended.clients.items) (λ ended. ended.texts.items) (λ output. output.items)
+    comes_out c.args.format g.R.Source.remaining g.R.Source.failures (λ ended. ended.clients.items) (λ ended. ended.texts.items) (λ output. output.items)
     c.ended_by-ended.result c.output_of.result c.args.graph _ _ c.in_ok-desk.clients.items c.args.scripts.items g.N.Naming.opening
     c.ended_by-ended.ensures.ok c.output_of.ensures.ok
     (let new = c.in_ok-desk.ensures.0 in let fits = c.args.scripts.ok.0 in omega (arith, new, fits))
     c.in_ok-desk.ensures c.requires.opening
 
 pub returns-clause-err : goal.returns-clause-err
-returns-clause-err g c = comes_to_fault g.R.Source.remaining g.R.Source.failures c.ended_by-ended.result c.output_of.result c.args.scripts.items c.ended_by-ended.ensures.err c.output_of.ensures.err
+returns-clause-err g c = comes_to_fault c.args.format g.R.Source.remaining g.R.Source.failures c.ended_by-ended.result c.output_of.result c.args.scripts.items c.ended_by-ended.ensures.err c.output_of.ensures.err

@@ -14,6 +14,6 @@ returns g c =
     (λ i d within.
     let at = (c.for_each_mut.ensures i d within).1 in
     let after = slice_index_or c.for_each_mut.new.s i d in
-    subst (λ before. MatchResult after.text (λ text. IsPlay g.R.Source.remaining g.R.Source.failures before.client before.source after.client text.items) (EndsReading g.R.Source.remaining g.R.Source.failures before.source))
+    subst (λ before. MatchResult after.text (λ text. IsPlay before.format g.R.Source.remaining g.R.Source.failures before.client before.source after.client text.items) (EndsReading g.R.Source.remaining g.R.Source.failures before.source))
     at.argument_is
-    (subst (λ done. MatchResult done.text (λ text. IsPlay g.R.Source.remaining g.R.Source.failures at.argument.now.client at.argument.now.source done.client text.items) (EndsReading g.R.Source.remaining g.R.Source.failures at.argument.now.source)) at.left at.call))
+    (subst (λ done. MatchResult done.text (λ text. IsPlay at.argument.now.format g.R.Source.remaining g.R.Source.failures at.argument.now.client at.argument.now.source done.client text.items) (EndsReading g.R.Source.remaining g.R.Source.failures at.argument.now.source)) at.left at.call))

@@ -8,3 +8,4 @@ invariant-loop-client g l =
     × (l.initial.sources.rest.items ≡ map (λ seat. seat.source) l.seats.items ++ l.sources.rest.items)
     × (length l.sources.rest.items ≡ length l.client-iterator.rest.items)
     × (vec_len l.seats + length l.client-iterator.rest.items ≤ vec_capacity l.seats)
+    × (map (λ seat. seat.format) l.seats.items ≡ map (λ client. l.format) l.yielded)

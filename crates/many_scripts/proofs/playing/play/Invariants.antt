@@ -4,7 +4,7 @@ use Rattle.many_scripts.proofs.playing.play.Given as goal
 
 abbrev pub invariant-loop-client : goal.invariant-loop-client
 invariant-loop-client g l =
-    PlaysOn l.fn.reader.left l.fn.client l.client l.reader (g.R.Source.remaining l.fn.source) (g.R.Source.remaining l.source) (g.S.Sink.held l.fn.sink) (g.S.Sink.held l.sink)
+    PlaysOn l.fn.format l.fn.reader.left l.number l.fn.client l.client l.reader (g.R.Source.remaining l.fn.source) (g.R.Source.remaining l.source) (g.S.Sink.held l.fn.sink) (g.S.Sink.held l.sink)
     × (g.R.Source.failures l.source ≡ g.R.Source.failures l.fn.source)
     × (g.S.Sink.failures l.sink ≡ g.S.Sink.failures l.fn.sink)
 

@@ -9,11 +9,11 @@ pub returns-in-Ok-clause-err : goal.returns-in-Ok-clause-err
 returns-in-Ok-clause-err g c =
     let versions = c.args.table.now.state.versions in
     part_of _ _ _ _ _
-    (ap (λ found. report_of found (option_and_then (slice_get versions) (against_in c.args.asked.now)) c.args.asked.now) c.in-Ok.ensures.1
-    ∙ ap (λ against. report_asked c.in-Ok.version.now against c.args.asked.now) (sym c.against_of-against.ensures))
+    (ap (λ found. report_of c.args.form found (option_and_then (slice_get versions) (against_in c.args.asked.now)) c.args.asked.now) c.in-Ok.ensures.1
+    ∙ ap (λ against. report_asked c.args.form c.in-Ok.version.now against c.args.asked.now) (sym c.against_of-against.ensures))
     c.write_asked.ensures.err
 
 pub returns-in-Err-clause-err : goal.returns-in-Err-clause-err
 returns-in-Err-clause-err g c =
     let versions = c.args.table.now.state.versions in
-    part_of _ _ _ _ _ (ap (λ found. report_of found (option_and_then (slice_get versions) (against_in c.args.asked.now)) c.args.asked.now) c.in-Err.ensures.1) c.write_text.ensures.err
+    part_of _ _ _ _ _ (ap (λ found. report_of c.args.form found (option_and_then (slice_get versions) (against_in c.args.asked.now)) c.args.asked.now) c.in-Err.ensures.1) c.tell_no_version.ensures.err

@@ -1,23 +1,25 @@
-use Rattle.std.proofs.Common.{◌≡◌, ℕ, ◌+◌, List, length}
+use Rattle.std.proofs.Common.{◌≡◌, ℕ, ◌+◌, ◌≤◌, List, length}
 use Rattle.std.specs.Io.KnownBytes.{Consumes}
 use Rattle.text_io.specs.Sink.{Advances}
 use Rattle.script_lines.proofs.Steps.{to_all, to_rest}
 use Rattle.serve_script.specs.Answers.{answers_from}
 use Rattle.serve_script.proofs.serving.serve_lines.Given as goal
 
-pub record Serving (Consumed Counted Answered Reads Writes : Type 0) : Type 0 where
+pub record Serving (Consumed Counted Numbered Answered Reads Writes : Type 0) : Type 0 where
   pub consumed : Consumed
   pub counted : Counted
+  pub numbered : Numbered
   pub answered : Answered
   pub reads : Reads
   pub writes : Writes
 
--- the answers to the lines that were read are written, except for what the reader holds
+-- what the lines that were read ask for is written, but for what the reader holds; there are no more of them than bytes
 abbrev pub invariant-loop-sink : goal.invariant-loop-sink
 invariant-loop-sink g l = (read : List ℕ) × Serving
     (Consumes (g.R.Source.remaining l.fn.source) (g.R.Source.remaining l.source) read)
     (length read + l.lines.left ≡ l.fn.lines.left)
-    (Advances (to_all (answers_from l.fn.server) read) (to_rest (answers_from l.server) l.lines) (g.S.Sink.held l.fn.sink) (g.S.Sink.held l.sink))
+    (l.number + length l.lines.waiting + l.lines.left ≤ l.fn.lines.left + 1)
+    (Advances (to_all (answers_from l.fn.format 1 l.fn.server) read) (to_rest (answers_from l.fn.format l.number l.server) l.lines) (g.S.Sink.held l.fn.sink) (g.S.Sink.held l.sink))
     (g.R.Source.failures l.source ≡ g.R.Source.failures l.fn.source)
     (g.S.Sink.failures l.sink ≡ g.S.Sink.failures l.fn.sink)
 

@@ -1,5 +1,5 @@
-use Rattle.std.proofs.Common.{◌++◌, sym, ap, ◌∙◌, subst, ◌<◌, length}
-use Rattle.std.specs.List.{cons_option, slice_range}
+use Rattle.std.proofs.Common.{◌∷◌, ◌++◌, sym, ap, ◌∙◌, subst, ◌<◌, length}
+use Rattle.std.specs.List.{slice_range}
 use Rattle.script_lines.specs.Lines.{line_begun, lines_of}
 use Rattle.script_lines.proofs.LineLemmas.{comes_after-line}
 use Rattle.script_lines.proofs.LineReading.{slice_range-past}
@@ -12,6 +12,6 @@ returns-in_ok-extend-in-Some-clause-takes c =
     let past = slice_range-past reader.buffer.items reader.taken reader.filled c.in-Some.line.now c.in-Some._after.now c.self.invariant.ascending c.self.invariant.within parts in
     rw (← c.self.view_is) (
       (λ bytes. comes_after-line reader.line c.extend.new.self c.in-Some.line.now c.in-Some._after.now bytes _ c.in_ok-extend-in-Some.ensures.more c.in_ok-extend-in-Some.ensures.begun parts
-          ∙ ap (λ rest. cons_option (line_begun c.extend.new.self) (lines_of (rest ++ bytes))) (sym past.0)),
+          ∙ ap (λ rest. line_begun c.extend.new.self ∷ lines_of (rest ++ bytes)) (sym past.0)),
       subst (λ rest. length rest < length (slice_range reader.buffer.items reader.taken reader.filled)) (sym past.0) past.2,
     )

@@ -1,4 +1,4 @@
-use Rattle.std.proofs.Common.{arith, ◌<◌, ◌+◌, length}
+use Rattle.std.proofs.Common.{arith}
 use Rattle.script_lines.proofs.LineLemmas.{becomes_too_long, stays_too_long}
 use Rattle.script_lines.proofs.partial_line.PartialLine.extend.Goals as goal
 

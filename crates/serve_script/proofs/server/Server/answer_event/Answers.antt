@@ -9,4 +9,4 @@ returns-in_err-reply-clause-err g c = on_err _ (AppendsPrefix-none _ _)
 
 pub returns-clause-err : goal.returns-clause-err
 returns-clause-err g c =
-    part_of _ _ _ _ _ (ap (λ a. a.0) (event_told c.args.self.now c.take.new.self c.args.event c.args.listed c.in_ok-reply.reply c.in_ok-reply.ensures)) c.write_reply.ensures.err
+    part_of _ _ _ _ _ (ap (λ a. a.0) (event_told c.args.form c.args.self.now c.take.new.self c.args.event c.args.listed c.in_ok-reply.reply c.in_ok-reply.ensures)) c.write_reply.ensures.err

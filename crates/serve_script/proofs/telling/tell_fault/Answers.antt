@@ -1,0 +1,28 @@
+use Rattle.std.proofs.Common.{ap, sym, ◌∙◌}
+use Rattle.text_io.proofs.Written.{AppendsPrefix-none}
+use Rattle.script_lines.proofs.Steps.{on_err}
+use Rattle.report_json.specs.Json.{answer_text}
+use Rattle.serve_script.specs.Told.{fault_told}
+use Rattle.serve_script.proofs.Answering.{part_of}
+use Rattle.serve_script.proofs.Told.{fault_reads_back}
+use Rattle.serve_script.proofs.telling.tell_fault.Goals as goal
+
+pub write_value-requires-clause-exact : goal.write_value-requires-clause-exact
+write_value-requires-clause-exact g c = (fault_reads_back _ c.args.fault.now c.in_ok-answer-in-Json.ensures).0
+
+pub write_value-requires-clause-shallow : goal.write_value-requires-clause-shallow
+write_value-requires-clause-shallow g c = (fault_reads_back _ c.args.fault.now c.in_ok-answer-in-Json.ensures).1
+
+pub returns-in_err-line-in-Text-clause-err : goal.returns-in_err-line-in-Text-clause-err
+returns-in_err-line-in-Text-clause-err g c = on_err _ (AppendsPrefix-none _ _)
+
+pub returns-in_ok-line-in-Text-clause-err : goal.returns-in_ok-line-in-Text-clause-err
+returns-in_ok-line-in-Text-clause-err g c =
+    part_of _ _ _ _ _ (ap (λ form. fault_told form c.args.fault.now) c.in-Text.is ∙ sym (c.as_bytes.ensures.value ∙ c.in_ok-line-in-Text.ensures)) c.write_text.ensures.err
+
+pub returns-in_err-answer-in-Json-clause-err : goal.returns-in_err-answer-in-Json-clause-err
+returns-in_err-answer-in-Json-clause-err g c = on_err _ (AppendsPrefix-none _ _)
+
+pub returns-in_ok-answer-in-Json-clause-err : goal.returns-in_ok-answer-in-Json-clause-err
+returns-in_ok-answer-in-Json-clause-err g c =
+    part_of _ _ _ _ _ (ap (λ form. fault_told form c.args.fault.now) c.in-Json.is ∙ ap (answer_text c.in-Json.line) (sym c.in_ok-answer-in-Json.ensures)) c.write_value.ensures.err
