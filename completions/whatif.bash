@@ -32,19 +32,24 @@ _whatif_words() {
       --workers) echo {1..16} ;;
       --unit) echo us ns ms ;;
       --what) echo all path ;;
-      --format) echo svg trace ;;
+      --format)
+        case $command in
+          draw) echo svg trace ;;
+          *) echo text json ;;
+        esac
+        ;;
       *) echo - ;;
     esac
   elif [[ -z $closed && $typed == -?* || -z $closed && $typed == - ]]; then
     case $command in
       '') echo -h --help -V --version ;;
-      sweep) echo --top --quiet --strict -h --help ;;
+      sweep) echo --top --quiet --strict --format -h --help ;;
       draw) echo --stage --what --format --quiet --strict -h --help ;;
-      many) echo --workers --quiet --strict -h --help ;;
+      many) echo --workers --quiet --strict --format -h --help ;;
       check) echo --strict -h --help ;;
       import) echo --trace --unit --quiet -h --help ;;
       help) echo - ;;
-      *) echo --quiet --strict -h --help ;;
+      *) echo --quiet --strict --format -h --help ;;
     esac
   elif [ -z "$command" ]; then
     echo report explain sweep draw check serve many import help

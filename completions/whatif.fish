@@ -52,6 +52,7 @@ complete -c whatif -n "__fish_seen_subcommand_from report explain sweep draw che
 complete -c whatif -n "__fish_seen_subcommand_from draw" -l stage -x -d 'Draw the path of this stage'
 complete -c whatif -n "__fish_seen_subcommand_from draw" -l what -x -a 'all path' -d 'Which stages have a row'
 complete -c whatif -n "__fish_seen_subcommand_from draw" -l format -x -a 'svg trace' -d 'An SVG file, or trace events'
+complete -c whatif -n "__fish_seen_subcommand_from report explain sweep serve many" -l format -x -a 'text json' -d 'Text for people, or JSON for programs'
 complete -c whatif -n "__fish_seen_subcommand_from many" -F
 complete -c whatif -n "__fish_seen_subcommand_from many" -l workers -x -a '(seq 16)' -d 'How many threads compute for each script'
 complete -c whatif -n "__fish_seen_subcommand_from import" -l trace -x -d 'Which trace, where the file has several'

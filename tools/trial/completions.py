@@ -55,7 +55,7 @@ def in_bash(top, program, folder):
 def in_zsh(top):
     page = read(top, "completions/_whatif")
     # (the options that stand under a name of their own)
-    named = {it: {*re.findall(r"['\)](--?[\w-]+)", re.search(rf"(?m)^ +{it}=\((.*)\)$|[ ;]{it}=\((.*)\)$", page)[0])} for it in ("help", "version", "quiet", "strict")}
+    named = {it: {*re.findall(r"['\)](--?[\w-]+)", re.search(rf"(?m)^ +{it}=\((.*)\)$|[ ;]{it}=\((.*)\)$", page)[0])} for it in ("help", "version", "quiet", "strict", "format")}
     commands = re.findall(r"(?m)^    '(\w+):", page)
     arguments = {it: re.search(rf"(?m)^    {it}\) (.*)$", page) for it in commands}
     told = {it: found[1] if found else "" for it, found in {**arguments, "": re.search(r"_arguments -C (.*)", page)}.items()}

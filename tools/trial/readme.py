@@ -43,8 +43,8 @@ def shown_case(top, page, command, blocks):
     paths = [it for it in words if it.startswith("examples/")]
     how = {"files": {os.path.basename(it): read(top, it) for it in paths}}
     rows = "".join(blocks).splitlines(keepends=True)
-    steps = [it for it in rows if it.startswith("{")]
-    out = "".join(it for it in rows if not it.startswith("{"))
+    steps = [it for it in rows if it.startswith("{") and "json" not in words]
+    out = "".join(it for it in rows if it not in steps)
     if subcommand == "serve" and steps:
         how["stdin"] = "".join(steps)
     elif script:
@@ -84,7 +84,7 @@ def told_apart(top):
         gone = missing(top, command)
         if gone:
             yield f"README: the examples of {words.strip()} are there", f"these are not: {', '.join(gone)}", set()
-        elif script:
+        elif script and "json" not in words.split():
             steps = read(top, script).splitlines()
             strange = [it for it in "".join(blocks).splitlines() if it.startswith("{") and it not in steps]
             yield f"README: its steps are those of {script}", f"these are not: {strange}" if strange else "", set()

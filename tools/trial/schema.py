@@ -47,7 +47,7 @@ ASSERTIONS = {
 }
 LISTS = {"allOf", "anyOf", "oneOf", "prefixItems"}
 NAMED = {"properties", "$defs"}
-SINGLE = {"not", "if", "then", "else", "items"}
+SINGLE = {"not", "if", "then", "else", "items", "additionalProperties"}
 
 
 def parts(schema):
@@ -114,6 +114,8 @@ class Schemas:
             return ((it, value, where) for it in said)
         if word == "properties" and isinstance(value, dict):
             return ((said[it], value[it], f"{where}.{it}") for it in said if it in value)
+        if word == "additionalProperties" and isinstance(value, dict):
+            return ((said, value[it], f"{where}.{it}") for it in value if it not in schema.get("properties", {}))
         if word == "prefixItems" and isinstance(value, list):
             return ((it, part, f"{where}[{at}]") for at, (it, part) in enumerate(zip(said, value)))
         if word == "items" and isinstance(value, list):

@@ -171,7 +171,7 @@ def words(top, schemas):
 def shown(top, schemas):
     """The stages that docs/FORMATS.md shows."""
     page = read(os.path.join(top, "docs", "FORMATS.md"))
-    for text in re.findall(r'`(\{"name":.*?\})`', page):
+    for text in re.findall(r'`(\{"name":".*?\})`', page):
         yield f"docs/FORMATS.md: {text[:60]}", schemas.fault(schemas.at("recording.schema.json#/$defs/stageOfForm1"), json.loads(text))
 
 

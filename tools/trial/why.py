@@ -59,13 +59,15 @@ Arguments:
   [FILE]  the recording; standard input where it is left out, or -
 
 Options:
-      --quiet   leave explanations and warnings out
-      --strict  end with status 1 where there is a warning
-  -h, --help    Print help
+      --quiet            leave explanations and warnings out
+      --strict           end with status 1 where there is a warning
+      --format <FORMAT>  text for people, or json for programs: a line for each answer, which is one object [default: text] [possible values: text, json]
+  -h, --help             Print help
 
 Examples:
   whatif report examples/first-run.json
   whatif report --strict - < examples/first-run.json
+  whatif report --format json examples/first-run.json
 
 The lines: docs/FORMATS.md, Reports.
 """)
@@ -79,9 +81,10 @@ Arguments:
   <STAGE>  the stage
 
 Options:
-      --quiet   leave explanations and warnings out
-      --strict  end with status 1 where there is a warning
-  -h, --help    Print help
+      --quiet            leave explanations and warnings out
+      --strict           end with status 1 where there is a warning
+      --format <FORMAT>  text for people, or json for programs: a line for each answer, which is one object [default: text] [possible values: text, json]
+  -h, --help             Print help
 
 Examples:
   whatif explain examples/late-reply.json reply
@@ -99,10 +102,11 @@ Arguments:
   <STAGE>  the stage
 
 Options:
-      --top <N>  print the first N stages alone
-      --quiet    leave explanations and warnings out
-      --strict   end with status 1 where there is a warning
-  -h, --help     Print help
+      --top <N>          print the first N stages alone
+      --quiet            leave explanations and warnings out
+      --strict           end with status 1 where there is a warning
+      --format <FORMAT>  text for people, or json for programs: a line for each answer, which is one object [default: text] [possible values: text, json]
+  -h, --help             Print help
 
 Examples:
   whatif sweep examples/late-reply.json reply

@@ -12,7 +12,10 @@ pub const MOST_WORKERS: usize = 16;
 static UNITS: [&str; 3] = ["us", "ns", "ms"];
 
 /// What a picture is written as.
-static FORMS: [&str; 2] = ["svg", "trace"];
+static PICTURES: [&str; 2] = ["svg", "trace"];
+
+/// What an answer is written as.
+static FORMS: [&str; 2] = ["text", "json"];
 
 /// Which stages have a row in a picture.
 static SCOPES: [&str; 2] = ["all", "path"];
@@ -74,6 +77,16 @@ fn strict<'a>(alloc: Global) -> Arg<'a> {
         .help("end with status 1 where there is a warning")
 }
 
+/// The word by which answers are lines of text, or JSON.
+fn form<'a>(alloc: Global) -> Arg<'a> {
+    Arg::new(alloc, "format")
+        .long("format")
+        .value_name("FORMAT")
+        .help("text for people, or json for programs: a line for each answer, which is one object")
+        .value_parser(&FORMS[..])
+        .default_value("text")
+}
+
 /// The words of `report`.
 fn report_command<'a>(alloc: Global) -> Result<Command<'a>, AllocError> {
     let file = Arg::new(alloc, "FILE").help(
@@ -82,9 +95,11 @@ fn report_command<'a>(alloc: Global) -> Result<Command<'a>, AllocError> {
     let report = Command::new(alloc, "report")
         .about("Prints each stage of a recording: its rank, its state and its moment")
         .after_help(
-            "Examples:\n  whatif report examples/first-run.json\n  whatif report --strict - < examples/first-run.json\n\nThe lines: docs/FORMATS.md, Reports.",
+            "Examples:\n  whatif report examples/first-run.json\n  whatif report --strict - < examples/first-run.json\n  whatif report --format json examples/first-run.json\n\nThe lines: docs/FORMATS.md, Reports.",
         );
-    told_less_or_more(alloc, report)?.arg(file)
+    told_less_or_more(alloc, report)?
+        .arg(form(alloc))?
+        .arg(file)
 }
 
 /// The words of `explain`.
@@ -100,7 +115,10 @@ fn explain_command<'a>(alloc: Global) -> Result<Command<'a>, AllocError> {
         .after_help(
             "Examples:\n  whatif explain examples/late-reply.json reply\n  whatif explain --quiet - reply < examples/late-reply.json\n\nThe lines: docs/FORMATS.md, Reports.",
         );
-    told_less_or_more(alloc, explain)?.arg(file)?.arg(stage)
+    told_less_or_more(alloc, explain)?
+        .arg(form(alloc))?
+        .arg(file)?
+        .arg(stage)
 }
 
 /// The words of `sweep`.
@@ -120,7 +138,10 @@ fn sweep_command<'a>(alloc: Global) -> Result<Command<'a>, AllocError> {
             "Examples:\n  whatif sweep examples/late-reply.json reply\n  whatif sweep --top 3 examples/late-reply.json reply\n\nThe lines: docs/FORMATS.md, Reports.",
         )
         .arg(most)?;
-    told_less_or_more(alloc, sweep)?.arg(file)?.arg(stage)
+    told_less_or_more(alloc, sweep)?
+        .arg(form(alloc))?
+        .arg(file)?
+        .arg(stage)
 }
 
 /// The words of `draw`.
@@ -140,7 +161,7 @@ fn draw_command<'a>(alloc: Global) -> Result<Command<'a>, AllocError> {
         .long("format")
         .value_name("FORMAT")
         .help("an SVG file, or trace events as JSON, which Perfetto and chrome://tracing open")
-        .value_parser(&FORMS[..])
+        .value_parser(&PICTURES[..])
         .default_value("svg");
     let file = Arg::new(alloc, "FILE").help(
         "the recording; standard input where it is left out, or -",
@@ -188,10 +209,11 @@ fn serve_command<'a>(alloc: Global) -> Result<Command<'a>, AllocError> {
     Command::new(alloc, "serve")
         .about("Answers the steps that come on standard input, one to a line, about a recording")
         .after_help(
-            "Examples:\n  whatif serve examples/late-reply.json < examples/late-reply.script\n  whatif serve --strict examples/late-reply.json < examples/late-reply-why.script\n\nThe steps and their answers: docs/FORMATS.md, Scripts.",
+            "Examples:\n  whatif serve examples/late-reply.json < examples/late-reply.script\n  whatif serve --strict examples/late-reply.json < examples/late-reply-why.script\n  whatif serve --format json examples/late-reply.json < examples/late-reply.script\n\nThe steps and their answers: docs/FORMATS.md, Scripts.",
         )
         .arg(quiet)?
         .arg(strict)?
+        .arg(form(alloc))?
         .arg(file)
 }
 
@@ -214,7 +236,10 @@ fn many_command<'a>(alloc: Global) -> Result<Command<'a>, AllocError> {
             "Examples:\n  whatif many examples/late-reply.json examples/late-reply.script examples/late-reply-why.script\n  whatif many --workers 4 examples/late-reply.json examples/late-reply.script\n\nThe steps and their answers: docs/FORMATS.md, Scripts and The program.",
         )
         .arg(workers)?;
-    told_less_or_more(alloc, many)?.arg(file)?.arg(scripts)
+    told_less_or_more(alloc, many)?
+        .arg(form(alloc))?
+        .arg(file)?
+        .arg(scripts)
 }
 
 /// The words of `import`.

@@ -16,6 +16,16 @@ const MOST_KEPT: usize = 256;
 /// How much of a line is kept: more than a step may have.
 const LONGEST_LINE: usize = 65_600;
 
+/// Whether an answer is a refusal, as text or as JSON.
+fn is_refusal(answer: &[u8]) -> bool {
+    match answer {
+        [b'{', ..] => {
+            str::from_utf8(answer).is_ok_and(|text| text.contains("\"reply\":\"refused\""))
+        }
+        _ => answer.starts_with(b"refused "),
+    }
+}
+
 /// What the source and the sink know of each other.
 #[derive(Drop)]
 pub struct Watch {
@@ -55,7 +65,7 @@ impl Watch {
     /// Whether what was answered is a refusal.
     fn is_refused(&self) -> bool {
         let answer = self.answer.replace(Vec::new(self.alloc));
-        let is_refused = answer.as_slice().starts_with(b"refused ");
+        let is_refused = is_refusal(answer.as_slice());
         self.answer.set(answer);
         is_refused
     }

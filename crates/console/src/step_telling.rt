@@ -1,4 +1,5 @@
 //! What is told of the steps of a script, by line.
+use crate::json_refusal::text_of_refusal;
 use crate::voice::Voice;
 use diagnosis::{
     Findings, KnownStages, Refusal, examine_step, explain_step, json_fault, may_step_be_unread,
@@ -62,10 +63,12 @@ impl<'a> StepTeller<'a> {
 
     /// Tells of a line and of what it was answered.
     pub fn tell(&mut self, number: u64, line: &[u8], answer: &[u8]) {
-        let refusal = match first_line(answer) {
-            Some(first) => Refusal::of_answer(first),
-            None => None,
+        let first = first_line(answer).unwrap_or("");
+        let read = match first.as_bytes() {
+            [b'{', ..] => text_of_refusal(self.alloc, first),
+            _ => None,
         };
+        let refusal = Refusal::of_answer(read.as_deref().unwrap_or(first));
         // (a line that is skipped has no answer, and nothing is told where memory is out)
         let may_be_told = !answer.is_empty() && !self.voice.is_quiet() && self.told < MOST_TOLD;
         if may_be_told && (refusal.is_some() || may_step_be_unread(line)) {

@@ -4,6 +4,7 @@ ghost use Rattle.stage_graph.specs.Walk.{IsRanked};
 ghost use Rattle.text_io.specs.Counted.{read_failures};
 
 use crate::fault::ended;
+use crate::format::format_of;
 use clap::ArgMatches;
 use command_line::{MOST_SCRIPTS, MOST_WORKERS};
 use console::{Fault, Voice, file, graph, warn, with_reason};
@@ -68,6 +69,14 @@ pub(crate) fn run_many<'a, H: Threads + Wait + Copy + Drop + Send + Sync>(
     let scripts = opened(rt, voice, paths)?;
     let reason = Cell::new(None);
     let mut sink = console::output(rt, &reason)?;
-    let end = many(threads, rt.alloc(), scripts, &mut sink, graph, workers);
+    let end = many(
+        threads,
+        rt.alloc(),
+        scripts,
+        &mut sink,
+        graph,
+        workers,
+        format_of(matches),
+    );
     with_reason(voice, &reason, ended(end))
 }

@@ -6,6 +6,7 @@ ghost use Rattle.stage_graph.specs.Walk.{IsRanked};
 
 mod at_once;
 mod fault;
+mod format;
 
 use at_once::run_many;
 use clap::ArgMatches;
@@ -16,9 +17,11 @@ use console::{
     warn, why_no_stage, with_explanation, with_reason,
 };
 use fault::{reported, served};
+use format::{format_of, print_refusal};
 use level_pool::{OneThread, Pooled, Runner};
-use recording_pictures::{Asked, Form, draw_recording, scope_named};
+use recording_pictures::{Asked, Form as PictureForm, draw_recording, scope_named};
 use recording_reports::{StageReport, report_all, report_stage};
+use report_json::Format;
 use serve_script::serve;
 use stage_graph::{Graph, InShared};
 use std::alloc::Global;
@@ -34,19 +37,20 @@ use trace_import::{Options, Unit, import};
 const AT_ONCE: usize = 65_536;
 
 fn main(rt: HostRuntime) -> ExitCode {
-    match run(&rt, rt, &OneThread::new(&rt)) {
+    let format = Cell::new(Format::Text);
+    match run(&rt, rt, &OneThread::new(&rt), &format) {
         Ok(code) => code,
-        Err(fault) => refuse(&rt, &fault),
+        Err(fault) => refuse(&rt, format.get(), &fault),
     }
 }
 
 /// Prints why the program ends early, but for a fault of writing and for what was told already, and tells people of it;
 /// the answer is its exit status.
-fn refuse(rt: &HostRuntime, fault: &Fault) -> ExitCode {
+fn refuse(rt: &HostRuntime, format: Format, fault: &Fault) -> ExitCode {
     let printed = match fault {
         Fault::Write(_) | Fault::Strict | Fault::Step => Ok(()),
         Fault::CommandLine => rt.eprintln(format_args!("{fault}")),
-        _ => rt.println(format_args!("{fault}")),
+        _ => print_refusal(rt, format, fault),
     };
     if let Some(why) = fault.why() {
         let _ = rt.eprintln(format_args!("whatif: {why}"));
@@ -61,28 +65,41 @@ fn run<H: Threads + Wait + Copy + Drop + Send + Sync, W: Runner>(
     rt: &HostRuntime,
     threads: H,
     runner: &W,
+    format: &Cell<Format>,
 ) -> Result<ExitCode, Fault> {
     let alloc = rt.alloc();
     let words = words(rt)?;
     let command = command(alloc)?;
-    let matches = match command.try_get_matches_from(words.as_slice()) {
-        Ok(matches) => matches,
-        Err(error) => return Ok(told(rt, &error)?),
+    match command.try_get_matches_from(words.as_slice()) {
+        Ok(matches) => answer(rt, threads, runner, &matches, format),
+        Err(error) => Ok(told(rt, &error)?),
+    }
+}
+
+/// Answers what the command line asks for, in the format that it asks for.
+fn answer<'a, H: Threads + Wait + Copy + Drop + Send + Sync, W: Runner>(
+    rt: &'a HostRuntime,
+    threads: H,
+    runner: &W,
+    matches: &ArgMatches<'a>,
+    format: &Cell<Format>,
+) -> Result<ExitCode, Fault> {
+    let Some((name, matches)) = matches.subcommand() else {
+        return Err(Fault::CommandLine);
     };
-    match matches.subcommand() {
-        Some(("report", matches)) => run_report(rt, matches)?,
-        Some(("explain", matches)) => {
-            run_report_stage(rt, threads, matches, StageReport::Explanation)?
-        }
-        Some(("sweep", matches)) => {
+    format.set(format_of(matches));
+    match name {
+        "report" => run_report(rt, matches)?,
+        "explain" => run_report_stage(rt, threads, matches, StageReport::Explanation)?,
+        "sweep" => {
             let most = matches.get_one::<usize>("top");
             run_report_stage(rt, threads, matches, StageReport::Sweep { most })?
         }
-        Some(("draw", matches)) => run_draw(rt, matches)?,
-        Some(("check", matches)) => return run_check(rt, matches),
-        Some(("serve", matches)) => run_serve(rt, runner, matches)?,
-        Some(("many", matches)) => run_many(rt, threads, matches)?,
-        Some(("import", matches)) => run_import(rt, matches)?,
+        "draw" => run_draw(rt, matches)?,
+        "check" => return run_check(rt, matches),
+        "serve" => run_serve(rt, runner, matches)?,
+        "many" => run_many(rt, threads, matches)?,
+        "import" => run_import(rt, matches)?,
         _ => return Err(Fault::CommandLine),
     }
     Ok(ExitCode::SUCCESS)
@@ -110,7 +127,12 @@ fn run_report<'a>(rt: &'a HostRuntime, matches: &ArgMatches<'a>) -> Result<(), F
     warn(rt.alloc(), voice, &recording)?;
     let reason = Cell::new(None);
     let mut sink = console::output(rt, &reason)?;
-    let end = report_all::<InShared, _>(rt.alloc(), &recording, &mut sink);
+    let end = report_all::<InShared, _>(
+        rt.alloc(),
+        &recording,
+        format_of(matches).form(None),
+        &mut sink,
+    );
     let end = flushed(&mut sink, reported(end));
     with_explanation(
         rt.alloc(),
@@ -141,6 +163,7 @@ fn run_report_stage<'a, H: Threads + Wait + Copy + Drop + Send + Sync>(
         name,
         asked,
         &Pooled::new(&threads),
+        format_of(matches).form(None),
         &mut sink,
     );
     let end = with_reason(voice, &reason, flushed(&mut sink, reported(end)));
@@ -166,7 +189,7 @@ fn with_name_explained(
 /// The picture that the command line asks for.
 fn asked<'a>(matches: &ArgMatches<'a>) -> Option<Asked<'a>> {
     Some(Asked {
-        form: Form::new(matches.get_str("format")?)?,
+        form: PictureForm::new(matches.get_str("format")?)?,
         scope: scope_named(matches.get_str("what")?)?,
         stage: matches.get_str("stage"),
     })
@@ -205,7 +228,7 @@ fn run_serve<'a, W: Runner>(
     match console::graph::<InShared>(rt.alloc(), voice, &recording) {
         Ok(graph) => {
             let teller = StepTeller::new(rt.alloc(), voice, recording);
-            serve_listening(rt, runner, voice, teller, graph)
+            serve_listening(rt, runner, voice, teller, graph, format_of(matches))
         }
         Err(fault) => Err(fault.before_script(rt.alloc())),
     }
@@ -218,6 +241,7 @@ fn serve_listening<W: Runner>(
     voice: Voice<'_>,
     teller: StepTeller<'_>,
     graph: Graph<InShared>,
+    format: Format,
 ) -> Result<(), Fault>
     requires { IsRanked graph.places }
 {
@@ -230,7 +254,15 @@ fn serve_listening<W: Runner>(
         sink: output,
         watch: &watch,
     };
-    let end = answered(rt.alloc(), runner, &mut source, &mut sink, &watch, graph);
+    let end = answered(
+        rt.alloc(),
+        runner,
+        &mut source,
+        &mut sink,
+        &watch,
+        graph,
+        format,
+    );
     let end = with_reason(voice, &reason, end);
     source.tell();
     if end.is_ok() && source.is_stopped() {
@@ -247,12 +279,13 @@ fn answered<W: Runner, R: Source, S: Sink>(
     sink: &mut S,
     watch: &Watch,
     graph: Graph<InShared>,
+    format: Format,
 ) -> Result<(), Fault>
     requires ranked { IsRanked graph.places }
     requires reads { R.failures source.old ≡ 0 }
     requires writes { S.failures sink.old ≡ 0 }
 {
-    let end = serve(alloc, runner, source, sink, graph);
+    let end = serve(alloc, runner, source, sink, graph, format);
     watch.ends();
     flushed(sink, served(end))
 }

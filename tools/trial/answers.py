@@ -1,0 +1,190 @@
+"""Answers as JSON: each case of an answer in text is run once more with `--format json`, and what its objects tell, put into
+the words of the text, has to be that text. Each object is held against docs/answers.schema.json too."""
+import dataclasses
+import json
+import os
+import re
+
+from .run import Case, complaint, run, shown
+from .schema import Schemas
+
+ASKED = ("report", "explain", "sweep", "serve", "many")
+
+
+def value(content):
+    return "null" if content is None else str(content)
+
+
+def outcome(content):
+    (kind, told), = content.items()
+    return f"{kind}:{value(told)}"
+
+
+def state(content):
+    """A state, or that the stage is not there."""
+    if content is None:
+        return "absent"
+    return "pending" if content["outcome"] is None else f"{outcome(content['outcome'])} at {content['moment']}"
+
+
+def names(content):
+    return "".join(f" {name}" for name in content) or " -"
+
+
+def title(told, header, count):
+    """The first line of a report that compares a version with its parent, or with another one."""
+    from_which = f"against {told['against']}" if "against" in told else f"from {value(told['parent']) if told['parent'] is not None else '-'}"
+    return f"{told['report']} of version {told['version']} {from_which} {header} {count}"
+
+
+def of_all(told):
+    parent = "-" if told["parent"] is None else told["parent"]
+    yield f"version {told['version']} parent {parent} mode {told['mode']} stages {len(told['stages'])}"
+    for stage in told["stages"]:
+        yield f"{stage['name']} {stage['op']} rank {stage['rank']} {state(stage)}"
+
+
+def joined(join):
+    if join["kind"] == "returns":
+        return f"join returns {value(join['value'])}"
+    if join["kind"] == "throws":
+        return f"join throws {join['exception']}" + (f" cause {join['cause']}" if join["cause"] is not None else "")
+    return "join waits"
+
+
+def of_one(told):
+    yield f"{told['stage']} {told['op']} rank {told['rank']} {state(told)}"
+    for feeds in ("sources", "inner", "dependents"):
+        yield feeds + names(told[feeds])
+    yield joined(told["join"])
+
+
+def of_blame(told):
+    yield "blame" + names(told["chain"])
+
+
+def because(step):
+    cause, since = step["cause"], f"{step['name']} at {step['moment']}"
+    share = f"queued {step['queued']} ran {step['ran']}"
+    match cause["kind"]:
+        case "after":
+            return f"{since} {share} after {cause['stage']}"
+        case "created":
+            return f"{since} {share} created {cause['at']}"
+        case "inner":
+            return f"{since} took over {cause['stage']}"
+        case "pinned":
+            return f"{since} pinned"
+        case "ended":
+            return f"{since} ended by {cause['by']}"
+        case "waits":
+            return f"{step['name']} waits for {cause['stage']}"
+    return f"{step['name']} open"
+
+
+def at(moment):
+    return "pending" if moment is None else f"at {moment}"
+
+
+def of_path(told):
+    yield f"path of {told['stage']} {at(told['moment'])} stages {len(told['steps'])}"
+    yield from map(because, told["steps"])
+
+
+def of_sweep(told):
+    yield f"sweep of {told['target']} {at(told['moment'])} stages {told['count']}"
+    for trial in told["trials"]:
+        yield f"{trial['stage']} sooner {trial['sooner']} -> {outcome(trial['outcome'])} at {trial['moment']}"
+
+
+def of_changes(told):
+    yield title(told, "changed" if "against" in told else "touched", len(told["stages"]))
+    for stage in told["stages"]:
+        yield f"{stage['name']} {state(stage['old'])} -> {state(stage['new'])}"
+
+
+def of_drift(told):
+    yield title(told, "moved", len(told["stages"]))
+    for stage in told["stages"]:
+        yield f"{stage['name']} " + (f"later {stage['later']}" if "later" in stage else f"earlier {stage['earlier']}")
+
+
+def of_times(told):
+    yield f"times of version {told['version']} stages {len(told['stages'])}"
+    for stage in told["stages"]:
+        start = "-" if stage["start"] is None else stage["start"]
+        yield f"{stage['name']} start {start} queued {stage['queued']} runs {stage['runs']}"
+
+
+REPORTS = {"all": of_all, "one": of_one, "blame": of_blame, "path": of_path, "sweep": of_sweep, "changes": of_changes, "drift": of_drift, "times": of_times}
+DETAILS = ("dependent", "member", "head", "version")
+
+
+def refused(told):
+    detail = "".join(f" {told[name]}" for name in DETAILS if name in told)
+    place = "".join(f" {word} {told[name]}" for name, word in (("at", "at"), ("edit", "in")) if name in told)
+    return f"refused {told['number']} {told['name']}{detail}{place}"
+
+
+def of_reply(told):
+    match told["reply"]:
+        case "opened":
+            yield f"opened {told['session']} at {told['version']}"
+        case "closed":
+            yield f"closed {told['session']}"
+        case "refused":
+            yield refused(told)
+        case other:
+            yield f"{other} {told['version']}"
+
+
+def lines_of(told):
+    """The lines of text that an object stands for."""
+    if "report" in told:
+        return REPORTS[told["report"]](told)
+    if "reply" in told:
+        return of_reply(told)
+    return [f"script {told['script']}"] if "script" in told else [f"log {told['log']}"]
+
+
+def text_of(out):
+    """The text that an output in JSON stands for, and its objects."""
+    objects = [json.loads(line) for line in out.splitlines()]
+    return "".join(f"{line}\n" for told in objects for line in lines_of(told)), objects
+
+
+def wrong_lines(objects, script):
+    """What is wrong with the numbers of the lines that the answers to a script name: each line that is not blank has one answer."""
+    wanted = [at for at, line in enumerate(script.split(b"\n"), 1) if line.strip(b"\r") or len(line) > 1]
+    found = [told.get("line") for told in objects]
+    return "" if found == wanted else f"answers name the lines {found[:20]}, wanted {wanted[:20]}"
+
+
+def is_asked(case):
+    """Whether the case is of an answer that can be had as JSON too, is quick and has one output."""
+    return case.words and case.words[0] in ASKED and case.stdout == "pipe" and isinstance(case.out, (str, bytes)) and case.out != "" and not case.nobody and case.seconds <= 10
+
+
+def wrong(program, case, schemas):
+    """What is wrong with the same case as JSON, or nothing."""
+    answer = run(program, dataclasses.replace(case, words=[case.words[0], "--format", "json", *case.words[1:]]))
+    try:
+        text, objects = text_of(answer.out)
+    except (ValueError, KeyError, TypeError) as error:
+        return f"{error!r} of {shown(answer.out)}"
+    for told in objects:
+        if said := schemas.fault(schemas.files["answers.schema.json"], told):
+            return f"{said} of {json.dumps(told)[:200]}"
+    # (with --strict a script may end at its first refused step)
+    if case.words[0] == "serve" and "--strict" not in case.words and isinstance(case.stdin, (str, bytes)) and objects and "line" in objects[0]:
+        script = case.stdin.encode() if isinstance(case.stdin, str) else case.stdin
+        if said := wrong_lines(objects, script):
+            return said
+    return complaint(case, answer._replace(out=text.encode()))
+
+
+def answers(top, program, cases):
+    """The name of each case, its complaint or nothing, and the refusals that came, which are counted elsewhere."""
+    schemas = Schemas(os.path.join(top, "docs"), ["recording.schema.json", "answers.schema.json"])
+    for case in filter(is_asked, cases):
+        yield f"as JSON: {case.name}", wrong(program, case, schemas), set()
