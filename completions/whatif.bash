@@ -48,16 +48,17 @@ _whatif_words() {
       many) echo --workers --quiet --strict --format -h --help ;;
       check) echo --strict -h --help ;;
       import) echo --trace --unit --quiet -h --help ;;
+      export) echo --quiet --strict -h --help ;;
       help) echo - ;;
       *) echo --quiet --strict --format -h --help ;;
     esac
   elif [ -z "$command" ]; then
-    echo report explain sweep draw check serve many import help
+    echo report explain sweep draw check serve export many import help
   else
     case $command:$places in
-      help:0) echo report explain sweep draw check serve many import help ;;
+      help:0) echo report explain sweep draw check serve export many import help ;;
       explain:1 | sweep:1) _whatif_stages "$1" "$file" ;;
-      report:0 | explain:0 | sweep:0 | draw:0 | check:0 | serve:0 | many:* | import:0) ;;
+      report:0 | explain:0 | sweep:0 | draw:0 | check:0 | serve:0 | export:0 | export:1 | many:* | import:0) ;;
       *) echo - ;;
     esac
   fi

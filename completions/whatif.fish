@@ -1,6 +1,6 @@
 # Completion of whatif for fish: put this file into ~/.config/fish/completions.
 
-set -l commands report explain sweep draw check serve many import help
+set -l commands report explain sweep draw check serve export many import help
 
 # The words after the command that are no options and no option's value.
 function __whatif_places
@@ -38,17 +38,19 @@ complete -c whatif -n "not __fish_seen_subcommand_from $commands" -a sweep -d 'P
 complete -c whatif -n "not __fish_seen_subcommand_from $commands" -a draw -d 'Write a picture of a recording'
 complete -c whatif -n "not __fish_seen_subcommand_from $commands" -a check -d 'Print every fault of a recording'
 complete -c whatif -n "not __fish_seen_subcommand_from $commands" -a serve -d 'Answer the steps that come on standard input'
+complete -c whatif -n "not __fish_seen_subcommand_from $commands" -a export -d 'Write the version that a script made last, as a recording'
 complete -c whatif -n "not __fish_seen_subcommand_from $commands" -a many -d 'Answer several scripts at once'
 complete -c whatif -n "not __fish_seen_subcommand_from $commands" -a import -d 'Write the recording that a trace makes'
 complete -c whatif -n "not __fish_seen_subcommand_from $commands" -a help -d 'Print help'
 complete -c whatif -n "not __fish_seen_subcommand_from help" -s h -l help -d 'Print help'
 complete -c whatif -n "not __fish_seen_subcommand_from $commands" -s V -l version -d 'Print the version'
 
-complete -c whatif -n "__fish_seen_subcommand_from report explain sweep draw check serve import; and __whatif_has_places 0" -F
+complete -c whatif -n "__fish_seen_subcommand_from report explain sweep draw check serve export import; and __whatif_has_places 0" -F
+complete -c whatif -n "__fish_seen_subcommand_from export; and __whatif_has_places 1" -F
 complete -c whatif -n "__fish_seen_subcommand_from explain sweep; and __whatif_has_places 1" -a '(__whatif_stages)'
 complete -c whatif -n "__fish_seen_subcommand_from sweep" -l top -x -d 'Print the first N stages alone'
-complete -c whatif -n "__fish_seen_subcommand_from report explain sweep draw serve many import" -l quiet -d 'Leave explanations and warnings out'
-complete -c whatif -n "__fish_seen_subcommand_from report explain sweep draw check serve many" -l strict -d 'End with status 1 where there is a warning'
+complete -c whatif -n "__fish_seen_subcommand_from report explain sweep draw serve export many import" -l quiet -d 'Leave explanations and warnings out'
+complete -c whatif -n "__fish_seen_subcommand_from report explain sweep draw check serve export many" -l strict -d 'End with status 1 where there is a warning'
 complete -c whatif -n "__fish_seen_subcommand_from draw" -l stage -x -d 'Draw the path of this stage'
 complete -c whatif -n "__fish_seen_subcommand_from draw" -l what -x -a 'all path' -d 'Which stages have a row'
 complete -c whatif -n "__fish_seen_subcommand_from draw" -l format -x -a 'svg trace' -d 'An SVG file, or trace events'

@@ -15,6 +15,11 @@ def value(content):
     return "null" if content is None else str(content)
 
 
+def as_json(content):
+    """The JSON without a space, whose members keep their order."""
+    return json.dumps(content, separators=(",", ":"), ensure_ascii=False)
+
+
 def outcome(content):
     (kind, told), = content.items()
     return f"{kind}:{value(told)}"
@@ -116,7 +121,16 @@ def of_times(told):
         yield f"{stage['name']} start {start} queued {stage['queued']} runs {stage['runs']}"
 
 
-REPORTS = {"all": of_all, "one": of_one, "blame": of_blame, "path": of_path, "sweep": of_sweep, "changes": of_changes, "drift": of_drift, "times": of_times}
+def of_recording(told):
+    made = told["recording"]
+    last = len(made["stages"]) - 1
+    yield f"recording of version {told['version']} lines {len(made['stages']) + 2}"
+    yield as_json({**made, "stages": []}).removesuffix("]}")
+    yield from (as_json(stage) + ("," if at < last else "") for at, stage in enumerate(made["stages"]))
+    yield "]}"
+
+
+REPORTS = {"all": of_all, "one": of_one, "blame": of_blame, "path": of_path, "sweep": of_sweep, "changes": of_changes, "drift": of_drift, "times": of_times, "recording": of_recording}
 DETAILS = ("dependent", "member", "head", "version")
 
 

@@ -110,7 +110,7 @@ def words_in_bash(top, program, folder):
     for typed, wanted in (
         (["sw"], ["sweep"]),
         (["check", "--s"], ["--strict"]),
-        (["help", ""], ["report", "explain", "sweep", "draw", "check", "serve", "many", "import", "help"]),
+        (["help", ""], ["report", "explain", "sweep", "draw", "check", "serve", "export", "many", "import", "help"]),
         (["explain", "r.json", ""], ["a", "b"]),
         (["sweep", "--top", "1", "r.json", "b"], ["b"]),
         (["explain", "r.json", "a", ""], []),
@@ -125,6 +125,9 @@ def words_in_bash(top, program, folder):
         (["draw", "--what", "p"], ["path"]),
         (["draw", "--stage", ""], []),
         (["report", ""], []),
+        (["ex"], ["explain", "export"]),
+        (["export", "r.json", "-"], ["--quiet", "--strict", "-h", "--help"]),
+        (["export", "r.json", ""], []),
     ):
         came = offered(top, program, folder, *typed)
         yield f"bash offers for {' '.join(typed)!r}", "" if came == wanted else f"wanted {wanted}, came {came}"

@@ -13,7 +13,7 @@ from dataclasses import dataclass, replace
 
 from .cases import FIRST_RUN, NO_READ, OPEN, R, SCRIPTS, lines, step
 from .run import first_difference, shown
-from .why import EXPLAINED_B, SWEPT_B
+from .why import EXPLAINED_B, RECORDED, RECORDED_B, SWEPT_B
 
 TRACEME, GETREGS, SETREGS, SYSCALL, SETOPTIONS = 0, 12, 13, 24, 0x4200
 OPTIONS = 1 | 8 | 16 | 0x100000  # stops at calls are told apart; threads and a new program are followed; all ends with the tracer
@@ -157,6 +157,7 @@ PIN_BARE = [
     (step("report", version=1, what="changes"), lines("changes of version 1 from 0 touched 2", "a value:4 at 10 -> bare:X at 10", "b value:5 at 15 -> wrapped:X at 10")),
     (step("report", version=1, what="drift"), lines("drift of version 1 from 0 moved 1", "b earlier 5")),
 ]
+PINNED_BARE = lines(RECORDED, '{"name":"a","op":"async","runs":10,"action":4,"pinResult":{"bare":"X"}},', RECORDED_B, "]}")
 _, STEPS, ANSWERS = SCRIPTS[2]
 ANSWERS = ANSWERS.splitlines()
 MOVED_AND_UNDONE = [*zip(STEPS[:7], map(lines, ANSWERS[:7])), (STEPS[7], lines(*ANSWERS[7:]))]
@@ -191,6 +192,11 @@ def commands():
             Played(f"many of {name}", ["many", "r.json", "s"], "s", many, files=files),
             Played(f"many of {name}, its recording", ["many", "--workers", "4", "r.json", "s"], "r.json", many, files=files),
         ]
+    pinned = {"s": lines(*[asked for asked, _ in PIN_BARE])}
+    made += [
+        Played("export of a bare pin", ["export", "r.json", "s"], "s", PINNED_BARE, files=pinned),
+        Played("export of a bare pin, its recording", ["export", "r.json", "s"], "r.json", PINNED_BARE, files=pinned),
+    ]
     return made
 
 

@@ -5,9 +5,10 @@ import shlex
 import sys
 
 from .cases import FIRST_RUN, R, SCRIPTS, lines
+from .exports import chain_written
 from .limits import chain_of, chain_report
 from .run import LANES, Case, refusals, run, shown
-from .why import EXPLAINED_B, SWEPT, chain_explained
+from .why import EXPLAINED_B, RECORDED, RECORDED_B, SWEPT, chain_explained
 
 OUT_OF_MEMORY = b"refused 90 Memory\n"
 NO_THREAD = b"refused 35 NoThread\n"
@@ -28,6 +29,9 @@ COMMANDS = [
     Case("explain of 4,096 stages", ["explain", "large", f"s{STAGES - 1}"], chain_explained(STAGES), files={"large": chain_of(STAGES)}),
     Case("sweep", ["sweep", "r.json", "b"], SWEPT, files={"r.json": R}),
     Case("serve", ["serve", "r.json"], ANSWERS, files={"r.json": R}, stdin=lines(*STEPS)),
+    # (the last version of the script has a bare pin)
+    Case("export", ["export", "r.json", "s"], lines(RECORDED, '{"name":"a","op":"async","runs":10,"action":4,"pinResult":{"bare":"X"}},', RECORDED_B, "]}"), files={"r.json": R, "s": lines(*STEPS)}),
+    Case("export of 4,096 stages", ["export", "large", "s"], chain_written(STAGES), files={"large": chain_of(STAGES), "s": ""}),
     Case("help", ["--help"], None),
     Case("an unknown word", ["nonsense"], "", 2),
     # (words so long that the text about them alone asks the system for more)

@@ -321,7 +321,7 @@ READ = [
     (step("remove", session=1, base=0, stage="b"), b"committed 1"),
     (step("rewire", session=1, base=0, stage="b", sources=["a"], inner=[]), b"committed 1"),
     (step("edits", session=1, base=0, edits=[{"do": "remove", "stage": "b"}]), b"committed 1"),
-    *((step("report", version=0, what=what), what.encode() if what in ("times", "changes", "drift") else b"version 0") for what in ("all", "times", "changes", "drift")),
+    *((step("report", version=0, what=what), what.encode() if what != "all" else b"version 0") for what in ("all", "times", "changes", "drift", "recording")),
     *((step("report", version=0, what=what, against=0), what.encode()) for what in ("changes", "drift")),
     *((step("report", session=1, what=what, stage="a"), b"") for what in ("one", "blame", "path", "sweep")),
 ]

@@ -5,7 +5,7 @@ import re
 
 from .run import Case
 
-COMMAND = re.compile(r"(?<!\| )\./whatif (report|explain|sweep|serve|many|import|draw)((?: [\w./-]+)+)(?: < (examples/[\w.-]+))?")
+COMMAND = re.compile(r"(?<!\| )\./whatif (report|explain|sweep|serve|export|many|import|draw)((?: [\w./-]+)+)(?: < (examples/[\w.-]+))?")
 BLOCK = re.compile(r"^```(\w*)\n(.*?)^```$", re.M | re.S)
 
 
@@ -35,7 +35,8 @@ def missing(top, command):
 
 
 def shown_case(top, page, command, blocks):
-    """What is printed of a file as it is; or steps and their answers in turn; or answers alone, which are somewhere in those to the whole script.
+    """What is printed of a file as it is; or steps and their answers in turn; or answers alone, which are somewhere in those to the whole script,
+    as the lines of a version that is written as a recording are in it.
 
     The numbers in the answers to several scripts at once depend on who comes first, and are not compared."""
     subcommand, words, script = command
@@ -45,7 +46,9 @@ def shown_case(top, page, command, blocks):
     rows = "".join(blocks).splitlines(keepends=True)
     steps = [it for it in rows if it.startswith("{") and "json" not in words]
     out = "".join(it for it in rows if it not in steps)
-    if subcommand == "serve" and steps:
+    if subcommand == "export":
+        out = re.compile(b"(?s).*" + b".*".join(b"(?<=\n)" + re.escape(it.encode()) for it in rows) + b".*")
+    elif subcommand == "serve" and steps:
         how["stdin"] = "".join(steps)
     elif script:
         how["stdin"] = read(top, script)

@@ -36,6 +36,7 @@ Commands:
   draw     Writes a picture of a recording: when each stage waited, was queued, ran and completed
   check    Prints every fault of a recording, and every member that nothing reads
   serve    Answers the steps that come on standard input, one to a line, about a recording
+  export   Writes the version that a script made last, as a recording
   many     Answers several scripts at once, whose clients share the sessions and versions
   import   Writes the recording that a trace makes, from OTLP/JSON or Jaeger JSON
   help     Print this message or the help of the given subcommand(s)
@@ -175,16 +176,37 @@ Examples:
 What a recording is: docs/FORMATS.md, Recordings.
 """)
 
+HELP_OF_EXPORT = help_of("""\
+Writes the version that a script made last, as a recording
+
+Usage: PROGRAM export [OPTIONS] <FILE> <SCRIPT>
+
+Arguments:
+  <FILE>    the recording
+  <SCRIPT>  the steps, one to a line
+
+Options:
+      --quiet   leave explanations and warnings out
+      --strict  end with status 1 where the recording has a warning, and with 5 at the first refused step
+  -h, --help    Print help
+
+Examples:
+  whatif export examples/late-reply.json examples/late-reply.script > fixed.json
+  whatif export --strict examples/late-reply.json examples/late-reply-why.script > fixed.json
+
+The steps: docs/FORMATS.md, Scripts. What is written: Recordings.
+""")
+
 # The command line.
 COMMAND_LINES = [
     Case("help names each subcommand", ["--help"], HELP),
     Case("the subcommand of help names each", ["help"], HELP),
     *[
         Case(f"help of {name}, by {' '.join(words)}", words, text)
-        for name, text in (("report", HELP_OF_REPORT), ("explain", HELP_OF_EXPLAIN), ("sweep", HELP_OF_SWEEP), ("draw", HELP_OF_DRAW), ("check", HELP_OF_CHECK), ("import", HELP_OF_IMPORT))
+        for name, text in (("report", HELP_OF_REPORT), ("explain", HELP_OF_EXPLAIN), ("sweep", HELP_OF_SWEEP), ("draw", HELP_OF_DRAW), ("check", HELP_OF_CHECK), ("export", HELP_OF_EXPORT), ("import", HELP_OF_IMPORT))
         for words in ([name, "--help"], [name, "-h"], ["help", name])
     ],
-    Case("no word names the subcommands", [], "", 2, err="report, explain, sweep, draw, check, serve, many, import, help"),
+    Case("no word names the subcommands", [], "", 2, err="report, explain, sweep, draw, check, serve, export, many, import, help"),
     *[
         case
         for name in ("explain", "sweep")
@@ -367,6 +389,8 @@ def of_a(do, **members):
 
 
 LATER_A = of_a("setTakes", takes=20)
+RECORDED = '{"form":2,"wrap":"computed","stages":['
+RECORDED_B = '{"name":"b","op":"thenApply","sources":["a"],"runs":5,"action":["add",["arg",0],1]}'
 ABOUT_B = [report("one", session=1, stage="b"), report("blame", session=1, stage="b"), report("path", session=1, stage="b")]
 
 # Scripts about R: steps, and the answers; and the entries of the log where `many` answers them.
@@ -429,6 +453,21 @@ SCRIPTS = [
         + lines("drift of version 0 against 1 moved 2", "a earlier 10", "b earlier 10")
         + lines("changes of version 2 from 1 touched 1", "c absent -> value:5 at 25", "drift of version 2 from 1 moved 0", "changes of version 0 from - touched 0"),
         10,
+    ),
+    (
+        "a version as a recording",
+        [
+            *[report("recording", version=0), OPEN, of_a("setTimes", queued=3, runs=0), report("recording", session=1)],
+            step("edits", session=1, edits=[{"do": "add", "new": stage("copy", "c", sources=["a"])}, {"do": "remove", "stage": "b"}, {"do": "pinMoment", "stage": "a", "at": 0}]),
+            *[report("recording", version=2, stage=5, against=-1), report("recording", version=1), report("recording", session=2), report("recording", version=3)],
+            *[step("edits", session=1, edits=[{"do": "remove", "stage": it} for it in "ca"]), report("recording", version=3)],
+        ],
+        lines("recording of version 0 lines 4", RECORDED, '{"name":"a","op":"async","runs":10,"action":4},', RECORDED_B, "]}")
+        + lines("opened 1 at 0", "committed 1", "recording of version 1 lines 4", RECORDED, '{"name":"a","op":"async","queued":3,"action":4},', RECORDED_B, "]}")
+        + lines("committed 2", "recording of version 2 lines 4", RECORDED, '{"name":"a","op":"async","queued":3,"action":4,"pinMoment":0},', '{"name":"c","op":"copy","sources":["a"]}', "]}")
+        + lines("recording of version 1 lines 4", RECORDED, '{"name":"a","op":"async","queued":3,"action":4},', RECORDED_B, "]}")
+        + lines("refused 51 NoSession", "refused 52 NoVersion", "committed 3", "recording of version 3 lines 2", RECORDED, "]}"),
+        9,
     ),
     (
         "stages are compared by their names",

@@ -5,7 +5,7 @@
 ghost use Rattle.std.specs.Prelude.{◌≡◌, ◌≤◌, length, None};
 
 use crate::step_telling::StepTeller;
-use std::alloc::Global;
+use std::alloc::{AllocError, Global};
 use std::cell::Cell;
 use std::io::Read;
 use text_io::{CountedReader, ReadFault, Sink, Source, WriteFault};
@@ -16,14 +16,19 @@ const MOST_KEPT: usize = 256;
 /// How much of a line is kept: more than a step may have.
 const LONGEST_LINE: usize = 65_600;
 
-/// Whether an answer is a refusal, as text or as JSON.
-fn is_refusal(answer: &[u8]) -> bool {
+/// Whether an answer is a refusal as JSON. Names have no quotes, so nothing else in an answer looks like it.
+pub(crate) fn is_json_refusal(answer: &[u8]) -> bool {
     match answer {
         [b'{', ..] => {
             str::from_utf8(answer).is_ok_and(|text| text.contains("\"reply\":\"refused\""))
         }
-        _ => answer.starts_with(b"refused "),
+        _ => false,
     }
+}
+
+/// Whether an answer begins as a refusal does, as text or as JSON: as text it may also be of a stage that is called `refused`.
+fn may_be_refusal(answer: &[u8]) -> bool {
+    answer.starts_with(b"refused ") || is_json_refusal(answer)
 }
 
 /// What the source and the sink know of each other.
@@ -37,23 +42,23 @@ pub struct Watch {
 }
 
 impl Watch {
-    /// Nothing was answered, and nothing waits.
-    pub fn new(alloc: Global) -> Watch {
-        Watch {
+    /// Nothing was answered, and nothing waits. Room is made for all that is kept, so that no refusal is lost where memory
+    /// runs out later.
+    pub fn new(alloc: Global) -> Result<Watch, AllocError> {
+        Ok(Watch {
             alloc,
-            answer: Cell::new(Vec::new(alloc)),
+            answer: Cell::new(Vec::with_capacity(alloc, MOST_KEPT)?),
             is_more: Cell::new(false),
-        }
+        })
     }
 
-    /// Keeps the front of an answer. Where memory is out nothing is kept of it.
+    /// Keeps the front of an answer.
     fn keep(&self, bytes: &[u8]) {
         let mut answer = self.answer.replace(Vec::new(self.alloc));
         let room = MOST_KEPT.saturating_sub(answer.len());
         let front = bytes.get(..room).unwrap_or(bytes);
-        if answer.extend_from_slice(front).is_err() {
-            answer.clear();
-        }
+        // (there is room for it)
+        let _ = answer.extend_from_slice(front);
         self.answer.set(answer);
     }
 
@@ -65,7 +70,7 @@ impl Watch {
     /// Whether what was answered is a refusal.
     fn is_refused(&self) -> bool {
         let answer = self.answer.replace(Vec::new(self.alloc));
-        let is_refused = is_refusal(answer.as_slice());
+        let is_refused = may_be_refusal(answer.as_slice());
         self.answer.set(answer);
         is_refused
     }
@@ -144,9 +149,11 @@ impl<'a, 't, R: Read> ListeningSource<'a, 't, R> {
     pub fn tell(&mut self)
         ensures { failed_reads self.new ≡ failed_reads self.old }
     {
-        let answer = self.watch.answer.replace(Vec::new(self.watch.alloc));
+        let mut answer = self.watch.answer.replace(Vec::new(self.watch.alloc));
         self.teller
             .tell(self.number, self.line.as_slice(), answer.as_slice());
+        answer.clear();
+        self.watch.answer.set(answer);
         self.line.clear();
         self.number = self.number.saturating_add(1);
         self.is_line_done = false;

@@ -1,5 +1,6 @@
 //! What is told of the steps of a script, by line.
 use crate::json_refusal::text_of_refusal;
+use crate::listening::is_json_refusal;
 use crate::voice::Voice;
 use diagnosis::{
     Findings, KnownStages, Refusal, examine_step, explain_step, json_fault, may_step_be_unread,
@@ -80,7 +81,8 @@ impl<'a> StepTeller<'a> {
                 );
             }
         }
-        if refusal.is_some() && self.is_strict {
+        // (a refusal as JSON is known by its front, as its text takes memory)
+        if self.is_strict && (refusal.is_some() || is_json_refusal(answer)) {
             self.is_stopped = true;
         }
     }

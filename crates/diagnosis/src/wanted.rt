@@ -85,7 +85,15 @@ pub(crate) const STEP_NAMES: &[&str] = &[
 
 /// The names of reports.
 pub(crate) const REPORTS: &[&str] = &[
-    "all", "one", "blame", "path", "sweep", "changes", "drift", "times",
+    "all",
+    "one",
+    "blame",
+    "path",
+    "sweep",
+    "changes",
+    "drift",
+    "times",
+    "recording",
 ];
 
 /// The words that begin an expression.

@@ -19,7 +19,7 @@ use Rattle.recording.specs.declared.edits.EditName.TheVariants as name
 use Rattle.recording.specs.declared.member.Member.TheVariants as member
 use Rattle.recording.specs.declared.stage.FormNumber.TheVariants.{Two}
 use Rattle.recording.specs.declared.step.Asked.{Asked}
-use Rattle.recording.specs.declared.step.Asked.TheVariants.{All as AllStages, One, Blame, Path, Sweep, Changes, Drift, Times}
+use Rattle.recording.specs.declared.step.Asked.TheVariants.{All as AllStages, One, Blame, Path, Sweep, Changes, Drift, Times, Recording}
 use Rattle.recording.specs.declared.step.StepName.TheVariants as step_name
 use Rattle.recording.specs.declared.step.Step.TheVariants.{Open, Head, Undo, Close, Change, Report}
 use Rattle.recording.specs.declared.step.Subject.{Subject}
@@ -125,6 +125,7 @@ version_report_back version (Changes (Some n)) h is = simp (found, count32_back 
 version_report_back version (Drift None) h is = simp (found, count32_back version h) refl
 version_report_back version (Drift (Some n)) h is = simp (found, count32_back version h, count32_back n is) refl
 version_report_back version Times h is = simp (found, count32_back version h) refl
+version_report_back version Recording h is = simp (found, count32_back version h) refl
 
 session_report_back : (session : ℕ) (asked : Asked) → session < 2 ^ 32 → IsAsked asked → step_in (written_step (Report (subject.Head session) asked)) ≡ Ok (Report (subject.Head session) asked)
 unfolding step_with
@@ -138,6 +139,7 @@ session_report_back session (Changes (Some n)) h is = simp (found, count32_back 
 session_report_back session (Drift None) h is = simp (found, count32_back session h) refl
 session_report_back session (Drift (Some n)) h is = simp (found, count32_back session h, count32_back n is) refl
 session_report_back session Times h is = simp (found, count32_back session h) refl
+session_report_back session Recording h is = simp (found, count32_back session h) refl
 
 report_back : (subject : Subject) (asked : Asked) → IsSubject subject → IsAsked asked → step_in (written_step (Report subject asked)) ≡ Ok (Report subject asked)
 report_back (subject.Version version) asked h is = version_report_back version asked h is

@@ -144,7 +144,8 @@ subject_in d =
 abbrev pub report_names : List (List ℕ × ReportName)
 report_names =
     (codes "all", report.All) ∷ (codes "one", report.One) ∷ (codes "blame", report.Blame) ∷ (codes "path", report.Path)
-    ∷ (codes "sweep", report.Sweep) ∷ (codes "changes", report.Changes) ∷ (codes "drift", report.Drift) ∷ (codes "times", report.Times) ∷ []
+    ∷ (codes "sweep", report.Sweep) ∷ (codes "changes", report.Changes) ∷ (codes "drift", report.Drift) ∷ (codes "times", report.Times)
+    ∷ (codes "recording", report.Recording) ∷ []
 
 abbrev pub report_name_in : Data → Option ReportName
 report_name_in d = option_and_then (beside report_names) (as_str d)
@@ -159,6 +160,7 @@ asked_of report.All d = Ok asked.All
 asked_of report.Changes d = then_on (against_member d) (λ against. Ok (asked.Changes against))
 asked_of report.Drift d = then_on (against_member d) (λ against. Ok (asked.Drift against))
 asked_of report.Times d = Ok asked.Times
+asked_of report.Recording d = Ok asked.Recording
 
 unfoldable pub step_with : StepName → Data → Result Step Fault
 step_with Open d =

@@ -8,7 +8,7 @@ use Rattle.recording.specs.Written.{written, IsWellFormed}
 use Rattle.recording.specs.WrittenStages.{object_of, row, array_of, count, null_or, written_outcome, written_end, written_stage, IsOutcome, AreEnds, IsStage}
 use Rattle.recording.specs.declared.stage.FormNumber.TheVariants.{Two}
 use Rattle.recording.specs.declared.step.Asked.{Asked}
-use Rattle.recording.specs.declared.step.Asked.TheVariants.{All as AllStages, One, Blame, Path, Sweep, Changes, Drift, Times}
+use Rattle.recording.specs.declared.step.Asked.TheVariants.{All as AllStages, One, Blame, Path, Sweep, Changes, Drift, Times, Recording}
 use Rattle.recording.specs.declared.step.Subject.{Subject}
 use Rattle.recording.specs.declared.step.Subject.TheVariants as subject
 use Rattle.recording.specs.declared.step.Step.{Step}
@@ -52,6 +52,7 @@ asked_rows (Sweep stage) = row (codes "what") (string (codes "sweep")) ∷ row (
 asked_rows (Changes against) = row (codes "what") (string (codes "changes")) ∷ (codes "against", option_map count against) ∷ []
 asked_rows (Drift against) = row (codes "what") (string (codes "drift")) ∷ (codes "against", option_map count against) ∷ []
 asked_rows Times = row (codes "what") (string (codes "times")) ∷ []
+asked_rows Recording = row (codes "what") (string (codes "recording")) ∷ []
 
 abbrev pub subject_row : Subject → List ℕ × Option Data
 subject_row (subject.Version version) = row (codes "version") (count version)

@@ -35,6 +35,8 @@ pub enum Asked {
     Drift(Option<u32>),
     /// When each stage started, and how long it was queued and ran.
     Times,
+    /// The version itself, as a recording.
+    Recording,
 }
 
 /// What a report is of.
@@ -122,6 +124,7 @@ pub(crate) enum ReportName {
     Changes,
     Drift,
     Times,
+    Recording,
 }
 
 impl ReportName {
@@ -138,6 +141,7 @@ impl ReportName {
             "changes" => Some(ReportName::Changes),
             "drift" => Some(ReportName::Drift),
             "times" => Some(ReportName::Times),
+            "recording" => Some(ReportName::Recording),
             _ => None,
         }
     }
@@ -216,6 +220,7 @@ fn read_asked(alloc: Global, name: ReportName, object: &Value) -> Result<Asked, 
             Ok(Asked::Drift(against))
         }
         ReportName::Times => Ok(Asked::Times),
+        ReportName::Recording => Ok(Asked::Recording),
     }
 }
 

@@ -1,5 +1,5 @@
 -- What was written in answer.
-use Rattle.std.proofs.Common.{◌≡◌, ◌⊎◌, inl, inr, ◌∙◌, ℕ, ◌+◌, ◌<◌, min, length, take, length-take, arith, Bool, false, List, [], ◌∷◌, ◌++◌, Option, Some, None, unwrap_or, Result, Ok, Err, OnOk, OnErr, ap, sym, subst, refl}
+use Rattle.std.proofs.Common.{◌≡◌, ◌⊎◌, inl, inr, ◌∙◌, ℕ, ◌+◌, Bool, false, List, [], ◌∷◌, ◌++◌, Option, Some, None, unwrap_or, Result, Ok, Err, OnOk, OnErr, ap, sym, subst, refl}
 use Rattle.std.specs.Io.KnownBytes.{Appends}
 use Rattle.text_io.specs.Sink.{AppendsPrefix, Advances, StopsShort}
 use Rattle.text_io.proofs.Written.{AppendsPrefix-after, AppendsPrefix-longer}
@@ -24,7 +24,7 @@ use Rattle.report_json.specs.Forms.{form_of}
 use Rattle.report_json.specs.declared.form.Form.{Form}
 use Rattle.report_json.specs.declared.form.Format.{Format}
 use Rattle.serve_script.specs.Replies.{base_in}
-use Rattle.serve_script.specs.Told.{no_stage_told, reply_told}
+use Rattle.serve_script.specs.Told.{reply_told}
 
 -- ---- one line
 

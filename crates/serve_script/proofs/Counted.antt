@@ -1,5 +1,5 @@
 -- The number of a script's line is no larger than the bytes before it allow.
-use Rattle.std.proofs.Common.{◌≡◌, ℕ, ◌+◌, ◌≤◌, Bool, true, false, List, [], length, ap, sym, subst, arith, Option}
+use Rattle.std.proofs.Common.{◌≡◌, ℕ, ◌+◌, ◌≤◌, Bool, true, List, [], length, ap, subst, arith, Option}
 use Rattle.script_lines.specs.LineReader.{ReadsPiece, TakesLine}
 use Rattle.script_lines.specs.ReaderView.{ReaderView}
 

@@ -1,3 +1,4 @@
 pub mod Answering
 pub mod Counted
+pub mod Playing
 pub mod Told

@@ -1,5 +1,5 @@
 -- Replies and faults as JSON have no float and do not nest deep, so what is written of them reads back.
-use Rattle.std.proofs.Common.{◌≡◌, ℕ, ◌≤◌, Bool, true, false, List, [], ◌∷◌, ◌++◌, Option, Some, None, codes, refl, sym, ap, ◌∙◌, subst, arith}
+use Rattle.std.proofs.Common.{◌≡◌, ℕ, ◌≤◌, Bool, true, false, List, [], ◌∷◌, ◌++◌, Option, Some, None, codes, refl, sym, subst, arith}
 use Rattle.std.specs.List.{AllByRecursion}
 use Rattle.serde_json.specs.Data.{Data, Members, depth, put}
 use Rattle.serde_json.specs.Read.{max_depth}
@@ -19,7 +19,7 @@ use Rattle.session_core.specs.declared.event.Reply.TheVariants.{Opened, At, Comm
 use Rattle.session_core.specs.declared.refusal.Refusal.{Refusal}
 use Rattle.session_core.specs.declared.refusal.Refusal.TheVariants as refusal
 use Rattle.report_json.proofs.Exact.{IsExact, count_exact, object_exact, text_exact}
-use Rattle.report_json.specs.Json.{NamedValues, count, object, text, with}
+use Rattle.report_json.specs.Json.{NamedValues, count, text, with}
 use Rattle.serve_script.specs.Values.{at_version, dependent_members, detail_members, edit_name, fault_json, index_members, refusal_name, refused, reply_json}
 
 -- members with more members

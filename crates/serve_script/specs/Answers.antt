@@ -1,5 +1,5 @@
 -- The answers to a script, in the form that is asked for.
-use Rattle.std.specs.Prelude.{◌≡◌, ℕ, ◌+◌, ◌^◌, Bool, true, false, List, [], ◌∷◌, ◌++◌, Option, Some, None, slice_get, Result, Ok, Err}
+use Rattle.std.specs.Prelude.{◌≡◌, ℕ, ◌+◌, ◌-◌, ◌^◌, Bool, false, List, [], ◌∷◌, ◌++◌, length, Option, Some, None, slice_get, Result, Ok, Err}
 use Rattle.std.specs.Option.{option_map, option_and_then}
 use Rattle.std.specs.Io.KnownBytes.{Appends}
 use Rattle.stage_graph.specs.Plain.{PlainGraph, place_named}
@@ -30,7 +30,7 @@ use Rattle.session_core.specs.declared.event.Event.TheVariants as event
 use Rattle.session_core.specs.declared.event.Reply.{Reply}
 use Rattle.session_core.specs.declared.event.Reply.TheVariants as replied
 use Rattle.serve_script.specs.Replies.{base_in}
-use Rattle.serve_script.specs.Told.{fault_told, no_stage_told, no_version_told, reply_told}
+use Rattle.serve_script.specs.Told.{fault_told, no_stage_told, no_version_told, recording_told, reply_told}
 
 -- what is written in answer, and the state after it
 abbrev pub Answered : Type 0
@@ -68,7 +68,7 @@ answer_change form s session (Some base) edits listed = answer_event form s (eve
 
 -- ---- reports
 
--- the requested report of one version; none for a stage that is not there, and none where the report is a sweep or a comparison
+-- the requested report of one version; none for a stage that is not there, and none where the report is a sweep, a comparison or a recording
 abbrev pub what_asked : List (Option Stage) → Asked → Option What
 what_asked places asked.All = Some what.All
 what_asked places (asked.One name) = option_map what.One (place_named places name)
@@ -80,6 +80,7 @@ what_asked places (asked.Changes (Some number)) = None
 what_asked places (asked.Drift None) = Some what.Drift
 what_asked places (asked.Drift (Some number)) = None
 what_asked places asked.Times = Some what.Times
+what_asked places asked.Recording = None
 
 abbrev pub or_no_stage : Form → Option (List ℕ) → List ℕ
 or_no_stage form None = no_stage_told form
@@ -115,6 +116,7 @@ report_asked form version against (asked.Changes (Some number)) = compared_asked
 report_asked form version against (asked.Drift None) = told_asked form version (asked.Drift None)
 report_asked form version against (asked.Drift (Some number)) = compared_asked form comparison.Drift version against
 report_asked form version against asked.Times = told_asked form version asked.Times
+report_asked form version against asked.Recording = recording_told form version
 
 abbrev pub report_of : Form → Option PlainVersion → Option PlainVersion → Asked → List ℕ
 report_of form None against asked = no_version_told form
@@ -179,6 +181,21 @@ answers_to format graph lines = answers_from format 1 (opening_state graph) line
 -- the answers to a script, for a recording with this graph
 abbrev pub answers : Format → PlainGraph → List ℕ → List ℕ
 answers format graph bytes = answers_to format graph (lines_of bytes)
+
+-- ---- what a script leaves
+
+-- the state after these lines, from the one of this number on
+abbrev pub played_from : Format → ℕ → State → List (Option ScriptLine) → State
+played_from format number s [] = s
+played_from format number s (line ∷ lines) = played_from format (number + 1) (answer_line (form_of format (Some number)) s line).1 lines
+
+-- the state after a script, for a recording with this graph
+abbrev pub played : Format → PlainGraph → List (Option ScriptLine) → State
+played format graph lines = played_from format 1 (opening_state graph) lines
+
+-- the version that was made last: the one of the greatest number
+abbrev pub last_version : State → Option PlainVersion
+last_version s = slice_get s.versions (length s.versions - 1)
 
 -- ---- what a call has done
 

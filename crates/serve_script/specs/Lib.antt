@@ -1,4 +1,5 @@
 pub mod Answers
+pub mod Playing
 pub mod Replies
 pub mod Told
 pub mod Values

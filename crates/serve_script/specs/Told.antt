@@ -2,6 +2,7 @@
 use Rattle.std.specs.Prelude.{List, ℕ, [], ◌++◌, Bool, Option, codes}
 use Rattle.recording.specs.FaultTexts.{fault_text}
 use Rattle.recording.specs.declared.fault.Fault.{Fault}
+use Rattle.recording_text.specs.Reports.{report_lines, report_object}
 use Rattle.report_json.specs.Json.{answer_text}
 use Rattle.report_json.specs.declared.form.Form.{Form}
 use Rattle.report_json.specs.declared.form.Form.TheVariants.{Text, Json}
@@ -29,3 +30,8 @@ no_version_told (Json line) = answer_text line (refused 52 (codes "NoVersion") [
 abbrev pub no_stage_told : Form → List ℕ
 no_stage_told Text = codes "refused 10 NoStage" ++ line_end
 no_stage_told (Json line) = answer_text line (refused 10 (codes "NoStage") [])
+
+-- a version as a recording
+abbrev pub recording_told : Form → PlainVersion → List ℕ
+recording_told Text version = report_lines version.number version.graph
+recording_told (Json line) version = report_object line version.number version.graph

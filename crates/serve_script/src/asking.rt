@@ -5,12 +5,15 @@ ghost use Rattle.std.specs.Io.KnownBytes.{Appends};
 ghost use Rattle.text_io.specs.Sink.{AppendsPrefix};
 ghost use Rattle.stage_graph.specs.Plain.{place_named};
 ghost use Rattle.report_json.specs.Told.{comparison_told, report_told, sweep_told};
+ghost use Rattle.recording_text.specs.Faults.{failed_writes as failed_writes_of_text};
 ghost use Rattle.script_lines.specs.Faults.{failed_writes};
 ghost use Rattle.serve_script.specs.Answers.{against_in, compared_asked, or_no_stage, report_among, report_asked, swept_asked, told_asked, what_asked};
+ghost use Rattle.serve_script.specs.Told.{recording_told};
 
 use crate::telling::{tell_no_stage, tell_no_version};
 use level_pool::Runner;
 use recording::Asked;
+use recording_text::{TextFault, write_report_lines, write_report_object};
 use report_json::{Form, tell_comparison, tell_report, tell_sweep};
 use report_text::{Comparison, ReportFault, What};
 use script_lines::AnswerFault;
@@ -27,7 +30,7 @@ pub fn against_in(asked: &Asked) -> Option<u32>
     match asked {
         Asked::Changes(against) | Asked::Drift(against) => *against,
         Asked::All | Asked::One(_) | Asked::Blame(_) => None,
-        Asked::Path(_) | Asked::Sweep(_) | Asked::Times => None,
+        Asked::Path(_) | Asked::Sweep(_) | Asked::Times | Asked::Recording => None,
     }
 }
 
@@ -88,6 +91,7 @@ pub fn write_asked<R: StateRepresentation, W: Runner, S: Sink>(
         Asked::Changes(None) => write_told(alloc, version, asked, form, sink),
         Asked::Drift(None) => write_told(alloc, version, asked, form, sink),
         Asked::Sweep(name) => write_sweep(alloc, version, name, runner, form, sink),
+        Asked::Recording => write_recording(alloc, version, form, sink),
         Asked::Changes(Some(_)) => {
             write_comparison(alloc, version, against, Comparison::Changes, form, sink)
         }
@@ -199,6 +203,45 @@ fn write_against<R: StateRepresentation, S: Sink>(
     }
 }
 
+/// Writes a version as a recording, as lines or as a JSON object.
+fn write_in_form<R: StateRepresentation, S: Sink>(
+    alloc: Global,
+    version: &Version<R>,
+    form: Form,
+    sink: &mut S,
+) -> Result<(), TextFault>
+    requires { S.failures sink.old < 2 ^ 64 - 1 }
+    ensures ok { OnOk result (Appends (S.held sink.old) (S.held sink.new) (recording_told form version.now)) }
+    ensures err { OnErr result (AppendsPrefix (S.held sink.old) (S.held sink.new) (recording_told form version.now)) }
+    ensures failures { S.failures sink.new ≡ S.failures sink.old + failed_writes_of_text result }
+{
+    let graph = version.graph();
+    let number = version.number();
+    match form {
+        Form::Text => write_report_lines(alloc, graph, number, sink),
+        Form::Json { line } => write_report_object(alloc, graph, number, line, sink),
+    }
+}
+
+/// Writes a version as a recording.
+fn write_recording<R: StateRepresentation, S: Sink>(
+    alloc: Global,
+    version: &Version<R>,
+    form: Form,
+    sink: &mut S,
+) -> Result<(), AnswerFault>
+    requires { S.failures sink.old < 2 ^ 64 - 1 }
+    ensures ok { OnOk result (Appends (S.held sink.old) (S.held sink.new) (recording_told form version.now)) }
+    ensures err { OnErr result (AppendsPrefix (S.held sink.old) (S.held sink.new) (recording_told form version.now)) }
+    ensures failures { S.failures sink.new ≡ S.failures sink.old + failed_writes result }
+{
+    match write_in_form(alloc, version, form, sink) {
+        Ok(()) => Ok(()),
+        Err(TextFault::Write) => Err(AnswerFault::Write),
+        Err(TextFault::Memory) => Err(AnswerFault::Memory),
+    }
+}
+
 /// Writes a report, or the refusal if there is no such stage.
 fn write_report<R: StateRepresentation, S: Sink>(
     alloc: Global,
@@ -220,8 +263,8 @@ fn write_report<R: StateRepresentation, S: Sink>(
     }
 }
 
-/// The requested report of one version; none if it is of a stage that is not there, and if it is a sweep or
-/// a comparison.
+/// The requested report of one version; none if it is of a stage that is not there, and if it is a sweep,
+/// a comparison or a recording.
 fn what_asked<R: StateRepresentation>(version: &Version<R>, asked: &Asked) -> Option<What>
     ensures { result ≡ what_asked version.now.graph.places asked.now }
 {
@@ -233,7 +276,8 @@ fn what_asked<R: StateRepresentation>(version: &Version<R>, asked: &Asked) -> Op
         Asked::Changes(None) => Some(What::Changes),
         Asked::Drift(None) => Some(What::Drift),
         Asked::Times => Some(What::Times),
-        Asked::Sweep(_) | Asked::Changes(Some(_)) | Asked::Drift(Some(_)) => None,
+        Asked::Sweep(_) | Asked::Recording | Asked::Changes(Some(_)) | Asked::Drift(Some(_)) =>
+            None,
     }
 }
 

@@ -1,6 +1,7 @@
 //! A script of steps, answered: what each line names is done, and its reply or report is written, as text or as JSON.
 //!
-//! [`serve`] answers a whole script. The definition `answers` says which bytes it writes.
+//! [`serve`] answers a whole script. The definition `answers` says which bytes it writes. [`play`] gives the version that
+//! the script made last too.
 #![tactic(auto)]
 
 mod asking;
@@ -12,5 +13,5 @@ mod values;
 
 pub use asking::{against_in, write_asked};
 pub use script_lines::ServeFault;
-pub use serving::serve;
+pub use serving::{play, serve};
 pub use telling::{tell_fault, tell_no_version, tell_reply};

@@ -10,7 +10,7 @@ ghost use Rattle.recording.specs.StepOf.{step_of};
 ghost use Rattle.recording.specs.declared.fault.Fault.{Fault};
 ghost use Rattle.recording.specs.declared.step.Step.{Step};
 ghost use Rattle.session_core.specs.Machine.{step};
-ghost use Rattle.serve_script.specs.Answers.{IsAnswered, answer_change, answer_event, answer_head, answer_named, answer_report, answer_stand, answer_line, answer_step, answered, opening_state};
+ghost use Rattle.serve_script.specs.Answers.{IsAnswered, answer_change, answer_event, answer_head, answer_named, answer_report, answer_stand, answer_line, answer_step, answered, last_version, opening_state};
 ghost use Rattle.serve_script.specs.Told.{fault_told, reply_told};
 ghost use Rattle.serve_script.specs.Replies.{base_in};
 
@@ -22,7 +22,7 @@ use recording::{Asked, Fault, Step, Subject, read_step};
 use report_json::Form;
 use script_lines::{AnswerFault, Line};
 use session_core::{Event, Reply, Table};
-use share_tree::Held;
+use share_tree::{Again, Held};
 use stage_graph::{Edits, Graph};
 use std::alloc::{AllocError, Global};
 use std::marker::Model;
@@ -290,6 +290,13 @@ impl<'a, R: StateRepresentation, W: Runner> Server<'a, R, W> {
             Ok(step) => self.answer_step(step, form, sink),
             Err(fault) => self.refuse(fault, form, sink),
         }
+    }
+
+    /// The version that was made last.
+    pub(crate) fn last(&self) -> Result<Version<R>, AllocError>
+        ensures { IfOk result (λ version. last_version self.now ≡ Some version) }
+    {
+        self.table.last().again()
     }
 
     /// Executes the step on a line, and writes the answer.

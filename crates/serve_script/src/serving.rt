@@ -7,7 +7,8 @@ ghost use Rattle.script_lines.specs.Faults.{failed_writes, failed_writes_of_serv
 ghost use Rattle.script_lines.specs.Lines.{IsBegun, comes_after};
 ghost use Rattle.script_lines.specs.Seen.{seen};
 ghost use Rattle.script_lines.specs.Serves.{ServesAll, ServesPart};
-ghost use Rattle.serve_script.specs.Answers.{answers_from, answers_to};
+ghost use Rattle.serve_script.specs.Answers.{answers_from, answers_to, played_from};
+ghost use Rattle.serve_script.specs.Playing.{PlaysAll, PlaysOn, PlaysTo};
 
 use crate::server::Server;
 use level_pool::Runner;
@@ -16,7 +17,7 @@ use script_lines::{AnswerFault, Line, LineReader, ServeFault};
 use stage_graph::Graph;
 use std::alloc::{AllocError, Global};
 use text_io::{Sink, Source};
-use version_store::StateRepresentation;
+use version_store::{StateRepresentation, Version};
 
 /// The most bytes that are read at once.
 const AT_ONCE: usize = 65_536;
@@ -52,6 +53,33 @@ pub fn serve<K: StateRepresentation, W: Runner, R: Source, S: Sink>(
     serve_lines(&mut lines, source, &mut server, format, sink)
 }
 
+/// Reads and answers a script, as `serve` does, and gives the version that was made last: the one of the greatest number.
+///
+/// Errors: those of `serve`.
+pub fn play<K: StateRepresentation, W: Runner, R: Source, S: Sink>(
+    alloc: Global,
+    runner: &W,
+    source: &mut R,
+    sink: &mut S,
+    graph: Graph<K>,
+    format: Format,
+) -> Result<Version<K>, ServeFault>
+    requires ranked { IsRanked graph.places }
+    requires reads { R.failures source.old < 2 ^ 64 - 1 }
+    requires writes { S.failures sink.old < 2 ^ 64 - 1 }
+    ensures ok { IfOk result (λ version. PlaysTo (2 ^ 30) format graph version (R.remaining source.old) (R.remaining source.new)
+        (R.failures source.old) (R.failures source.new) (S.held sink.old) (S.held sink.new)) }
+    ensures err { IfErr result (ServesPart (2 ^ 30) (answers_to format graph) (R.remaining source.old) (R.remaining source.new)
+        (R.failures source.old) (R.failures source.new) (S.held sink.old) (S.held sink.new)) }
+    ensures failures { S.failures sink.new ≡ S.failures sink.old + failed_writes_of_serve result }
+{
+    let mut server = Server::new(alloc, graph, runner)?;
+    let buffer = filled_buffer(alloc, AT_ONCE)?;
+    let mut lines = LineReader::new(alloc, buffer, MOST);
+    serve_lines(&mut lines, source, &mut server, format, sink)?;
+    Ok(server.last()?)
+}
+
 fn filled_buffer(alloc: Global, len: usize) -> Result<Vec<u8>, AllocError>
     ensures { IfOk result (λ buffer. length buffer.items ≡ len) }
 {
@@ -71,7 +99,7 @@ fn serve_lines<K: StateRepresentation, W: Runner, R: Source, S: Sink>(
     requires count { lines.old.left < 2 ^ 64 - 1 }
     requires reads { R.failures source.old < 2 ^ 64 - 1 }
     requires writes { S.failures sink.old < 2 ^ 64 - 1 }
-    ensures ok { OnOk result (ServesAll lines.old.left (answers_from format 1 server.old) (R.remaining source.old) (R.remaining source.new)
+    ensures ok { OnOk result (PlaysAll lines.old.left format server.old server.new (R.remaining source.old) (R.remaining source.new)
         (R.failures source.old) (R.failures source.new) (S.held sink.old) (S.held sink.new)) }
     ensures err { IfErr result (ServesPart lines.old.left (answers_from format 1 server.old) (R.remaining source.old) (R.remaining source.new)
         (R.failures source.old) (R.failures source.new) (S.held sink.old) (S.held sink.new)) }
@@ -110,6 +138,9 @@ fn answer_waiting<K: StateRepresentation, W: Runner, S: Sink>(
         (λ bytes. answers_from format number.old server.old (comes_after lines.old.line (lines.old.waiting ++ bytes)))
         (λ bytes. answers_from format number.new server.new (comes_after lines.new.line (lines.new.waiting ++ bytes)))
         (S.held sink.old) (S.held sink.new)) }
+    ensures played { OnOk result (PlaysOn
+        (λ bytes. played_from format number.old server.old (comes_after lines.old.line (lines.old.waiting ++ bytes)))
+        (λ bytes. played_from format number.new server.new (comes_after lines.new.line (lines.new.waiting ++ bytes)))) }
     ensures err { OnErr result (StopsShort
         (λ bytes. answers_from format number.old server.old (comes_after lines.old.line (lines.old.waiting ++ bytes)))
         (S.held sink.old) (S.held sink.new)) }
@@ -135,6 +166,9 @@ fn answer_any<K: StateRepresentation, W: Runner, S: Sink>(
     ensures ok { OnOk result (Advances
         (λ lines. answers_from format number server.old (option_map seen line.entry ∷ lines))
         (answers_from format (number + 1) server.new) (S.held sink.old) (S.held sink.new)) }
+    ensures played { OnOk result (PlaysOn
+        (λ lines. played_from format number server.old (option_map seen line.entry ∷ lines))
+        (played_from format (number + 1) server.new)) }
     ensures err { OnErr result (StopsShort
         (λ lines. answers_from format number server.old (option_map seen line.entry ∷ lines))
         (S.held sink.old) (S.held sink.new)) }

@@ -1,5 +1,5 @@
 //! What the table does for each event, without its history.
-ghost use Rattle.std.specs.Prelude.{◌≡◌, ◌<◌, ◌≤◌, ◌^◌, ◌↔◌, length, Some, None, IsSome, IsTrue, false, slice_get, option_copied, OnOk, IfOk, IfSome, OnErr, MatchResult, [], ◌∷◌};
+ghost use Rattle.std.specs.Prelude.{◌≡◌, ◌<◌, ◌≤◌, ◌^◌, ◌-◌, ◌↔◌, length, Some, None, IsSome, IsTrue, false, slice_get, option_copied, OnOk, IfOk, IfSome, OnErr, MatchResult, [], ◌∷◌};
 ghost use Rattle.std.specs.Ordering.{nat_cmp};
 ghost use Rattle.std.specs.BTreeMap.{get, insert_entry};
 ghost use Rattle.version_store.specs.Plain.{opening_version};
@@ -82,6 +82,13 @@ impl<R: StateRepresentation> Machine<R> {
         ensures numbered { IfSome result (λ version. version.now.number ≡ number) }
     {
         self.versions.get(number as usize)
+    }
+
+    /// The version of the greatest number.
+    pub(crate) fn last(&self) -> Option<&Version<R>>
+        ensures { option_copied result ≡ slice_get self.now.state.versions (length self.now.state.versions - 1) }
+    {
+        self.versions.last()
     }
 
     /// The number of the next version.

@@ -1,5 +1,5 @@
 //! The table: versions, sessions and the history, one call for each event.
-ghost use Rattle.std.specs.Prelude.{◌≡◌, ◌≤◌, ◌^◌, [], IfOk, IfSome, slice_get, MatchResult, None, Some};
+ghost use Rattle.std.specs.Prelude.{◌≡◌, ◌≤◌, ◌^◌, ◌-◌, length, [], IfOk, IfSome, slice_get, MatchResult, None, Some};
 ghost use Rattle.stage_graph.specs.Sound.{IsSound};
 ghost use Rattle.stage_graph.specs.Walk.{IsRanked};
 ghost use Rattle.version_store.specs.Plain.{opening_version};
@@ -252,6 +252,16 @@ impl<R: StateRepresentation> Table<R> {
         match self.machine.version(number) {
             Some(version) => Ok(version),
             None => Err(Refusal::NoVersion),
+        }
+    }
+
+    /// The version that was made last: the one of the greatest number.
+    pub fn last(&self) -> &Version<R>
+        ensures { slice_get self.now.state.versions (length self.now.state.versions - 1) ≡ Some result.now }
+    {
+        match self.machine.last() {
+            Some(version) => version,
+            None => unreachable!(),
         }
     }
 

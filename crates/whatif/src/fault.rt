@@ -2,6 +2,7 @@
 use console::Fault;
 use many_scripts::ManyFault;
 use recording_reports::RecordingFault;
+use recording_text::TextFault;
 use serve_script::ServeFault;
 
 /// The end of a report.
@@ -16,12 +17,21 @@ pub(crate) fn reported(end: Result<(), RecordingFault>) -> Result<(), Fault> {
 }
 
 /// The end of a script.
-pub(crate) fn served(end: Result<(), ServeFault>) -> Result<(), Fault> {
+pub(crate) fn served<T>(end: Result<T, ServeFault>) -> Result<T, Fault> {
     match end {
-        Ok(()) => Ok(()),
+        Ok(answer) => Ok(answer),
         Err(ServeFault::Read) => Err(Fault::Read(None)),
         Err(ServeFault::Write) => Err(Fault::Write(None)),
         Err(ServeFault::Memory) => Err(Fault::Memory),
+    }
+}
+
+/// The end of a version that is written as a recording.
+pub(crate) fn written(end: Result<(), TextFault>) -> Result<(), Fault> {
+    match end {
+        Ok(()) => Ok(()),
+        Err(TextFault::Write) => Err(Fault::Write(None)),
+        Err(TextFault::Memory) => Err(Fault::Memory),
     }
 }
 

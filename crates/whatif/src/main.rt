@@ -5,6 +5,7 @@ ghost use Rattle.std.specs.Prelude.{◌≡◌};
 ghost use Rattle.stage_graph.specs.Walk.{IsRanked};
 
 mod at_once;
+mod export;
 mod fault;
 mod format;
 
@@ -16,6 +17,7 @@ use console::{
     Fault, ListeningSink, ListeningSource, StepTeller, Voice, Watch, flushed, imported, run_check,
     warn, why_no_stage, with_explanation, with_reason,
 };
+use export::run_export;
 use fault::{reported, served};
 use format::{format_of, print_refusal};
 use level_pool::{OneThread, Pooled, Runner};
@@ -34,7 +36,7 @@ use text_io::{Sink, Source};
 use trace_import::{Options, Unit, import};
 
 /// The most bytes of a script that are read at once.
-const AT_ONCE: usize = 65_536;
+pub(crate) const AT_ONCE: usize = 65_536;
 
 fn main(rt: HostRuntime) -> ExitCode {
     let format = Cell::new(Format::Text);
@@ -98,6 +100,7 @@ fn answer<'a, H: Threads + Wait + Copy + Drop + Send + Sync, W: Runner>(
         "draw" => run_draw(rt, matches)?,
         "check" => return run_check(rt, matches),
         "serve" => run_serve(rt, runner, matches)?,
+        "export" => run_export(rt, runner, matches)?,
         "many" => run_many(rt, threads, matches)?,
         "import" => run_import(rt, matches)?,
         _ => return Err(Fault::CommandLine),
@@ -245,7 +248,7 @@ fn serve_listening<W: Runner>(
 ) -> Result<(), Fault>
     requires { IsRanked graph.places }
 {
-    let watch = Watch::new(rt.alloc());
+    let watch = Watch::new(rt.alloc())?;
     let reason = Cell::new(None);
     let output = console::output(rt, &reason)?;
     let chunk = vec![in rt.alloc(); 0; AT_ONCE]?;

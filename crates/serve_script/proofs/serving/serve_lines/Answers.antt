@@ -8,7 +8,8 @@ use Rattle.script_lines.specs.Seen.{seen}
 use Rattle.script_lines.specs.declared.fault.ServeFault.TheVariants.{Read, Write}
 use Rattle.script_lines.proofs.Steps.{answers_piece, ends, reads_end, reads_piece, serves_part, serves_part_at, stops_at_end, unfailed_in_answer, written_so_far}
 use Rattle.serve_script.proofs.Counted.{begins, reads_on}
-use Rattle.serve_script.specs.Answers.{answers_from}
+use Rattle.serve_script.specs.Answers.{answers_from, played_from}
+use Rattle.serve_script.proofs.Playing.{played_at_end, plays_piece, then_plays}
 use Rattle.serve_script.proofs.serving.serve_lines.Goals as goal
 
 pub loop-sink-init : goal.loop-sink-init
@@ -20,6 +21,8 @@ loop-sink-init g c = (
     numbered = begins c.args.lines.now.waiting c.args.lines.now.left c.requires.waiting;
     answered = Advances-none _ _ _ (λ bytes. ap (answers_from c.args.format 1 c.args.server.now)
         (ap (λ waiting. lines_of (waiting ++ bytes)) (sym c.requires.waiting) ∙ ap (λ line. comes_after line (c.args.lines.now.waiting ++ bytes)) (sym c.requires.begun)));
+    played = λ bytes. ap (played_from c.args.format 1 c.args.server.now)
+        (ap (λ waiting. lines_of (waiting ++ bytes)) (sym c.requires.waiting) ∙ ap (λ line. comes_after line (c.args.lines.now.waiting ++ bytes)) (sym c.requires.begun));
     reads = refl;
     writes = refl;
   },
@@ -91,15 +94,20 @@ pub returns-then-not-branch-clause-ok : goal.returns-then-not-branch-clause-ok
 returns-then-not-branch-clause-ok g c =
     let (read, so_far) = c.loop-sink.invariant in
     let end = reads_end read c.answer_waiting.new.lines c.read_more.new.self _ _ _ _ so_far.consumed c.if-not-branch.true c.in_ok-read_more.ensures.ok in
+    let last_line = c.line.ensures ∙ ap line_begun c.in_ok-read_more.ensures.line in
     record {
-      read = read;
-      consumed = end.0;
-      to_the_end = end.1;
-      below_the_most = let all = so_far.counted in let same = c.in_ok-answer_waiting.ensures.left in let is = c.left.ensures in let some = c.if-left-eq0.false in grind (arith, all, same, is, some);
-      no_failure = let failed = c.in_ok-read_more.ensures.failures in let before = so_far.reads in grind (arith, failed, before);
-      answered = ends (answers_from c.args.format 1 c.args.server.now) (answers_from c.args.format c.answer_waiting.new.number c.answer_waiting.new.server) (answers_from c.args.format (c.answer_waiting.new.number + 1) c.answer_any.new.server) read c.answer_waiting.new.lines (option_map seen c.line.result) _ _ _ _
-          c.in_ok-answer_waiting.ensures.begun c.in_ok-answer_waiting.ensures.waiting (c.line.ensures ∙ ap line_begun c.in_ok-read_more.ensures.line)
-          (Advances-kept _ _ _ _ _ (Advances-trans _ _ _ _ _ _ so_far.answered c.in_ok-answer_waiting.ensures.ok) c.in_ok-flush.ensures.held) c.in_ok-answer_any.ensures.ok refl c.in_ok-flush-2.ensures.held;
+      serves = record {
+        read = read;
+        consumed = end.0;
+        to_the_end = end.1;
+        below_the_most = let all = so_far.counted in let same = c.in_ok-answer_waiting.ensures.left in let is = c.left.ensures in let some = c.if-left-eq0.false in grind (arith, all, same, is, some);
+        no_failure = let failed = c.in_ok-read_more.ensures.failures in let before = so_far.reads in grind (arith, failed, before);
+        answered = ends (answers_from c.args.format 1 c.args.server.now) (answers_from c.args.format c.answer_waiting.new.number c.answer_waiting.new.server) (answers_from c.args.format (c.answer_waiting.new.number + 1) c.answer_any.new.server) read c.answer_waiting.new.lines (option_map seen c.line.result) _ _ _ _
+            c.in_ok-answer_waiting.ensures.begun c.in_ok-answer_waiting.ensures.waiting (c.line.ensures ∙ ap line_begun c.in_ok-read_more.ensures.line)
+            (Advances-kept _ _ _ _ _ (Advances-trans _ _ _ _ _ _ so_far.answered c.in_ok-answer_waiting.ensures.ok) c.in_ok-flush.ensures.held) c.in_ok-answer_any.ensures.ok refl c.in_ok-flush-2.ensures.held;
+      };
+      played = played_at_end (played_from c.args.format 1 c.args.server.now) (played_from c.args.format c.answer_waiting.new.number c.answer_waiting.new.server) (played_from c.args.format (c.answer_waiting.new.number + 1) c.answer_any.new.server) read c.answer_waiting.new.lines (option_map seen c.line.result) _
+          c.in_ok-answer_waiting.ensures.begun c.in_ok-answer_waiting.ensures.waiting last_line (then_plays _ _ _ so_far.played c.in_ok-answer_waiting.ensures.played) c.in_ok-answer_any.ensures.played refl;
     }
 
 pub loop-sink-preserved : goal.loop-sink-preserved
@@ -114,6 +122,8 @@ loop-sink-preserved g c =
         answered = answers_piece (answers_from c.args.format 1 c.args.server.now) (answers_from c.args.format c.answer_waiting.new.number c.answer_waiting.new.server) read c.answer_waiting.new.lines c.read_more.new.self _ _ _ _ _
             c.if-not-branch.false c.in_ok-read_more.ensures.ok c.in_ok-read_more.ensures.line c.in_ok-answer_waiting.ensures.waiting
             (Advances-kept _ _ _ _ _ (Advances-trans _ _ _ _ _ _ so_far.answered c.in_ok-answer_waiting.ensures.ok) c.in_ok-flush.ensures.held);
+        played = plays_piece (played_from c.args.format 1 c.args.server.now) (played_from c.args.format c.answer_waiting.new.number c.answer_waiting.new.server) read c.answer_waiting.new.lines c.read_more.new.self
+            c.in_ok-read_more.ensures.line c.in_ok-answer_waiting.ensures.waiting (then_plays _ _ _ so_far.played c.in_ok-answer_waiting.ensures.played);
         reads = let failed = c.in_ok-read_more.ensures.failures in let before = so_far.reads in grind (arith, failed, before);
         writes = let more = c.in_ok-answer_waiting.ensures.failures in let flushed = c.in_ok-flush.ensures.failures in let before = so_far.writes in grind (arith, more, flushed, before);
       },

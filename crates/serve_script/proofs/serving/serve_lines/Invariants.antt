@@ -2,14 +2,17 @@ use Rattle.std.proofs.Common.{◌≡◌, ℕ, ◌+◌, ◌≤◌, List, length}
 use Rattle.std.specs.Io.KnownBytes.{Consumes}
 use Rattle.text_io.specs.Sink.{Advances}
 use Rattle.script_lines.proofs.Steps.{to_all, to_rest}
-use Rattle.serve_script.specs.Answers.{answers_from}
+use Rattle.serve_script.specs.Answers.{answers_from, played_from}
+use Rattle.serve_script.specs.Playing.{PlaysOn}
+use Rattle.serve_script.proofs.Playing.{in_all, in_rest}
 use Rattle.serve_script.proofs.serving.serve_lines.Given as goal
 
-pub record Serving (Consumed Counted Numbered Answered Reads Writes : Type 0) : Type 0 where
+pub record Serving (Consumed Counted Numbered Answered Played Reads Writes : Type 0) : Type 0 where
   pub consumed : Consumed
   pub counted : Counted
   pub numbered : Numbered
   pub answered : Answered
+  pub played : Played
   pub reads : Reads
   pub writes : Writes
 
@@ -20,6 +23,7 @@ invariant-loop-sink g l = (read : List ℕ) × Serving
     (length read + l.lines.left ≡ l.fn.lines.left)
     (l.number + length l.lines.waiting + l.lines.left ≤ l.fn.lines.left + 1)
     (Advances (to_all (answers_from l.fn.format 1 l.fn.server) read) (to_rest (answers_from l.fn.format l.number l.server) l.lines) (g.S.Sink.held l.fn.sink) (g.S.Sink.held l.sink))
+    (PlaysOn (in_all (played_from l.fn.format 1 l.fn.server) read) (in_rest (played_from l.fn.format l.number l.server) l.lines))
     (g.R.Source.failures l.source ≡ g.R.Source.failures l.fn.source)
     (g.S.Sink.failures l.sink ≡ g.S.Sink.failures l.fn.sink)
 

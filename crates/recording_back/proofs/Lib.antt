@@ -1,0 +1,11 @@
+pub mod Accepted
+pub mod Good
+pub mod Lexing
+pub mod Loading
+pub mod Objects
+pub mod StageBack
+pub mod StageRows
+pub mod StageTexts
+pub mod StaysRanked
+pub mod TextTokens
+pub mod Utf8

@@ -1,0 +1,40 @@
+//! What holds of the definition by which recordings are written.
+ghost use Rattle.recording_back.specs.Accepted.{EachGraphIsAccepted, EachStaysRanked};
+ghost use Rattle.recording_back.specs.Packed.{EachGraphIsLoaded, EachGraphIsReadBack, EachObjectHasItsTokens};
+ghost use Rattle.recording_back.specs.ReadBack.{EachIsReadBack, EachTextHasItsTokens};
+
+/// The text of each recording has the tokens of its JSON, whatever its lines.
+pub fn each_text_has_its_tokens()
+    ensures { EachTextHasItsTokens }
+{}
+
+/// Each recording is what is read from its text, unless that is too long.
+pub fn each_text_is_read_back()
+    ensures { EachIsReadBack }
+{}
+
+/// The named stages of each sound graph are loaded as that graph, without its empty places.
+pub fn each_graph_is_loaded()
+    ensures { EachGraphIsLoaded }
+{}
+
+/// Each sound graph, without its empty places, is what is read from its text, unless that is too long.
+pub fn each_graph_is_read_back()
+    ensures { EachGraphIsReadBack }
+{}
+
+/// A sound graph without a cycle has none without its empty places either.
+pub fn each_ranked_graph_stays_ranked()
+    ensures { EachStaysRanked }
+{}
+
+/// The text of each sound graph without a cycle is accepted as that graph, without its empty places, unless the text is too
+/// long: `read_recording` can't refuse it.
+pub fn each_graph_is_accepted()
+    ensures { EachGraphIsAccepted }
+{}
+
+/// Each answer that has a sound graph as a recording has the tokens of its JSON.
+pub fn each_object_has_its_tokens()
+    ensures { EachObjectHasItsTokens }
+{}

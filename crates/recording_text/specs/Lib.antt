@@ -1,0 +1,5 @@
+pub mod Faults
+pub mod Json
+pub mod Named
+pub mod Reports
+pub mod Texts

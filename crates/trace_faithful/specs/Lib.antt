@@ -1,0 +1,4 @@
+pub mod Circles
+pub mod Completes
+pub mod Faithful
+pub mod Present
