@@ -1,5 +1,6 @@
 //! The words that the program takes.
-use clap::{Arg, ArgAction, Command, value_parser};
+use crate::argument::{Argument, Choice, Takes, arg_of};
+use clap::Command;
 use std::alloc::{AllocError, Global};
 
 /// The most scripts that are answered at once.
@@ -8,46 +9,162 @@ pub const MOST_SCRIPTS: usize = 64;
 /// The most workers that compute for one script.
 pub const MOST_WORKERS: usize = 16;
 
-/// The units of an imported recording's ticks.
-static UNITS: [&str; 3] = ["us", "ns", "ms"];
-
-/// What a picture is written as.
-static PICTURES: [&str; 2] = ["svg", "trace"];
-
-/// What an answer is written as.
-static FORMS: [&str; 2] = ["text", "json"];
-
-/// Which stages have a row in a picture.
-static SCOPES: [&str; 2] = ["all", "path"];
-
 /// The version of the program.
 pub const VERSION: &str = "1.0.0";
 
+const QUIET: Argument = Argument {
+    name: "quiet",
+    help: "leave explanations and warnings out",
+    takes: Takes::Nothing,
+};
+
+const QUIET_IMPORT: Argument = Argument {
+    name: "quiet",
+    help: "leave explanations out",
+    takes: Takes::Nothing,
+};
+
+const STRICT: Argument = Argument {
+    name: "strict",
+    help: "end with status 1 where there is a warning",
+    takes: Takes::Nothing,
+};
+
+const STRICT_STEPS: Argument = Argument {
+    name: "strict",
+    help: "end with status 1 where the recording has a warning, and with 5 at the first refused step",
+    takes: Takes::Nothing,
+};
+
+const FORMAT: Argument = Argument {
+    name: "format",
+    help: "text for people, or json for programs: a line for each answer, which is one object",
+    takes: Takes::OneOf("FORMAT", Choice::Form),
+};
+
+const PICTURE: Argument = Argument {
+    name: "format",
+    help: "an SVG file, or trace events as JSON, which Perfetto and chrome://tracing open",
+    takes: Takes::OneOf("FORMAT", Choice::Picture),
+};
+
+const SCOPE: Argument = Argument {
+    name: "what",
+    help: "which stages have a row: all, or those on the path of --stage alone",
+    takes: Takes::OneOf("WHAT", Choice::Scope),
+};
+
+const UNIT: Argument = Argument {
+    name: "unit",
+    help: "the unit of ticks",
+    takes: Takes::OneOf("UNIT", Choice::Unit),
+};
+
+const TOP: Argument = Argument {
+    name: "top",
+    help: "print the first N stages alone",
+    takes: Takes::Number("N", None),
+};
+
+const WORKERS: Argument = Argument {
+    name: "workers",
+    help: "how many threads compute for each script, from 1 to 16",
+    takes: Takes::Number("N", Some(MOST_WORKERS as u8)),
+};
+
+const TRACE_ID: Argument = Argument {
+    name: "trace",
+    help: "which trace, where the file has several",
+    takes: Takes::Text("ID"),
+};
+
+const DRAWN_STAGE: Argument = Argument {
+    name: "stage",
+    help: "draw the path of this stage over the rows",
+    takes: Takes::TextIf("STAGE", "what", "path"),
+};
+
+const RECORDING: Argument = Argument {
+    name: "FILE",
+    help: "the recording",
+    takes: Takes::One,
+};
+
+const RECORDING_OR_DASH: Argument = Argument {
+    name: "FILE",
+    help: "the recording; - is standard input",
+    takes: Takes::One,
+};
+
+const RECORDING_OR_INPUT: Argument = Argument {
+    name: "FILE",
+    help: "the recording; standard input where it is left out, or -",
+    takes: Takes::MaybeOne,
+};
+
+const TRACE: Argument = Argument {
+    name: "FILE",
+    help: "the trace, in OTLP/JSON or Jaeger JSON; standard input where it is left out, or -",
+    takes: Takes::MaybeOne,
+};
+
+const STAGE: Argument = Argument {
+    name: "STAGE",
+    help: "the stage",
+    takes: Takes::One,
+};
+
+const SCRIPT: Argument = Argument {
+    name: "SCRIPT",
+    help: "the steps, one to a line",
+    takes: Takes::One,
+};
+
+const SCRIPTS: Argument = Argument {
+    name: "SCRIPT",
+    help: "the scripts, at most 64, each answered by a client of its own",
+    takes: Takes::UpTo(MOST_SCRIPTS),
+};
+
+/// What the program can be told to do, in the order of its help.
+#[derive(Clone, Copy)]
+enum Subcommand {
+    Report,
+    Explain,
+    Sweep,
+    Draw,
+    Check,
+    Serve,
+    Export,
+    Many,
+    Import,
+}
+
+static SUBCOMMANDS: [Subcommand; 9] = [
+    Subcommand::Report,
+    Subcommand::Explain,
+    Subcommand::Sweep,
+    Subcommand::Draw,
+    Subcommand::Check,
+    Subcommand::Serve,
+    Subcommand::Export,
+    Subcommand::Many,
+    Subcommand::Import,
+];
+
 /// The words that the program takes.
 pub fn command<'a>(alloc: Global) -> Result<Command<'a>, AllocError> {
-    let report = report_command(alloc)?;
-    let explain = explain_command(alloc)?;
-    let sweep = sweep_command(alloc)?;
-    let draw = draw_command(alloc)?;
-    let check = check_command(alloc)?;
-    let serve = serve_command(alloc)?;
-    let many = many_command(alloc)?;
-    let import = import_command(alloc)?;
-    Command::new(alloc, "whatif")
+    let mut command = Command::new(alloc, "whatif")
         .about("A what-if debugger for recorded runs of asynchronous Java services")
         .version(VERSION)
         .after_help(
             "Examples:\n  whatif report examples/first-run.json\n  whatif explain examples/late-reply.json reply\n\nRecordings, steps, reports and refusals: docs/FORMATS.md. How to write a run down: docs/MODELLING.md. Recordings from traces: docs/TRACES.md.",
         )
-        .subcommand_required(true)
-        .subcommand(report)?
-        .subcommand(explain)?
-        .subcommand(sweep)?
-        .subcommand(draw)?
-        .subcommand(check)?
-        .subcommand(serve)?
-        .subcommand(many)?
-        .subcommand(import)
+        .subcommand_required(true);
+    for name in &SUBCOMMANDS {
+        command = command.subcommand(command_of(alloc, *name)?)?;
+    }
+    Ok(command)
 }
 
 /// Leaves out what asks for the help of `help` itself, whose help is that of the program.
@@ -61,213 +178,93 @@ pub fn without_help_of_help(words: &mut Vec<String>) {
     }
 }
 
-/// The words by which less or more is told on standard error.
-fn told_less_or_more<'a>(alloc: Global, command: Command<'a>) -> Result<Command<'a>, AllocError> {
-    let quiet = Arg::new(alloc, "quiet")
-        .long("quiet")
-        .action(ArgAction::SetTrue)
-        .help("leave explanations and warnings out");
-    command.arg(quiet)?.arg(strict(alloc))
-}
-
-fn strict<'a>(alloc: Global) -> Arg<'a> {
-    Arg::new(alloc, "strict")
-        .long("strict")
-        .action(ArgAction::SetTrue)
-        .help("end with status 1 where there is a warning")
-}
-
-/// The word by which answers are lines of text, or JSON.
-fn form<'a>(alloc: Global) -> Arg<'a> {
-    Arg::new(alloc, "format")
-        .long("format")
-        .value_name("FORMAT")
-        .help("text for people, or json for programs: a line for each answer, which is one object")
-        .value_parser(&FORMS[..])
-        .default_value("text")
-}
-
-/// The words of `report`.
-fn report_command<'a>(alloc: Global) -> Result<Command<'a>, AllocError> {
-    let file = Arg::new(alloc, "FILE").help(
-        "the recording; standard input where it is left out, or -",
-    );
-    let report = Command::new(alloc, "report")
-        .about("Prints each stage of a recording: its rank, its state and its moment")
-        .after_help(
+/// The words of a subcommand.
+fn command_of<'a>(alloc: Global, name: Subcommand) -> Result<Command<'a>, AllocError> {
+    match name {
+        Subcommand::Report => told(
+            alloc,
+            "report",
+            "Prints each stage of a recording: its rank, its state and its moment",
             "Examples:\n  whatif report examples/first-run.json\n  whatif report --strict - < examples/first-run.json\n  whatif report --format json examples/first-run.json\n\nThe lines: docs/FORMATS.md, Reports.",
-        );
-    told_less_or_more(alloc, report)?
-        .arg(form(alloc))?
-        .arg(file)
-}
-
-/// The words of `explain`.
-fn explain_command<'a>(alloc: Global) -> Result<Command<'a>, AllocError> {
-    let file = Arg::new(alloc, "FILE")
-        .help("the recording; - is standard input")
-        .required(true);
-    let stage = Arg::new(alloc, "STAGE").help("the stage").required(true);
-    let explain = Command::new(alloc, "explain")
-        .about(
+            &[QUIET, STRICT, FORMAT, RECORDING_OR_INPUT],
+        ),
+        Subcommand::Explain => told(
+            alloc,
+            "explain",
             "Prints how a stage ended, which failure it hands on, and why it completed when it did or is pending",
-        )
-        .after_help(
             "Examples:\n  whatif explain examples/late-reply.json reply\n  whatif explain --quiet - reply < examples/late-reply.json\n\nThe lines: docs/FORMATS.md, Reports.",
-        );
-    told_less_or_more(alloc, explain)?
-        .arg(form(alloc))?
-        .arg(file)?
-        .arg(stage)
-}
-
-/// The words of `sweep`.
-fn sweep_command<'a>(alloc: Global) -> Result<Command<'a>, AllocError> {
-    let most = Arg::new(alloc, "top")
-        .long("top")
-        .value_name("N")
-        .help("print the first N stages alone")
-        .value_parser(value_parser!(usize));
-    let file = Arg::new(alloc, "FILE")
-        .help("the recording; - is standard input")
-        .required(true);
-    let stage = Arg::new(alloc, "STAGE").help("the stage").required(true);
-    let sweep = Command::new(alloc, "sweep")
-        .about("Prints which stages would make a stage complete sooner if they took no time")
-        .after_help(
+            &[QUIET, STRICT, FORMAT, RECORDING_OR_DASH, STAGE],
+        ),
+        Subcommand::Sweep => told(
+            alloc,
+            "sweep",
+            "Prints which stages would make a stage complete sooner if they took no time",
             "Examples:\n  whatif sweep examples/late-reply.json reply\n  whatif sweep --top 3 examples/late-reply.json reply\n\nThe lines: docs/FORMATS.md, Reports.",
-        )
-        .arg(most)?;
-    told_less_or_more(alloc, sweep)?
-        .arg(form(alloc))?
-        .arg(file)?
-        .arg(stage)
-}
-
-/// The words of `draw`.
-fn draw_command<'a>(alloc: Global) -> Result<Command<'a>, AllocError> {
-    let stage = Arg::new(alloc, "stage")
-        .long("stage")
-        .value_name("STAGE")
-        .help("draw the path of this stage over the rows")
-        .required_if_eq("what", "path")?;
-    let what = Arg::new(alloc, "what")
-        .long("what")
-        .value_name("WHAT")
-        .help("which stages have a row: all, or those on the path of --stage alone")
-        .value_parser(&SCOPES[..])
-        .default_value("all");
-    let format = Arg::new(alloc, "format")
-        .long("format")
-        .value_name("FORMAT")
-        .help("an SVG file, or trace events as JSON, which Perfetto and chrome://tracing open")
-        .value_parser(&PICTURES[..])
-        .default_value("svg");
-    let file = Arg::new(alloc, "FILE").help(
-        "the recording; standard input where it is left out, or -",
-    );
-    let draw = Command::new(alloc, "draw")
-        .about(
+            &[TOP, QUIET, STRICT, FORMAT, RECORDING_OR_DASH, STAGE],
+        ),
+        Subcommand::Draw => told(
+            alloc,
+            "draw",
             "Writes a picture of a recording: when each stage waited, was queued, ran and completed",
-        )
-        .after_help(
             "Examples:\n  whatif draw examples/late-reply.json --stage reply > reply.svg\n  whatif draw --format trace examples/late-reply.json > late-reply.trace.json\n\nWhat is drawn: docs/FORMATS.md, Pictures.",
-        )
-        .arg(stage)?
-        .arg(what)?
-        .arg(format)?;
-    told_less_or_more(alloc, draw)?.arg(file)
-}
-
-/// The words of `check`.
-fn check_command<'a>(alloc: Global) -> Result<Command<'a>, AllocError> {
-    let file = Arg::new(alloc, "FILE")
-        .help("the recording; - is standard input")
-        .required(true);
-    Command::new(alloc, "check")
-        .about("Prints every fault of a recording, and every member that nothing reads")
-        .after_help(
+            &[
+                DRAWN_STAGE,
+                SCOPE,
+                PICTURE,
+                QUIET,
+                STRICT,
+                RECORDING_OR_INPUT,
+            ],
+        ),
+        Subcommand::Check => told(
+            alloc,
+            "check",
+            "Prints every fault of a recording, and every member that nothing reads",
             "Examples:\n  whatif check examples/first-run.json\n  whatif check --strict examples/late-reply.json\n\nWhat a recording is: docs/FORMATS.md, Recordings.",
-        )
-        .arg(strict(alloc))?
-        .arg(file)
-}
-
-/// The words of `serve`.
-fn serve_command<'a>(alloc: Global) -> Result<Command<'a>, AllocError> {
-    let file = Arg::new(alloc, "FILE").help("the recording").required(true);
-    let quiet = Arg::new(alloc, "quiet")
-        .long("quiet")
-        .action(ArgAction::SetTrue)
-        .help("leave explanations and warnings out");
-    let strict = Arg::new(alloc, "strict")
-        .long("strict")
-        .action(ArgAction::SetTrue)
-        .help(
-            "end with status 1 where the recording has a warning, and with 5 at the first refused step",
-        );
-    Command::new(alloc, "serve")
-        .about("Answers the steps that come on standard input, one to a line, about a recording")
-        .after_help(
+            &[STRICT, RECORDING_OR_DASH],
+        ),
+        Subcommand::Serve => told(
+            alloc,
+            "serve",
+            "Answers the steps that come on standard input, one to a line, about a recording",
             "Examples:\n  whatif serve examples/late-reply.json < examples/late-reply.script\n  whatif serve --strict examples/late-reply.json < examples/late-reply-why.script\n  whatif serve --format json examples/late-reply.json < examples/late-reply.script\n\nThe steps and their answers: docs/FORMATS.md, Scripts.",
-        )
-        .arg(quiet)?
-        .arg(strict)?
-        .arg(form(alloc))?
-        .arg(file)
-}
-
-/// The words of `many`.
-fn many_command<'a>(alloc: Global) -> Result<Command<'a>, AllocError> {
-    let workers = Arg::new(alloc, "workers")
-        .long("workers")
-        .value_name("N")
-        .help("how many threads compute for each script, from 1 to 16")
-        .value_parser(value_parser!(usize).range(1..=MOST_WORKERS as i64))
-        .default_value("1");
-    let file = Arg::new(alloc, "FILE").help("the recording").required(true);
-    let scripts = Arg::new(alloc, "SCRIPT")
-        .help("the scripts, at most 64, each answered by a client of its own")
-        .num_args(1..=MOST_SCRIPTS)
-        .required(true);
-    let many = Command::new(alloc, "many")
-        .about("Answers several scripts at once, whose clients share the sessions and versions")
-        .after_help(
+            &[QUIET, STRICT_STEPS, FORMAT, RECORDING],
+        ),
+        Subcommand::Export => told(
+            alloc,
+            "export",
+            "Writes the version that a script made last, as a recording",
+            "Examples:\n  whatif export examples/late-reply.json examples/late-reply.script > fixed.json\n  whatif export --strict examples/late-reply.json examples/late-reply-why.script > fixed.json\n\nThe steps: docs/FORMATS.md, Scripts. What is written: Recordings.",
+            &[QUIET, STRICT_STEPS, RECORDING, SCRIPT],
+        ),
+        Subcommand::Many => told(
+            alloc,
+            "many",
+            "Answers several scripts at once, whose clients share the sessions and versions",
             "Examples:\n  whatif many examples/late-reply.json examples/late-reply.script examples/late-reply-why.script\n  whatif many --workers 4 examples/late-reply.json examples/late-reply.script\n\nThe steps and their answers: docs/FORMATS.md, Scripts and The program.",
-        )
-        .arg(workers)?;
-    told_less_or_more(alloc, many)?
-        .arg(form(alloc))?
-        .arg(file)?
-        .arg(scripts)
+            &[WORKERS, QUIET, STRICT, FORMAT, RECORDING, SCRIPTS],
+        ),
+        Subcommand::Import => told(
+            alloc,
+            "import",
+            "Writes the recording that a trace makes, from OTLP/JSON or Jaeger JSON",
+            "Examples:\n  whatif import examples/order.otlp.trace\n  whatif import examples/order.otlp.trace | whatif explain - shop.GET-order\n\nWhat is inferred of a trace, and what can't be known: docs/TRACES.md.",
+            &[TRACE_ID, UNIT, QUIET_IMPORT, TRACE],
+        ),
+    }
 }
 
-/// The words of `import`.
-fn import_command<'a>(alloc: Global) -> Result<Command<'a>, AllocError> {
-    let file = Arg::new(alloc, "FILE").help(
-        "the trace, in OTLP/JSON or Jaeger JSON; standard input where it is left out, or -",
-    );
-    let trace = Arg::new(alloc, "trace")
-        .long("trace")
-        .value_name("ID")
-        .help("which trace, where the file has several");
-    let unit = Arg::new(alloc, "unit")
-        .long("unit")
-        .value_name("UNIT")
-        .help("the unit of ticks")
-        .value_parser(&UNITS[..])
-        .default_value("us");
-    let quiet = Arg::new(alloc, "quiet")
-        .long("quiet")
-        .action(ArgAction::SetTrue)
-        .help("leave explanations out");
-    Command::new(alloc, "import")
-        .about("Writes the recording that a trace makes, from OTLP/JSON or Jaeger JSON")
-        .after_help(
-            "Examples:\n  whatif import examples/order.otlp.trace\n  whatif import examples/order.otlp.trace | whatif explain - shop.GET-order\n\nWhat is inferred of a trace, and what can't be known: docs/TRACES.md.",
-        )
-        .arg(trace)?
-        .arg(unit)?
-        .arg(quiet)?
-        .arg(file)
+/// A subcommand with what its help tells of it, examples at the end.
+fn told<'a>(
+    alloc: Global,
+    name: &'static str,
+    about: &'static str,
+    examples: &'static str,
+    arguments: &[Argument],
+) -> Result<Command<'a>, AllocError> {
+    let mut command = Command::new(alloc, name).about(about).after_help(examples);
+    for it in arguments {
+        command = command.arg(arg_of(alloc, *it)?)?;
+    }
+    Ok(command)
 }

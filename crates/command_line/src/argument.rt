@@ -1,0 +1,90 @@
+//! An argument of a command, as data, and as clap has it.
+use clap::{Arg, ArgAction, value_parser};
+use std::alloc::{AllocError, Global};
+
+/// An argument: its name, what help says of it, and what it takes.
+#[derive(Clone, Copy)]
+pub(crate) struct Argument {
+    pub(crate) name: &'static str,
+    pub(crate) help: &'static str,
+    pub(crate) takes: Takes,
+}
+
+/// What an argument takes. The first five are options, whose name stands after two dashes, the others are told by their place.
+#[derive(Clone, Copy)]
+pub(crate) enum Takes {
+    /// Nothing: it is there or not.
+    Nothing,
+    /// A text, by the name that help has for it.
+    Text(&'static str),
+    /// The same, required where the other argument is the word.
+    TextIf(&'static str, &'static str, &'static str),
+    /// A number; where it is bounded, from 1 to the bound, and 1 where it is left out.
+    Number(&'static str, Option<u8>),
+    /// One of the words, the first where it is left out.
+    OneOf(&'static str, Choice),
+    /// A text that may be left out.
+    MaybeOne,
+    /// A text.
+    One,
+    /// At least one text, and at most so many.
+    UpTo(usize),
+}
+
+/// What words an argument is chosen from.
+#[derive(Clone, Copy)]
+pub(crate) enum Choice {
+    /// What an answer is written as.
+    Form,
+    /// What a picture is written as.
+    Picture,
+    /// Which stages have a row in a picture.
+    Scope,
+    /// The unit of an imported recording's ticks.
+    Unit,
+}
+
+static FORMS: [&str; 2] = ["text", "json"];
+
+static PICTURES: [&str; 2] = ["svg", "trace"];
+
+static SCOPES: [&str; 2] = ["all", "path"];
+
+static UNITS: [&str; 3] = ["us", "ns", "ms"];
+
+/// The argument as clap has it.
+pub(crate) fn arg_of<'a>(alloc: Global, argument: Argument) -> Result<Arg<'a>, AllocError> {
+    let arg = Arg::new(alloc, argument.name).help(argument.help);
+    Ok(match argument.takes {
+        Takes::Nothing => arg.long(argument.name).action(ArgAction::SetTrue),
+        Takes::Text(value) => arg.long(argument.name).value_name(value),
+        Takes::TextIf(value, other, word) => {
+            arg.long(argument.name)
+                .value_name(value)
+                .required_if_eq(other, word)?
+        }
+        Takes::Number(value, most) => number(arg.long(argument.name).value_name(value), most),
+        Takes::OneOf(value, choice) => one_of(arg.long(argument.name).value_name(value), choice),
+        Takes::MaybeOne => arg,
+        Takes::One => arg.required(true),
+        Takes::UpTo(most) => arg.num_args(1..=most).required(true),
+    })
+}
+
+fn number<'a>(arg: Arg<'a>, most: Option<u8>) -> Arg<'a> {
+    match most {
+        None => arg.value_parser(value_parser!(usize)),
+        Some(most) => arg
+            .value_parser(value_parser!(usize).range(1..=i64::from(most)))
+            .default_value("1"),
+    }
+}
+
+fn one_of<'a>(arg: Arg<'a>, choice: Choice) -> Arg<'a> {
+    match choice {
+        Choice::Form => arg.value_parser(&FORMS[..]).default_value("text"),
+        Choice::Picture => arg.value_parser(&PICTURES[..]).default_value("svg"),
+        Choice::Scope => arg.value_parser(&SCOPES[..]).default_value("all"),
+        Choice::Unit => arg.value_parser(&UNITS[..]).default_value("us"),
+    }
+}
