@@ -99,11 +99,6 @@ meaning is_wrapped args = Gives (truth (has_wrapper args.failure))
 meaning (cause_is x) args = Gives (truth (has_cause x args.failure))
 meaning (throw x) args = Throws x
 
--- the answer that a value or a thrown exception is
-abbrev pub as_answer : Result Value (List ℕ) → Answer
-as_answer (Ok v) = Gives v
-as_answer (Err x) = Throws x
-
 -- how an expression is refused: too deep, or else too large
 abbrev pub check : Expression → Result ⊤ ExprFault
 check e = if nat_lt 32 (depth e) then Err TooDeep else (if nat_lt 256 (nodes e) then Err TooLarge else Ok tt)

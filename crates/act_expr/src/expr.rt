@@ -6,7 +6,8 @@
 ghost use Rattle.std.specs.Prelude.{◌≡◌, ◌≤◌, ◌↔◌, IfOk, OnOk, IsTrue};
 ghost use Rattle.act_expr.specs.Expression.{depth, nodes};
 ghost use Rattle.act_expr.specs.Forms.{tree, IsMade};
-ghost use Rattle.act_expr.specs.Meaning.{meaning, on_values, on_numbers, as_answer, check, fault_number};
+ghost use Rattle.act_expr.specs.Meaning.{meaning, on_values, on_numbers, check, fault_number};
+ghost use Rattle.act_expr.specs.Throwing.{as_answer, name_of};
 
 use crate::{ExName, Value};
 use std::alloc::{AllocError, Global};
@@ -69,6 +70,15 @@ pub struct Args {
 pub enum Answer {
     Gives(Value),
     Throws(ExName),
+}
+
+/// What is thrown where an expression has no value. A name that stands in the expression is lent, since it is far larger than a
+/// value, and each operand hands this on.
+#[derive(Clone, Copy)]
+enum Thrown<'a> {
+    NullPointer,
+    Arithmetic,
+    Named(&'a ExName),
 }
 
 /// Why an expression is refused.
@@ -203,7 +213,7 @@ impl Expr {
     {
         match self.value(args) {
             Ok(value) => Answer::Gives(value),
-            Err(name) => Answer::Throws(name),
+            Err(thrown) => Answer::Throws(thrown.name()),
         }
     }
 
@@ -223,8 +233,8 @@ impl Expr {
         self.forms
     }
 
-    /// The value, or the exception that is thrown instead.
-    fn value(&self, args: &Args) -> Result<Value, ExName>
+    /// The value, or what is thrown instead.
+    fn value<'a>(&'a self, args: &Args) -> Result<Value, Thrown<'a>>
         ensures { as_answer result ≡ meaning self.now args.now }
     {
         match &*self.form {
@@ -237,7 +247,7 @@ impl Expr {
                 operator.on_values(left, right)
             }
             Form::If(condition, first, second) => match condition.value(args)? {
-                Value::Null => Err(ExName::null_pointer()),
+                Value::Null => Err(Thrown::NullPointer),
                 Value::Num(0) => second.value(args),
                 Value::Num(_) => first.value(args),
             },
@@ -246,15 +256,28 @@ impl Expr {
                 Ok(Value::truth(matches!(value, Value::Null)))
             }
             Form::Failed => Ok(Value::truth(args.failure.is_some())),
-            Form::IsWrapped => match args.failure {
+            Form::IsWrapped => match &args.failure {
                 Some(failure) => Ok(Value::truth(failure.wrapped)),
                 None => Ok(Value::truth(false)),
             },
-            Form::CauseIs(name) => match args.failure {
+            Form::CauseIs(name) => match &args.failure {
                 Some(failure) => Ok(Value::truth(failure.name == *name)),
                 None => Ok(Value::truth(false)),
             },
-            Form::Throw(name) => Err(*name),
+            Form::Throw(name) => Err(Thrown::Named(name)),
+        }
+    }
+}
+
+impl Thrown<'_> {
+    /// The name of the exception.
+    fn name(self) -> ExName
+        ensures { result ≡ name_of self.entry }
+    {
+        match self {
+            Thrown::NullPointer => ExName::null_pointer(),
+            Thrown::Arithmetic => ExName::arithmetic(),
+            Thrown::Named(name) => *name,
         }
     }
 }
@@ -316,24 +339,24 @@ impl ExprFault {
 
 impl Operator {
     /// What the operator makes of two values.
-    fn on_values(self, left: Value, right: Value) -> Result<Value, ExName>
+    fn on_values<'a>(self, left: Value, right: Value) -> Result<Value, Thrown<'a>>
         ensures { as_answer result ≡ on_values self left right }
     {
         match (left, right) {
             (Value::Num(left), Value::Num(right)) => self.on_numbers(left, right),
-            _ => Err(ExName::null_pointer()),
+            _ => Err(Thrown::NullPointer),
         }
     }
 
     /// What the operator makes of two numbers.
-    fn on_numbers(self, left: i64, right: i64) -> Result<Value, ExName>
+    fn on_numbers<'a>(self, left: i64, right: i64) -> Result<Value, Thrown<'a>>
         ensures { as_answer result ≡ on_numbers self left right }
     {
         match self {
             Operator::Add => Ok(Value::Num(left.wrapping_add(right))),
             Operator::Sub => Ok(Value::Num(left.wrapping_sub(right))),
             Operator::Mul => Ok(Value::Num(left.wrapping_mul(right))),
-            Operator::Div if right == 0 => Err(ExName::arithmetic()),
+            Operator::Div if right == 0 => Err(Thrown::Arithmetic),
             Operator::Div => Ok(Value::Num(left.wrapping_div(right))),
             Operator::Lt => Ok(Value::truth(left < right)),
             Operator::Eq => Ok(Value::truth(left == right)),

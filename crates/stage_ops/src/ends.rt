@@ -26,6 +26,16 @@ fn set_to(outcome: Outcome, moment: u64) -> Done
 pub(crate) fn pinned(stage: &Stage, done: Option<Done>) -> Option<Done>
     ensures { result ≡ pinned stage.now done }
 {
+    if stage.pin_result.is_none() && stage.pin_moment.is_none() {
+        return done;
+    }
+    with_pins(stage, done)
+}
+
+/// The same, by which of both pins are set.
+fn with_pins(stage: &Stage, done: Option<Done>) -> Option<Done>
+    ensures { result ≡ pinned stage.now done }
+{
     match (stage.pin_result, stage.pin_moment, done) {
         (None, None, done) => done,
         (Some(outcome), Some(moment), _) => Some(set_to(outcome, moment)),
@@ -65,6 +75,17 @@ fn sooner(first: Option<Done>, other: Done) -> Done
 
 /// The earliest of the completion and the ends.
 pub(crate) fn ended(stage: &Stage, done: Option<Done>) -> Option<Done>
+    requires { All IsEarlyEnd stage.now.ends }
+    ensures { result ≡ ended stage.now done }
+{
+    if stage.ends.as_slice().is_empty() {
+        return done;
+    }
+    with_ends(stage, done)
+}
+
+/// The same, by one end after the other.
+fn with_ends(stage: &Stage, done: Option<Done>) -> Option<Done>
     requires { All IsEarlyEnd stage.now.ends }
     ensures { result ≡ ended stage.now done }
 {

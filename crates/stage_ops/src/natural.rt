@@ -6,6 +6,7 @@
 //! `exceptionallyCompose` are handed the exception instead.
 ghost use Rattle.std.specs.Prelude.{◌≡◌, ◌+◌, ◌<◌, ◌≤◌, ◌^◌, All, None, Some, length, slice_get};
 ghost use Rattle.act_expr.specs.declared.expr.Answer.TheVariants.{Throws};
+ghost use Rattle.stage_ops.specs.Actions.{answer_of, nothing};
 ghost use Rattle.stage_ops.specs.Among.{IsLimited};
 ghost use Rattle.stage_ops.specs.States.{seen_of, seen_at, state_at, IsBy};
 ghost use Rattle.stage_ops.specs.Running.{at_trigger, after_action, runs, passes, hands_on, watched, start_of, end_of};
@@ -273,6 +274,15 @@ fn after_all<L: Look>(mode: Mode, stage: &Stage, look: &L) -> Progress
     }
 }
 
+/// The action runs once the stage is created.
+fn runs_from_creation(mode: Mode, stage: &Stage) -> Progress
+    requires { end_of stage.now stage.now.created < 2 ^ 64 }
+    ensures { result ≡ runs mode stage.now stage.now.created (answer_of stage.now nothing) }
+{
+    let answer = answer_of(stage, &nothing());
+    runs(mode, stage, stage.created, answer)
+}
+
 /// The progress of an operation, by its sources.
 pub(crate) fn progress_of<L: Look>(mode: Mode, stage: &Stage, look: &L) -> Progress
     requires limits { IsLimited (length (L.states look.now)) stage.now }
@@ -280,10 +290,7 @@ pub(crate) fn progress_of<L: Look>(mode: Mode, stage: &Stage, look: &L) -> Progr
     ensures { result ≡ progress_of stage.now.op mode stage.now (seen_at (state_at (L.states look.now))) }
 {
     match stage.op {
-        Op::Async => {
-            let answer = answer_of(stage, &nothing());
-            runs(mode, stage, stage.created, answer)
-        }
+        Op::Async => runs_from_creation(mode, stage),
         Op::Manual => Progress::Waits,
         Op::Completed(value) => passes(stage.created, value),
         Op::Failed(name) => at_trigger(stage.created, Outcome::Bare(name), None),
