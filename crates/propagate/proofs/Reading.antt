@@ -62,7 +62,7 @@ first_next live edited i s within =
 
 -- whether s is among the dependents, and has read the place
 abbrev pub among_readers : (ℕ → Bool) → List ℕ → ℕ → Bool
-among_readers reads_it users s = list_any (λ user. (s == user) && reads_it user) users
+among_readers reads_it dependents s = list_any (λ dependent. (s == dependent) && reads_it dependent) dependents
 
 -- only a stage reads anything
 pub reader_live : (stages : Stages) (states : ℕ → State) (feed place : ℕ) → has_read stages states feed place ≡ true → is_some (stage_at stages place) ≡ true
@@ -72,12 +72,12 @@ reader_live stages states feed place h = live (stage_at stages place) h where
   live (Some stage) e = refl
 
 -- one more dependent, which has read the place
-pub readers_more : (reads_it live : ℕ → Bool) (users : List ℕ) (i s : ℕ) (was : Bool) → i < length users → reads_it (get_or users i 0) ≡ true → live (get_or users i 0) ≡ true
-    → ((was || among_readers reads_it (take i users) s) || (live (get_or users i 0) && s == get_or users i 0)) ≡ (was || among_readers reads_it (take (i + 1) users) s)
-readers_more reads_it live users i s was within r l =
-    or_assoc was (among_readers reads_it (take i users) s) (live (get_or users i 0) && s == get_or users i 0)
-    ∙ ap (λ b. was || (among_readers reads_it (take i users) s || b)) (turn (live (get_or users i 0)) (s == get_or users i 0) (reads_it (get_or users i 0)) l r)
-    ∙ ap (λ b. was || b) (sym (list_any_more (λ user. (s == user) && reads_it user) users i 0 within)) where
+pub readers_more : (reads_it live : ℕ → Bool) (dependents : List ℕ) (i s : ℕ) (was : Bool) → i < length dependents → reads_it (get_or dependents i 0) ≡ true → live (get_or dependents i 0) ≡ true
+    → ((was || among_readers reads_it (take i dependents) s) || (live (get_or dependents i 0) && s == get_or dependents i 0)) ≡ (was || among_readers reads_it (take (i + 1) dependents) s)
+readers_more reads_it live dependents i s was within r l =
+    or_assoc was (among_readers reads_it (take i dependents) s) (live (get_or dependents i 0) && s == get_or dependents i 0)
+    ∙ ap (λ b. was || (among_readers reads_it (take i dependents) s || b)) (turn (live (get_or dependents i 0)) (s == get_or dependents i 0) (reads_it (get_or dependents i 0)) l r)
+    ∙ ap (λ b. was || b) (sym (list_any_more (λ dependent. (s == dependent) && reads_it dependent) dependents i 0 within)) where
       turn : (a b c : Bool) → a ≡ true → c ≡ true → (a && b) ≡ (b && c)
       turn true true true e f = refl
       turn true false true e f = refl
@@ -85,11 +85,11 @@ readers_more reads_it live users i s was within r l =
       turn true b false e f = absurd (false≢true f)
 
 -- and one that has not read it
-pub readers_same : (reads_it : ℕ → Bool) (users : List ℕ) (i s : ℕ) (was : Bool) → i < length users → reads_it (get_or users i 0) ≡ false
-    → (was || among_readers reads_it (take i users) s) ≡ (was || among_readers reads_it (take (i + 1) users) s)
-readers_same reads_it users i s was within r =
-    ap (λ b. was || b) (sym (list_any_more (λ user. (s == user) && reads_it user) users i 0 within
-    ∙ turn (among_readers reads_it (take i users) s) (s == get_or users i 0) (reads_it (get_or users i 0)) r)) where
+pub readers_same : (reads_it : ℕ → Bool) (dependents : List ℕ) (i s : ℕ) (was : Bool) → i < length dependents → reads_it (get_or dependents i 0) ≡ false
+    → (was || among_readers reads_it (take i dependents) s) ≡ (was || among_readers reads_it (take (i + 1) dependents) s)
+readers_same reads_it dependents i s was within r =
+    ap (λ b. was || b) (sym (list_any_more (λ dependent. (s == dependent) && reads_it dependent) dependents i 0 within
+    ∙ turn (among_readers reads_it (take i dependents) s) (s == get_or dependents i 0) (reads_it (get_or dependents i 0)) r)) where
       turn : (a b c : Bool) → c ≡ false → (a || (b && c)) ≡ a
       turn true b c e = refl
       turn false true c e = e
@@ -104,17 +104,17 @@ pub among_readers_all : (stages : Stages) (reads_it : ℕ → Bool) (u s : ℕ) 
 among_readers_all stages reads_it u s =
     same_tests (among_readers reads_it (dependents stages u) s) (is_among u (feeds_at stages s) && reads_it s)
     (λ h.
-    let (user, c, t) = some_passes (λ user. (s == user) && reads_it user) (dependents stages u) h in
-    let (same, r) = and_parts (s == user) (reads_it user) t in
-    let e : user ≡ s = sym (eqb-true s user same) in
-    let (within, f) = among_filter (λ user. uses u (stage_at stages user)) user (all_places stages) (contains_among user (dependents stages u) c) in
-    subst (λ x. (is_among u (feeds_at stages x) && reads_it x) ≡ true) e (and_from (is_among u (feeds_at stages user)) (reads_it user) (sym (uses_among u (stage_at stages user)) ∙ f) r))
+    let (dependent, c, t) = some_passes (λ dependent. (s == dependent) && reads_it dependent) (dependents stages u) h in
+    let (same, r) = and_parts (s == dependent) (reads_it dependent) t in
+    let e : dependent ≡ s = sym (eqb-true s dependent same) in
+    let (within, f) = among_filter (λ dependent. uses u (stage_at stages dependent)) dependent (all_places stages) (contains_among dependent (dependents stages u) c) in
+    subst (λ x. (is_among u (feeds_at stages x) && reads_it x) ≡ true) e (and_from (is_among u (feeds_at stages dependent)) (reads_it dependent) (sym (uses_among u (stage_at stages dependent)) ∙ f) r))
     (λ h.
     let (f, r) = and_parts (is_among u (feeds_at stages s)) (reads_it s) h in
     let within : s < length stages = live_within stages s (has_feed_live stages s u (among_contains u (feeds_at stages s) f)) in
-    passes (λ user. (s == user) && reads_it user) (dependents stages u) s
+    passes (λ dependent. (s == dependent) && reads_it dependent) (dependents stages u) s
     (among_contains s (dependents stages u)
-    (filter_among (λ user. uses u (stage_at stages user)) s (all_places stages) (range_among s 0 (length stages) (omega arith) (omega arith)) (uses_among u (stage_at stages s) ∙ f)))
+    (filter_among (λ dependent. uses u (stage_at stages dependent)) s (all_places stages) (range_among s 0 (length stages) (omega arith) (omega arith)) (uses_among u (stage_at stages s) ∙ f)))
     (and_from (s == s) (reads_it s) (eq-eqb s s refl) r))
 
 module _ (stages : Stages) (before : ℕ → State) (after : ℕ → State) (level : List ℕ) (i s : ℕ) (within : i < length level) (was : Bool) where
@@ -149,7 +149,7 @@ pub none_yet : (live marked : Bool) → marked ≡ false → marked ≡ (live &&
 none_yet live marked e = e ∙ sym (and_nothing live)
 
 -- whether the code finds a difference
-pub told_differs : (states : List State) (place : ℕ) (before here : State) (state : ℕ → State) (told : Bool) → slice_get states place ≡ Some before → here ≡ state place
-    → told ≡ differ (seen_of before) (seen_of here) → told ≡ differ (seen_at (state_at states) place) (seen_at state place)
-told_differs states place before here state told e f h =
-    h ∙ ap (λ (x : State). differ (seen_of x) (seen_of here)) (sym (get_or_from_slice_get states place before pending e)) ∙ ap (λ (x : State). differ (seen_of (state_at states place)) (seen_of x)) f
+pub told_differs : (states : List State) (place : ℕ) (here : State) (state : ℕ → State) (told : Bool) → here ≡ state place
+    → told ≡ differ (seen_at (state_at states) place) (seen_of here) → told ≡ differ (seen_at (state_at states) place) (seen_at state place)
+told_differs states place here state told f h =
+    h ∙ ap (λ (x : State). differ (seen_of (state_at states place)) (seen_of x)) f

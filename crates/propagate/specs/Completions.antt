@@ -1,5 +1,5 @@
 -- Whether dependents can distinguish two completions.
-use Rattle.std.specs.Prelude.{Bool, true, false, not, ◌&&◌, nat_eq, Option}
+use Rattle.std.specs.Prelude.{ℕ, Bool, true, false, not, ◌&&◌, nat_eq, Option, None}
 use Rattle.std.specs.Ordering.{int_eq}
 use Rattle.std.specs.Option.{option_eq}
 use Rattle.std.specs.Cmp.Lexicographic.{pointwise}
@@ -25,6 +25,10 @@ same_outcome (Bare name) (Holds other) = false
 same_outcome (Bare name) (Wrapped other) = false
 same_outcome (Wrapped name) (Holds other) = false
 same_outcome (Wrapped name) (Bare other) = false
+
+-- with a value, for which no source is blamed
+abbrev pub returned : Value → ℕ → Completion
+returned value moment = record { outcome = Holds value; moment = moment; from = None }
 
 -- of one outcome, one moment and one blamed source
 abbrev pub same_completion : Completion → Completion → Bool

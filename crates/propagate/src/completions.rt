@@ -1,10 +1,10 @@
 //! Whether dependents can distinguish two states of a stage.
 ghost use Rattle.std.specs.Prelude.{◌≡◌};
-ghost use Rattle.stage_ops.specs.States.{seen_of};
-ghost use Rattle.propagate.specs.Completions.{differ, same_outcome};
+ghost use Rattle.stage_ops.specs.States.{seen, seen_of};
+ghost use Rattle.propagate.specs.Completions.{differ, returned, same_completion, same_outcome};
 
-use act_expr::Outcome;
-use stage_ops::State;
+use act_expr::{Outcome, Value};
+use stage_ops::{Done, State};
 
 /// Whether both are the same value, or the same exception in the same form.
 fn is_same_outcome(one: &Outcome, other: &Outcome) -> bool
@@ -13,17 +13,31 @@ fn is_same_outcome(one: &Outcome, other: &Outcome) -> bool
     *one == *other
 }
 
+/// Whether both have the same outcome, moment and blamed source.
+fn is_same_completion(one: &Done, other: &Done) -> bool
+    ensures { result ≡ same_completion (seen one.now) (seen other.now) }
+{
+    is_same_outcome(&one.outcome, &other.outcome)
+        && one.moment == other.moment
+        && one.from == other.from
+}
+
+/// Whether a completion is one with this value at this moment, for which no source is blamed.
+pub(crate) fn is_returned(value: Value, moment: u64, done: &Done) -> bool
+    ensures { result ≡ same_completion (returned value moment) (seen done.now) }
+{
+    is_same_outcome(&Outcome::Value(value), &done.outcome)
+        && moment == done.moment
+        && done.from.is_none()
+}
+
 /// Whether exactly one state is pending, or they differ in outcome, moment or blamed source.
 pub(crate) fn differ(before: &State, after: &State) -> bool
     ensures { result ≡ differ (seen_of before.now) (seen_of after.now) }
 {
-    match (before.done, after.done) {
+    match (&before.done, &after.done) {
         (None, None) => false,
-        (Some(before), Some(after)) => {
-            !(is_same_outcome(&before.outcome, &after.outcome)
-                && before.moment == after.moment
-                && before.from == after.from)
-        }
+        (Some(before), Some(after)) => !is_same_completion(before, after),
         _ => true,
     }
 }

@@ -1,6 +1,9 @@
 //! States as lists store them.
 ghost use Rattle.std.specs.Prelude.{◌≡◌, IfOk};
+ghost use Rattle.stage_ops.specs.States.{seen_of};
+ghost use Rattle.propagate.specs.Completions.{differ};
 
+use crate::completions::{differ, is_returned};
 use act_expr::{Outcome, Value};
 use share_tree::Held;
 use stage_ops::{Done, Reads, State};
@@ -92,6 +95,31 @@ impl KeptState {
                 reads: *reads,
             },
             Form::Other(held) => *held.deref(),
+        }
+    }
+
+    /// What the stored state has read.
+    pub(crate) fn reads(&self) -> Reads
+        ensures { result ≡ self.now.reads }
+    {
+        match &self.form {
+            Form::Pending(reads) => *reads,
+            Form::Returned { reads, .. } => *reads,
+            Form::Other(held) => held.deref().reads,
+        }
+    }
+
+    /// Whether dependents can distinguish the stored state from another one.
+    pub(crate) fn differs(&self, after: &State) -> bool
+        ensures { result ≡ differ (seen_of self.now) (seen_of after.now) }
+    {
+        match &self.form {
+            Form::Pending(_) => after.done.is_some(),
+            Form::Returned { value, moment, .. } => match &after.done {
+                None => true,
+                Some(done) => !is_returned(*value, *moment, done),
+            },
+            Form::Other(held) => differ(held.deref(), after),
         }
     }
 }

@@ -8,7 +8,7 @@ ghost use Rattle.stage_ops.specs.Evaluation.{at};
 ghost use Rattle.propagate.specs.Reach.{AreStates, StaysUntouched};
 ghost use Rattle.propagate.specs.Patched.{touched_by, IsCountOf};
 
-use crate::readers::users_of;
+use crate::readers::dependents_of;
 use crate::representation::StateRepresentation;
 use crate::spread::propagate_change;
 use crate::states::States;
@@ -50,7 +50,7 @@ fn first_dependents<'a, R: StateRepresentation>(
 {
     let edits = edits.as_slice();
     match graph.id_of(edits[0].name().as_str()) {
-        Some(place) => users_of(order, place),
+        Some(place) => dependents_of(order, place),
         None => &[],
     }
 }

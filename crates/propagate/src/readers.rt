@@ -10,22 +10,21 @@ ghost use Rattle.rank_order.specs.Marks.{is_marked, AreMarks};
 ghost use Rattle.stage_graph.specs.Plain.{dependents};
 ghost use Rattle.propagate.specs.Reach.{has_read, is_told};
 
-use crate::completions::differ;
 use crate::reads::has_read;
 use crate::representation::StateRepresentation;
 use crate::states::States;
 use rank_order::{Marks, Order, OrderRepresentation};
 use stage_graph::Graph;
-use stage_ops::{Look, State};
+use stage_ops::State;
 use std::alloc::{AllocError, Global};
 
 /// The dependents of a place: the places whose stages have it as a feed.
-pub(crate) fn users_of<R: OrderRepresentation>(order: &Order<R>, place: u32) -> &[u32]
+pub(crate) fn dependents_of<R: OrderRepresentation>(order: &Order<R>, place: u32) -> &[u32]
     requires { IsLive order.now.graph.places place }
     ensures { result.now ≡ dependents order.now.graph.places place }
 {
     match order.dependents(place) {
-        Ok(users) => users,
+        Ok(dependents) => dependents,
         Err(_) => unreachable!(),
     }
 }
@@ -74,7 +73,7 @@ fn is_reader<R: StateRepresentation>(
     ensures { result ≡ has_read graph.now.places (state_at states.now) feed place }
 {
     match graph.stage(place) {
-        Some(stage) => has_read(stage, states.state(place).reads, feed),
+        Some(stage) => has_read(stage, states.reads(place), feed),
         None => false,
     }
 }
@@ -95,10 +94,10 @@ fn mark_readers<R: StateRepresentation>(
         || (is_among feed (feeds_at graph.now.places place) && has_read graph.now.places (state_at states.now) feed place))) }
     ensures marks { OnOk result (AreMarks (rank graph.now.places) marks.old → AreMarks (rank graph.now.places) marks.new) }
 {
-    let users = users_of(order, feed);
-    for user in users {
-        if is_reader(graph, states, feed, *user) {
-            mark(marks, order, *user)?;
+    let dependents = dependents_of(order, feed);
+    for dependent in dependents {
+        if is_reader(graph, states, feed, *dependent) {
+            mark(marks, order, *dependent)?;
         }
     }
     Ok(())
@@ -125,7 +124,7 @@ pub(crate) fn mark_level<R: StateRepresentation>(
 {
     for at in 0..level.len() {
         let place = level[at];
-        if differ(&states.state(place), &results[at]) {
+        if states.differs(place, &results[at]) {
             mark_readers(marks, graph, order, states, place)?;
         }
     }

@@ -3,8 +3,9 @@ ghost use Rattle.std.specs.Prelude.{◌≡◌, ◌<◌, ◌≤◌, ◌++◌, ◌
 ghost use Rattle.rank_order.specs.Lists.{is_among};
 ghost use Rattle.stage_ops.specs.declared.state.State.{State};
 ghost use Rattle.stage_graph.specs.Plain.{stage_at};
-ghost use Rattle.stage_ops.specs.States.{pending, state_at};
+ghost use Rattle.stage_ops.specs.States.{pending, seen_at, seen_of, state_at};
 ghost use Rattle.scratch_eval.specs.Answers.{answer_at, state_of, AreAnswers};
+ghost use Rattle.propagate.specs.Completions.{differ};
 ghost use Rattle.propagate.specs.Reach.{is_emptied, Step, AreStates};
 
 use crate::kept::KeptState;
@@ -12,7 +13,7 @@ use crate::representation::StateRepresentation;
 use scratch_eval::Answers;
 use share_tree::{Again, Held, KeepFault, Keeps};
 use stage_graph::Graph;
-use stage_ops::{Look, State};
+use stage_ops::{Look, Reads, State};
 use std::alloc::{AllocError, Global};
 use std::marker::Model;
 
@@ -94,6 +95,28 @@ impl<R: StateRepresentation> States<R> {
         match self.list.get(place as usize) {
             Some(kept) => Some(kept.state()),
             None => None,
+        }
+    }
+
+    /// What the stage at a place has read. Allocates nothing.
+    pub(crate) fn reads(&self, place: u32) -> Reads
+        requires { place < length self.now }
+        ensures { result ≡ (state_at self.now place).reads }
+    {
+        match self.list.get(place as usize) {
+            Some(kept) => kept.reads(),
+            None => unreachable!(),
+        }
+    }
+
+    /// Whether dependents can distinguish the state at a place from another one. Allocates nothing.
+    pub(crate) fn differs(&self, place: u32, after: &State) -> bool
+        requires { place < length self.now }
+        ensures { result ≡ differ (seen_at (state_at self.now) place) (seen_of after.now) }
+    {
+        match self.list.get(place as usize) {
+            Some(kept) => kept.differs(after),
+            None => unreachable!(),
         }
     }
 

@@ -4,7 +4,7 @@ use Rattle.stage_graph.specs.Plain.{PlainGraph, place_named, IsLive}
 use Rattle.propagate.proofs.FirstDependents.{live_where_named}
 use Rattle.propagate.proofs.patched.first_dependents.Goals as goal
 
-pub users_of-requires-after_bounds : goal.users_of-requires-after_bounds
-users_of-requires-after_bounds g c κs within =
+pub dependents_of-requires-after_bounds : goal.dependents_of-requires-after_bounds
+dependents_of-requires-after_bounds g c κs within =
     rw (ap (λ (graph : PlainGraph). graph.places) c.requires)
     (live_where_named c.args.graph.now.places _ c.in-Some.place (sym c.in-Some.ensures))

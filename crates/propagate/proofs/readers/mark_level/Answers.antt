@@ -8,7 +8,7 @@ use Rattle.rank_order.specs.Marks.{is_marked, AreMarks}
 use Rattle.propagate.proofs.Preparing.{mapped_at}
 use Rattle.propagate.proofs.Reading.{told_more, told_same, told_differs}
 use Rattle.propagate.proofs.readers.mark_level.Goals as goal
-use Rattle.propagate.proofs.readers.mark_level.Goals.{then-differ+in_ok-mark_readers, else-differ}
+use Rattle.propagate.proofs.readers.mark_level.Goals.{then-differs+in_ok-mark_readers, else-differs}
 
 pub loop-at-preserved : goal.loop-at-preserved
 loop-at-preserved g c =
@@ -18,24 +18,24 @@ loop-at-preserved g c =
     let i = c.loop-at.at in
     let inv = c.loop-at.invariant in
     let here = c.index-results-at.result in
-    let finds : (state : ℕ → State) → c.args.results.now ≡ map state level → c.differ.result ≡ differ (seen_at (state_at states) (get_or level i 0)) (seen_at state (get_or level i 0)) = λ state same. told_differs states (get_or level i 0) c.state.result here state c.differ.result c.state.ensures
-    (c.index-results-at.is ∙ mapped_at state level c.args.results.now i here same (omega arith)) c.differ.ensures in
-    elim c.if-differ.branch [
-      | then-differ+in_ok-mark_readers w ↦
+    let finds : (state : ℕ → State) → c.args.results.now ≡ map state level → c.differs.result ≡ differ (seen_at (state_at states) (get_or level i 0)) (seen_at state (get_or level i 0)) = λ state same. told_differs states (get_or level i 0) here state c.differs.result
+    (c.index-results-at.is ∙ mapped_at state level c.args.results.now i here same (omega arith)) c.differs.ensures in
+    elim c.if-differs.branch [
+      | then-differs+in_ok-mark_readers w ↦
           record {
             marked = λ state same place.
                 ap (λ (marks : List (ℕ × ℕ)). is_marked (rank stages) marks place) w.marks-is
                 ∙ w.in_ok-mark_readers.ensures.marked place
                 ∙ told_more stages (state_at states) state level i place (omega arith) (is_marked (rank stages) c.args.marks.now place) (is_marked (rank stages) c.loop-at.marks place)
-                (inv.marked state same place) (sym (finds state same) ∙ w.if-differ.true);
+                (inv.marked state same place) (sym (finds state same) ∙ w.if-differs.true);
             marks = λ are. subst (λ (marks : List (ℕ × ℕ)). AreMarks (rank stages) marks) (sym w.marks-is) (w.in_ok-mark_readers.ensures.marks (inv.marks are));
           }
-      | else-differ w ↦
+      | else-differs w ↦
           record {
             marked = λ state same place.
                 ap (λ (marks : List (ℕ × ℕ)). is_marked (rank stages) marks place) w.marks-is
                 ∙ told_same stages (state_at states) state level i place (omega arith) (is_marked (rank stages) c.args.marks.now place) (is_marked (rank stages) c.loop-at.marks place)
-                (inv.marked state same place) (sym (finds state same) ∙ w.if-differ.false);
+                (inv.marked state same place) (sym (finds state same) ∙ w.if-differs.false);
             marks = λ are. subst (λ (marks : List (ℕ × ℕ)). AreMarks (rank stages) marks) (sym w.marks-is) (inv.marks are);
           }
     ]

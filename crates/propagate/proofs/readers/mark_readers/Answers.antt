@@ -10,36 +10,36 @@ use Rattle.propagate.proofs.Reading.{readers_more, readers_same, reader_live, am
 use Rattle.propagate.proofs.readers.mark_readers.Goals as goal
 use Rattle.propagate.proofs.readers.mark_readers.Goals.{then-is_reader+in_ok-mark, else-is_reader}
 
-pub loop-user-preserved : goal.loop-user-preserved
-loop-user-preserved g c =
+pub loop-dependent-preserved : goal.loop-dependent-preserved
+loop-dependent-preserved g c =
     let stages = c.args.graph.now.places in
     let states = state_at c.args.states.now in
     let feed = c.args.feed in
-    let users = c.users_of-users.result.now in
-    let i = c.loop-user.user-index in
-    let user = get_or users i 0 in
-    let inv = c.loop-user.invariant in
+    let listed = c.dependents_of-dependents.result.now in
+    let i = c.loop-dependent.dependent-index in
+    let dependent = get_or listed i 0 in
+    let inv = c.loop-dependent.invariant in
     elim c.if-is_reader.branch [
       | then-is_reader+in_ok-mark w ↦
-          (let read : has_read stages states feed user ≡ true = sym c.is_reader.ensures ∙ w.if-is_reader.true in
+          (let read : has_read stages states feed dependent ≡ true = sym c.is_reader.ensures ∙ w.if-is_reader.true in
           let live = λ (place : ℕ). is_some (stage_at stages place) in
           record {
             marked = λ place.
                 ap (λ (marks : List (ℕ × ℕ)). is_marked (rank stages) marks place) w.marks-is
-                ∙ subst (λ (graph : PlainGraph). is_marked (rank graph.places) w.mark.new.marks place ≡ (is_marked (rank graph.places) c.loop-user.marks place || (is_some (stage_at graph.places user) && place == user)))
+                ∙ subst (λ (graph : PlainGraph). is_marked (rank graph.places) w.mark.new.marks place ≡ (is_marked (rank graph.places) c.loop-dependent.marks place || (is_some (stage_at graph.places dependent) && place == dependent)))
                 c.requires.order (w.in_ok-mark.ensures.marked place)
-                ∙ ap (λ b. b || (live user && place == user)) (inv.marked place)
-                ∙ readers_more (has_read stages states feed) live users i place (is_marked (rank stages) c.args.marks.now place) (omega arith) read (reader_live stages states feed user read);
+                ∙ ap (λ b. b || (live dependent && place == dependent)) (inv.marked place)
+                ∙ readers_more (has_read stages states feed) live listed i place (is_marked (rank stages) c.args.marks.now place) (omega arith) read (reader_live stages states feed dependent read);
             marks = λ are.
                 subst (λ (marks : List (ℕ × ℕ)). AreMarks (rank stages) marks) (sym w.marks-is)
-                (subst (λ (graph : PlainGraph). AreMarks (rank graph.places) c.loop-user.marks → AreMarks (rank graph.places) w.mark.new.marks) c.requires.order w.in_ok-mark.ensures.marks (inv.marks are));
+                (subst (λ (graph : PlainGraph). AreMarks (rank graph.places) c.loop-dependent.marks → AreMarks (rank graph.places) w.mark.new.marks) c.requires.order w.in_ok-mark.ensures.marks (inv.marks are));
           })
       | else-is_reader w ↦
           record {
             marked = λ place.
                 ap (λ (marks : List (ℕ × ℕ)). is_marked (rank stages) marks place) w.marks-is
                 ∙ inv.marked place
-                ∙ readers_same (has_read stages states feed) users i place (is_marked (rank stages) c.args.marks.now place) (omega arith) (sym c.is_reader.ensures ∙ w.if-is_reader.false);
+                ∙ readers_same (has_read stages states feed) listed i place (is_marked (rank stages) c.args.marks.now place) (omega arith) (sym c.is_reader.ensures ∙ w.if-is_reader.false);
             marks = λ are. subst (λ (marks : List (ℕ × ℕ)). AreMarks (rank stages) marks) (sym w.marks-is) (inv.marks are);
           }
     ]
@@ -48,9 +48,9 @@ pub returns-clause-marked : goal.returns-clause-marked
 returns-clause-marked g c place =
     let stages = c.args.graph.now.places in
     let reads_it = has_read stages (state_at c.args.states.now) c.args.feed in
-    let users = c.users_of-users.result.now in
-    let all : take c.loop-user.user-index users ≡ dependents stages c.args.feed =
-    take_all c.loop-user.user-index users (omega arith) ∙ c.users_of-users.ensures ∙ ap (λ (graph : PlainGraph). dependents graph.places c.args.feed) c.requires.order in
-    c.loop-user.invariant.marked place
+    let listed = c.dependents_of-dependents.result.now in
+    let all : take c.loop-dependent.dependent-index listed ≡ dependents stages c.args.feed =
+    take_all c.loop-dependent.dependent-index listed (omega arith) ∙ c.dependents_of-dependents.ensures ∙ ap (λ (graph : PlainGraph). dependents graph.places c.args.feed) c.requires.order in
+    c.loop-dependent.invariant.marked place
     ∙ ap (λ xs. is_marked (rank stages) c.args.marks.now place || among_readers reads_it xs place) all
     ∙ ap (λ b. is_marked (rank stages) c.args.marks.now place || b) (among_readers_all stages reads_it c.args.feed place)

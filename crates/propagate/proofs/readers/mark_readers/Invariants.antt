@@ -7,10 +7,10 @@ use Rattle.propagate.proofs.Reading.{among_readers}
 use Rattle.propagate.proofs.readers.mark_readers.Given as goal
 
 -- the marks from before, and the readers among the dependents so far
-abbrev pub invariant-loop-user : goal.invariant-loop-user
-invariant-loop-user g l =
+abbrev pub invariant-loop-dependent : goal.invariant-loop-dependent
+invariant-loop-dependent g l =
     let stages = l.graph.places in
     record {
-      marked : (place : ℕ) → is_marked (rank stages) l.marks place ≡ (is_marked (rank stages) l.fn.marks place || among_readers (has_read stages (state_at l.states) l.feed) (take l.user-index l.users) place);
+      marked : (place : ℕ) → is_marked (rank stages) l.marks place ≡ (is_marked (rank stages) l.fn.marks place || among_readers (has_read stages (state_at l.states) l.feed) (take l.dependent-index l.dependents) place);
       marks : AreMarks (rank stages) l.fn.marks → AreMarks (rank stages) l.marks;
     }
