@@ -3,23 +3,16 @@ ghost use Rattle.std.specs.Prelude.{◌≡◌, [], ◌∷◌, ◌++◌, OnOk};
 ghost use Rattle.serde_json.specs.View.{view};
 ghost use Rattle.stage_graph.specs.EditLists.{edit_list};
 ghost use Rattle.recording.specs.Tables.{beside};
-ghost use Rattle.recording.specs.Members.{of_form, required};
-ghost use Rattle.recording.specs.StepOf.{edit_names, new_in, form_of_new, stage_member, edit_of, listed_edit, edits_member, with_list_size};
-ghost use Rattle.recording.specs.ExpressionOf.{expression_of};
+ghost use Rattle.recording.specs.StepOf.{edit_names, edit_name_in, new_in, form_of_new, edit_of, listed_edit, edits_member, with_list_size};
 ghost use Rattle.recording.specs.Reads.{IsRead};
-ghost use Rattle.recording.specs.declared.member.Member.TheVariants as member;
 
-use crate::expression::read_expression;
-use crate::object::{
-    required_count, required_ends, required_name, required_names, required_pin_moment,
-    required_pin_result,
-};
+use crate::from_json::FromJson;
+use crate::object::required;
 use crate::stage::{FormNumber, read_spec};
 use crate::unread::Unread;
 use crate::{Fault, Member};
-use act_expr::Expr;
 use serde_json::Value;
-use stage_graph::{Edit, Edits, Name, Spec};
+use stage_graph::{Edit, Edits, Spec};
 use std::alloc::{AllocError, Global};
 use std::marker::Model;
 
@@ -57,6 +50,17 @@ impl EditName {
     }
 }
 
+impl FromJson for EditName {
+    ghost form = { edit_name_in };
+
+    fn from_json(_: Global, value: &Value) -> Result<EditName, Unread> {
+        match value.as_str() {
+            Some(text) => EditName::new(text).ok_or(Unread::Shape),
+            None => Err(Unread::Shape),
+        }
+    }
+}
+
 /// A new stage has the times of form 2 if `queued` or `runs` is present, and else those of form 1.
 fn form_of_new(object: &Value) -> FormNumber
     ensures { result ≡ form_of_new (view object.now) }
@@ -78,85 +82,50 @@ fn read_new(alloc: Global, value: &Value) -> Result<Spec, Fault>
     }
 }
 
-/// The action that is to be set.
-fn required_action(alloc: Global, object: &Value) -> Result<Expr, Fault>
-    ensures { IsRead result (required member.Action expression_of (view object.now)) }
-{
-    let Some(value) = object.get(Member::Action.text()) else {
-        return Err(Fault::Shape(Member::Action));
-    };
-    match read_expression(alloc, value) {
-        Ok(action) => Ok(action),
-        Err(Unread::Shape) => Err(Fault::Shape(Member::Action)),
-        Err(Unread::Memory) => Err(Fault::Memory),
-    }
-}
-
-/// The name of the stage that a step is for: its `stage`.
-pub(crate) fn read_stage_name(alloc: Global, object: &Value) -> Result<Name, Fault>
-    ensures { IsRead result (stage_member (view object.now)) }
-{
-    required_name(alloc, object, Member::Stage)
-}
-
 /// The edit of a name, from the members of its step.
 #[tactic(auto, unfolding(crate::specs::StepOf::edit_of))]
 pub(crate) fn read_edit(alloc: Global, name: EditName, object: &Value) -> Result<Edit, Fault>
     ensures { IsRead result (edit_of name (view object.now)) }
 {
     match name {
-        EditName::PinResult => {
-            let name = read_stage_name(alloc, object)?;
-            let result = required_pin_result(object, Member::Result)?;
-            Ok(Edit::PinResult { name, result })
-        }
-        EditName::PinMoment => {
-            let name = read_stage_name(alloc, object)?;
-            let moment = required_pin_moment(object, Member::At)?;
-            Ok(Edit::PinMoment { name, moment })
-        }
-        EditName::SetTakes => {
-            let name = read_stage_name(alloc, object)?;
-            let runs = required_count(object, Member::Takes)?;
-            Ok(Edit::SetTimes {
-                name,
-                queued: 0,
-                runs,
-            })
-        }
-        EditName::SetTimes => {
-            let name = read_stage_name(alloc, object)?;
-            let queued = required_count(object, Member::Queued)?;
-            let runs = required_count(object, Member::Runs)?;
-            Ok(Edit::SetTimes { name, queued, runs })
-        }
-        EditName::SetAction => {
-            let name = read_stage_name(alloc, object)?;
-            let action = required_action(alloc, object)?;
-            Ok(Edit::SetAction { name, action })
-        }
-        EditName::SetEnds => {
-            let name = read_stage_name(alloc, object)?;
-            let ends = required_ends(alloc, object, Member::Ends)?;
-            Ok(Edit::SetEnds { name, ends })
-        }
+        EditName::PinResult => Ok(Edit::PinResult {
+            name: required(alloc, object, Member::Stage)?,
+            result: required(alloc, object, Member::Result)?,
+        }),
+        EditName::PinMoment => Ok(Edit::PinMoment {
+            name: required(alloc, object, Member::Stage)?,
+            moment: required(alloc, object, Member::At)?,
+        }),
+        EditName::SetTakes => Ok(Edit::SetTimes {
+            name: required(alloc, object, Member::Stage)?,
+            queued: 0,
+            runs: required(alloc, object, Member::Takes)?,
+        }),
+        EditName::SetTimes => Ok(Edit::SetTimes {
+            name: required(alloc, object, Member::Stage)?,
+            queued: required(alloc, object, Member::Queued)?,
+            runs: required(alloc, object, Member::Runs)?,
+        }),
+        EditName::SetAction => Ok(Edit::SetAction {
+            name: required(alloc, object, Member::Stage)?,
+            action: required(alloc, object, Member::Action)?,
+        }),
+        EditName::SetEnds => Ok(Edit::SetEnds {
+            name: required(alloc, object, Member::Stage)?,
+            ends: required(alloc, object, Member::Ends)?,
+        }),
         EditName::Add => {
             let Some(new) = object.get(Member::New.text()) else {
                 return Err(Fault::Shape(Member::New));
             };
             Ok(Edit::Add(read_new(alloc, new)?))
         }
-        EditName::Remove => Ok(Edit::Remove(read_stage_name(alloc, object)?)),
-        EditName::Rewire => {
-            let name = read_stage_name(alloc, object)?;
-            let sources = required_names(alloc, object, Member::Sources)?;
-            let inner = required_names(alloc, object, Member::Inner)?;
-            Ok(Edit::Rewire {
-                name,
-                sources,
-                inner,
-            })
-        }
+        EditName::Remove => Ok(Edit::Remove(required(alloc, object, Member::Stage)?)),
+        EditName::Rewire => Ok(Edit::Rewire {
+            name: required(alloc, object, Member::Stage)?,
+            sources: required(alloc, object, Member::Sources)?,
+            inner: required(alloc, object, Member::Inner)?,
+        }),
     }
 }
 
@@ -215,15 +184,7 @@ fn read_listed_edit(alloc: Global, value: &Value) -> Result<Edit, Fault>
 {
     match value {
         Value::Object(_) => {
-            let Some(text) = value.get(Member::Do.text()) else {
-                return Err(Fault::Shape(Member::Do));
-            };
-            let Some(text) = text.as_str() else {
-                return Err(Fault::Shape(Member::Do));
-            };
-            let Some(name) = EditName::new(text) else {
-                return Err(Fault::Shape(Member::Do));
-            };
+            let name = required::<EditName>(alloc, value, Member::Do)?;
             read_edit(alloc, name, value)
         }
         _ => Err(Fault::Shape(Member::Edits)),

@@ -5,6 +5,7 @@ ghost use Rattle.recording.specs.Tables.{beside};
 ghost use Rattle.recording.specs.ExpressionOf.{words, word_in, position_in, exception_in, expression_of};
 ghost use Rattle.recording.specs.Reads.{Reads};
 
+use crate::from_json::FromJson;
 use crate::unread::Unread;
 use act_expr::{ExName, Expr, Form, Operator, Position};
 use serde_json::Value;
@@ -69,8 +70,16 @@ pub(crate) fn exception_in(value: &Value) -> Option<ExName>
     ExName::new(value.as_str()?)
 }
 
+impl FromJson for ExName {
+    ghost form = { exception_in };
+
+    fn from_json(_: Global, value: &Value) -> Result<ExName, Unread> {
+        exception_in(value).ok_or(Unread::Shape)
+    }
+}
+
 /// The expression that a JSON value is. It recurses no deeper than JSON is nested, which is 127 levels.
-pub(crate) fn read_expression(alloc: Global, value: &Value) -> Result<Expr, Unread>
+fn read_expression(alloc: Global, value: &Value) -> Result<Expr, Unread>
     ensures { Reads result (expression_of (view value.now)) }
 {
     match value {
@@ -129,5 +138,13 @@ pub(crate) fn read_expression(alloc: Global, value: &Value) -> Result<Expr, Unre
             }
         }
         Value::Bool(_) | Value::String(_) | Value::Object(_) => Err(Unread::Shape),
+    }
+}
+
+impl FromJson for Expr {
+    ghost form = { expression_of };
+
+    fn from_json(alloc: Global, value: &Value) -> Result<Expr, Unread> {
+        read_expression(alloc, value)
     }
 }

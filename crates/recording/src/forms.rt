@@ -2,12 +2,15 @@
 ghost use Rattle.std.specs.Prelude.{◌≡◌};
 ghost use Rattle.serde_json.specs.View.{view};
 ghost use Rattle.recording.specs.Tables.{beside};
-ghost use Rattle.recording.specs.Forms.{count_in, count32_in, value_in, op_names, or_null, outcome_in, act_names, act_of, act_in, end_in};
+ghost use Rattle.recording.specs.Forms.{value_in, op_names, op_name_in, outcome_in, act_names, act_of, act_in, end_in, ends_in};
 
 use crate::expression::exception_in;
+use crate::from_json::FromJson;
+use crate::unread::Unread;
 use act_expr::Outcome;
 use serde_json::Value;
-use stage_graph::{Act, End, Op};
+use stage_graph::{Act, End, Ends, Op};
+use std::alloc::Global;
 
 /// The name of an operation. For the last two, another member has the value or the exception.
 #[derive(Clone, Copy, PartialEq, Eq, Debug)]
@@ -61,6 +64,20 @@ impl OpName {
     }
 }
 
+impl FromJson for OpName {
+    ghost form = { op_name_in };
+
+    fn from_json(_: Global, value: &Value) -> Result<OpName, Unread> {
+        let Some(text) = value.as_str() else {
+            return Err(Unread::Shape);
+        };
+        match OpName::new(text) {
+            Some(name) => Ok(name),
+            None => Err(Unread::Shape),
+        }
+    }
+}
+
 impl ActName {
     /// The act that a text names, if it names one.
     fn new(text: &str) -> Option<ActName>
@@ -77,15 +94,8 @@ impl ActName {
     }
 }
 
-/// A count below 2^32.
-pub(crate) fn count32_in(value: &Value) -> Option<u32>
-    ensures { result ≡ count32_in (view value.now) }
-{
-    u32::try_from(value.as_u64()?).ok()
-}
-
 /// A number or null.
-pub(crate) fn value_in(value: &Value) -> Option<act_expr::Value>
+fn value_in(value: &Value) -> Option<act_expr::Value>
     ensures { result ≡ value_in (view value.now) }
 {
     match value {
@@ -95,8 +105,16 @@ pub(crate) fn value_in(value: &Value) -> Option<act_expr::Value>
     }
 }
 
+impl FromJson for act_expr::Value {
+    ghost form = { value_in };
+
+    fn from_json(_: Global, value: &Value) -> Result<act_expr::Value, Unread> {
+        value_in(value).ok_or(Unread::Shape)
+    }
+}
+
 /// An object with exactly one of `value`, `bare` and `wrapped`.
-pub(crate) fn outcome_in(value: &Value) -> Option<Outcome>
+fn outcome_in(value: &Value) -> Option<Outcome>
     ensures { result ≡ outcome_in (view value.now) }
 {
     match (value.get("value"), value.get("bare"), value.get("wrapped")) {
@@ -107,23 +125,11 @@ pub(crate) fn outcome_in(value: &Value) -> Option<Outcome>
     }
 }
 
-/// An outcome, or null for none.
-pub(crate) fn pin_result_in(value: &Value) -> Option<Option<Outcome>>
-    ensures { result ≡ or_null outcome_in (view value.now) }
-{
-    match value {
-        Value::Null => Some(None),
-        _ => Some(Some(outcome_in(value)?)),
-    }
-}
+impl FromJson for Outcome {
+    ghost form = { outcome_in };
 
-/// A count, or null for none.
-pub(crate) fn pin_moment_in(value: &Value) -> Option<Option<u64>>
-    ensures { result ≡ or_null count_in (view value.now) }
-{
-    match value {
-        Value::Null => Some(None),
-        _ => Some(Some(value.as_u64()?)),
+    fn from_json(_: Global, value: &Value) -> Result<Outcome, Unread> {
+        outcome_in(value).ok_or(Unread::Shape)
     }
 }
 
@@ -158,10 +164,29 @@ fn act_in(end: &Value) -> Option<Act>
 }
 
 /// An end.
-pub(crate) fn end_in(value: &Value) -> Option<End>
+fn end_in(value: &Value) -> Option<End>
     ensures { result ≡ end_in (view value.now) }
 {
     let at = value.get("at")?.as_u64()?;
     let act = act_in(value)?;
     Some(End { at, act })
+}
+
+/// An array of ends.
+impl FromJson for Ends {
+    ghost form = { ends_in };
+
+    fn from_json(alloc: Global, value: &Value) -> Result<Ends, Unread> {
+        let Some(items) = value.as_array() else {
+            return Err(Unread::Shape);
+        };
+        let mut ends = Ends::new(alloc);
+        for item in items.as_slice() {
+            let Some(end) = end_in(item) else {
+                return Err(Unread::Shape);
+            };
+            ends.push(end)?;
+        }
+        Ok(ends)
+    }
 }

@@ -8,6 +8,7 @@ mod edits;
 mod expression;
 mod fault;
 mod forms;
+mod from_json;
 mod json;
 mod law;
 mod member;

@@ -2,17 +2,15 @@
 //!
 //! The bytes are checked in this order: their number, whether they are JSON, the members of the recording and of each
 //! stage in turn, the checks of the graph stage by stage, and last of all its cycles.
-ghost use Rattle.std.specs.Prelude.{◌≡◌};
 ghost use Rattle.serde_json.specs.View.{view};
-ghost use Rattle.act_expr.specs.declared.outcome.Mode.TheVariants.{Computed};
-ghost use Rattle.recording.specs.Members.{optional};
 ghost use Rattle.recording.specs.RecordingOf.{form_in, mode_in, stage_of, stages_member, recording_of, recorded, graph_of, named};
 ghost use Rattle.recording.specs.Reads.{IsRead, IsNamed};
-ghost use Rattle.recording.specs.declared.member.Member.TheVariants as member;
-ghost use Rattle.recording.specs.declared.stage.FormNumber.TheVariants.{One};
 
+use crate::from_json::FromJson;
 use crate::json::read_json;
+use crate::object::optional;
 use crate::stage::{FormNumber, read_spec};
+use crate::unread::Unread;
 use crate::{Fault, Member};
 use act_expr::Mode;
 use serde_json::Value;
@@ -29,31 +27,29 @@ pub(crate) struct Recording {
     pub stages: Specs,
 }
 
-/// The form of the stages' times: 1 or 2; 1 if it is absent.
-fn read_form(object: &Value) -> Result<FormNumber, Fault>
-    ensures { IsRead result (optional member.Form One form_in (view object.now)) }
-{
-    let Some(value) = object.get(Member::Form.text()) else {
-        return Ok(FormNumber::One);
-    };
-    match value.as_i64() {
-        Some(1) => Ok(FormNumber::One),
-        Some(2) => Ok(FormNumber::Two),
-        _ => Err(Fault::Shape(Member::Form)),
+/// The form of the stages' times: 1 or 2.
+impl FromJson for FormNumber {
+    ghost form = { form_in };
+
+    fn from_json(_: Global, value: &Value) -> Result<FormNumber, Unread> {
+        match value.as_i64() {
+            Some(1) => Ok(FormNumber::One),
+            Some(2) => Ok(FormNumber::Two),
+            _ => Err(Unread::Shape),
+        }
     }
 }
 
-/// The wrap mode; `computed` if it is absent.
-fn read_mode(object: &Value) -> Result<Mode, Fault>
-    ensures { IsRead result (optional member.Wrap Computed mode_in (view object.now)) }
-{
-    let Some(value) = object.get(Member::Wrap.text()) else {
-        return Ok(Mode::Computed);
-    };
-    match value.as_str() {
-        Some("computed") => Ok(Mode::Computed),
-        Some("literal") => Ok(Mode::Literal),
-        _ => Err(Fault::Shape(Member::Wrap)),
+/// The wrap mode.
+impl FromJson for Mode {
+    ghost form = { mode_in };
+
+    fn from_json(_: Global, value: &Value) -> Result<Mode, Unread> {
+        match value.as_str() {
+            Some("computed") => Ok(Mode::Computed),
+            Some("literal") => Ok(Mode::Literal),
+            _ => Err(Unread::Shape),
+        }
     }
 }
 
@@ -92,8 +88,8 @@ fn read_value(alloc: Global, value: &Value) -> Result<Recording, Fault>
 {
     match value {
         Value::Object(_) => {
-            let form = read_form(value)?;
-            let mode = read_mode(value)?;
+            let form = optional(alloc, value, Member::Form, FormNumber::One)?;
+            let mode = optional(alloc, value, Member::Wrap, Mode::Computed)?;
             let stages = read_stages(alloc, form, value)?;
             Ok(Recording { mode, stages })
         }

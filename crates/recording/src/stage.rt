@@ -1,22 +1,13 @@
 //! Stages, recorded or new, read from JSON.
-ghost use Rattle.std.specs.Prelude.{◌≡◌, None};
 ghost use Rattle.serde_json.specs.View.{view};
-ghost use Rattle.recording.specs.Members.{optional};
-ghost use Rattle.recording.specs.StageOf.{op_of, action_in, times_of, spec_of};
+ghost use Rattle.recording.specs.StageOf.{op_of, times_of, spec_of};
 ghost use Rattle.recording.specs.Reads.{IsRead};
-ghost use Rattle.recording.specs.declared.member.Member.TheVariants as member;
 
-use crate::expression::read_expression;
 use crate::forms::OpName;
-use crate::object::{
-    count_or_zero, ends_or_none, names_or_none, pin_moment_or_none, pin_result_or_none,
-    required_exception, required_name, required_value,
-};
-use crate::unread::Unread;
+use crate::object::{if_present, optional, required};
 use crate::{Fault, Member};
-use act_expr::Expr;
 use serde_json::Value;
-use stage_graph::{Op, Spec};
+use stage_graph::{Ends, NameList, Op, Spec};
 use std::alloc::Global;
 
 /// How a recording gives the time that a stage takes.
@@ -36,54 +27,33 @@ pub(crate) struct Times {
 }
 
 /// The operation, with the value of `completed` and the exception of `failed`.
-fn read_op(object: &Value) -> Result<Op, Fault>
+fn read_op(alloc: Global, object: &Value) -> Result<Op, Fault>
     ensures { IsRead result (op_of (view object.now)) }
 {
-    let Some(value) = object.get(Member::Op.text()) else {
-        return Err(Fault::Shape(Member::Op));
-    };
-    let Some(text) = value.as_str() else {
-        return Err(Fault::Shape(Member::Op));
-    };
-    match OpName::new(text) {
-        Some(OpName::Plain(op)) => Ok(op),
-        Some(OpName::Completed) => Ok(Op::Completed(required_value(object, Member::Value)?)),
-        Some(OpName::Failed) => Ok(Op::Failed(required_exception(object, Member::Throws)?)),
-        None => Err(Fault::Shape(Member::Op)),
+    match required::<OpName>(alloc, object, Member::Op)? {
+        OpName::Plain(op) => Ok(op),
+        OpName::Completed => Ok(Op::Completed(required(alloc, object, Member::Value)?)),
+        OpName::Failed => Ok(Op::Failed(required(alloc, object, Member::Throws)?)),
     }
 }
 
 /// The times; each is 0 if it is absent.
-fn read_times(form: FormNumber, object: &Value) -> Result<Times, Fault>
+fn read_times(alloc: Global, form: FormNumber, object: &Value) -> Result<Times, Fault>
     ensures { IsRead result (times_of form (view object.now)) }
 {
     match form {
         FormNumber::One => {
-            let runs = count_or_zero(object, Member::Takes)?;
+            let runs = optional(alloc, object, Member::Takes, 0)?;
             Ok(Times { queued: 0, runs })
         }
         FormNumber::Two => {
             if object.get(Member::Takes.text()).is_some() {
                 return Err(Fault::Shape(Member::Takes));
             }
-            let queued = count_or_zero(object, Member::Queued)?;
-            let runs = count_or_zero(object, Member::Runs)?;
+            let queued = optional(alloc, object, Member::Queued, 0)?;
+            let runs = optional(alloc, object, Member::Runs, 0)?;
             Ok(Times { queued, runs })
         }
-    }
-}
-
-/// The action, if there is one; null is the expression null.
-fn action_or_none(alloc: Global, object: &Value) -> Result<Option<Expr>, Fault>
-    ensures { IsRead result (optional member.Action None action_in (view object.now)) }
-{
-    let Some(value) = object.get(Member::Action.text()) else {
-        return Ok(None);
-    };
-    match read_expression(alloc, value) {
-        Ok(action) => Ok(Some(action)),
-        Err(Unread::Shape) => Err(Fault::Shape(Member::Action)),
-        Err(Unread::Memory) => Err(Fault::Memory),
     }
 }
 
@@ -92,16 +62,16 @@ fn action_or_none(alloc: Global, object: &Value) -> Result<Option<Expr>, Fault>
 pub(crate) fn read_spec(alloc: Global, form: FormNumber, object: &Value) -> Result<Spec, Fault>
     ensures { IsRead result (spec_of form (view object.now)) }
 {
-    let name = required_name(alloc, object, Member::Name)?;
-    let op = read_op(object)?;
-    let sources = names_or_none(alloc, object, Member::Sources)?;
-    let inner = names_or_none(alloc, object, Member::Inner)?;
-    let created = count_or_zero(object, Member::Created)?;
-    let times = read_times(form, object)?;
-    let action = action_or_none(alloc, object)?;
-    let pin_result = pin_result_or_none(object, Member::PinResult)?;
-    let pin_moment = pin_moment_or_none(object, Member::PinMoment)?;
-    let ends = ends_or_none(alloc, object, Member::Ends)?;
+    let name = required(alloc, object, Member::Name)?;
+    let op = read_op(alloc, object)?;
+    let sources = optional(alloc, object, Member::Sources, NameList::new(alloc))?;
+    let inner = optional(alloc, object, Member::Inner, NameList::new(alloc))?;
+    let created = optional(alloc, object, Member::Created, 0)?;
+    let times = read_times(alloc, form, object)?;
+    let action = if_present(alloc, object, Member::Action)?;
+    let pin_result = optional(alloc, object, Member::PinResult, None)?;
+    let pin_moment = optional(alloc, object, Member::PinMoment, None)?;
+    let ends = optional(alloc, object, Member::Ends, Ends::new(alloc))?;
     Ok(Spec {
         name,
         op,

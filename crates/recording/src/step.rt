@@ -2,15 +2,14 @@
 ghost use Rattle.std.specs.Prelude.{◌≡◌};
 ghost use Rattle.serde_json.specs.View.{view};
 ghost use Rattle.recording.specs.Tables.{beside};
-ghost use Rattle.recording.specs.Members.{required};
 ghost use Rattle.recording.specs.Reads.{IsRead};
-ghost use Rattle.recording.specs.declared.member.Member.TheVariants as member;
-ghost use Rattle.recording.specs.StepOf.{step_name_of, step_name_in, report_names, report_name_in, optional_count32, subject_in, asked_of, step_with, step_in, step_of};
+ghost use Rattle.recording.specs.StepOf.{step_name_of, step_name_in, report_names, report_name_in, subject_in, asked_of, step_with, step_in, step_of};
 
-use crate::edits::{EditName, read_edit, read_edits, read_stage_name};
-use crate::forms::count32_in;
+use crate::edits::{EditName, read_edit, read_edits};
+use crate::from_json::FromJson;
 use crate::json::read_json;
-use crate::object::required_count32;
+use crate::object::{if_present, required};
+use crate::unread::Unread;
 use crate::{Fault, Member};
 use serde_json::Value;
 use stage_graph::{Edits, Name};
@@ -113,6 +112,17 @@ impl StepName {
     }
 }
 
+impl FromJson for StepName {
+    ghost form = { step_name_in };
+
+    fn from_json(_: Global, value: &Value) -> Result<StepName, Unread> {
+        match value.as_str() {
+            Some(text) => StepName::new(text).ok_or(Unread::Shape),
+            None => Err(Unread::Shape),
+        }
+    }
+}
+
 /// The name of a report.
 #[derive(Clone, Copy, PartialEq, Eq, Debug)]
 pub(crate) enum ReportName {
@@ -147,57 +157,29 @@ impl ReportName {
     }
 }
 
-/// What the step does: its `do`.
-fn read_step_name(object: &Value) -> Result<StepName, Fault>
-    ensures { IsRead result (required member.Do step_name_in (view object.now)) }
-{
-    let Some(value) = object.get(Member::Do.text()) else {
-        return Err(Fault::Shape(Member::Do));
-    };
-    let Some(text) = value.as_str() else {
-        return Err(Fault::Shape(Member::Do));
-    };
-    StepName::new(text).ok_or(Fault::Shape(Member::Do))
-}
+impl FromJson for ReportName {
+    ghost form = { report_name_in };
 
-/// What the report is: its `what`.
-fn read_report_name(object: &Value) -> Result<ReportName, Fault>
-    ensures { IsRead result (required member.What report_name_in (view object.now)) }
-{
-    let Some(value) = object.get(Member::What.text()) else {
-        return Err(Fault::Shape(Member::What));
-    };
-    let Some(text) = value.as_str() else {
-        return Err(Fault::Shape(Member::What));
-    };
-    ReportName::new(text).ok_or(Fault::Shape(Member::What))
-}
-
-/// A count below 2^32, if the object has the member.
-fn read_optional_count32(object: &Value, member: Member) -> Result<Option<u32>, Fault>
-    ensures { IsRead result (optional_count32 member (view object.now)) }
-{
-    let Some(value) = object.get(member.text()) else {
-        return Ok(None);
-    };
-    match count32_in(value) {
-        Some(count) => Ok(Some(count)),
-        None => Err(Fault::Shape(member)),
+    fn from_json(_: Global, value: &Value) -> Result<ReportName, Unread> {
+        match value.as_str() {
+            Some(text) => ReportName::new(text).ok_or(Unread::Shape),
+            None => Err(Unread::Shape),
+        }
     }
 }
 
 /// What the report is of: the version at which a session stands if there is `session`, and then `version` is a fault.
-fn read_subject(object: &Value) -> Result<Subject, Fault>
+fn read_subject(alloc: Global, object: &Value) -> Result<Subject, Fault>
     ensures { IsRead result (subject_in (view object.now)) }
 {
     if object.get(Member::Session.text()).is_none() {
-        let version = required_count32(object, Member::Version)?;
+        let version = required(alloc, object, Member::Version)?;
         return Ok(Subject::Version(version));
     }
     if object.get(Member::Version.text()).is_some() {
         return Err(Fault::Shape(Member::Session));
     }
-    let session = required_count32(object, Member::Session)?;
+    let session = required(alloc, object, Member::Session)?;
     Ok(Subject::Head(session))
 }
 
@@ -207,18 +189,12 @@ fn read_asked(alloc: Global, name: ReportName, object: &Value) -> Result<Asked, 
 {
     match name {
         ReportName::All => Ok(Asked::All),
-        ReportName::One => Ok(Asked::One(read_stage_name(alloc, object)?)),
-        ReportName::Blame => Ok(Asked::Blame(read_stage_name(alloc, object)?)),
-        ReportName::Path => Ok(Asked::Path(read_stage_name(alloc, object)?)),
-        ReportName::Sweep => Ok(Asked::Sweep(read_stage_name(alloc, object)?)),
-        ReportName::Changes => {
-            let against = read_optional_count32(object, Member::Against)?;
-            Ok(Asked::Changes(against))
-        }
-        ReportName::Drift => {
-            let against = read_optional_count32(object, Member::Against)?;
-            Ok(Asked::Drift(against))
-        }
+        ReportName::One => Ok(Asked::One(required(alloc, object, Member::Stage)?)),
+        ReportName::Blame => Ok(Asked::Blame(required(alloc, object, Member::Stage)?)),
+        ReportName::Path => Ok(Asked::Path(required(alloc, object, Member::Stage)?)),
+        ReportName::Sweep => Ok(Asked::Sweep(required(alloc, object, Member::Stage)?)),
+        ReportName::Changes => Ok(Asked::Changes(if_present(alloc, object, Member::Against)?)),
+        ReportName::Drift => Ok(Asked::Drift(if_present(alloc, object, Member::Against)?)),
         ReportName::Times => Ok(Asked::Times),
         ReportName::Recording => Ok(Asked::Recording),
     }
@@ -230,26 +206,22 @@ fn read_members(alloc: Global, name: StepName, object: &Value) -> Result<Step, F
     ensures { IsRead result (step_with name (view object.now)) }
 {
     match name {
-        StepName::Open => {
-            let session = required_count32(object, Member::Session)?;
-            let version = required_count32(object, Member::Version)?;
-            Ok(Step::Open { session, version })
-        }
-        StepName::Head => {
-            let session = required_count32(object, Member::Session)?;
-            Ok(Step::Head { session })
-        }
-        StepName::Undo => {
-            let session = required_count32(object, Member::Session)?;
-            Ok(Step::Undo { session })
-        }
-        StepName::Close => {
-            let session = required_count32(object, Member::Session)?;
-            Ok(Step::Close { session })
-        }
+        StepName::Open => Ok(Step::Open {
+            session: required(alloc, object, Member::Session)?,
+            version: required(alloc, object, Member::Version)?,
+        }),
+        StepName::Head => Ok(Step::Head {
+            session: required(alloc, object, Member::Session)?,
+        }),
+        StepName::Undo => Ok(Step::Undo {
+            session: required(alloc, object, Member::Session)?,
+        }),
+        StepName::Close => Ok(Step::Close {
+            session: required(alloc, object, Member::Session)?,
+        }),
         StepName::Change(name) => {
-            let session = required_count32(object, Member::Session)?;
-            let base = read_optional_count32(object, Member::Base)?;
+            let session = required(alloc, object, Member::Session)?;
+            let base = if_present(alloc, object, Member::Base)?;
             let edit = read_edit(alloc, name, object)?;
             Ok(Step::Change {
                 session,
@@ -258,20 +230,15 @@ fn read_members(alloc: Global, name: StepName, object: &Value) -> Result<Step, F
                 listed: false,
             })
         }
-        StepName::Edits => {
-            let session = required_count32(object, Member::Session)?;
-            let base = read_optional_count32(object, Member::Base)?;
-            let edits = read_edits(alloc, object)?;
-            Ok(Step::Change {
-                session,
-                base,
-                edits,
-                listed: true,
-            })
-        }
+        StepName::Edits => Ok(Step::Change {
+            session: required(alloc, object, Member::Session)?,
+            base: if_present(alloc, object, Member::Base)?,
+            edits: read_edits(alloc, object)?,
+            listed: true,
+        }),
         StepName::Report => {
-            let subject = read_subject(object)?;
-            let name = read_report_name(object)?;
+            let subject = read_subject(alloc, object)?;
+            let name = required::<ReportName>(alloc, object, Member::What)?;
             let asked = read_asked(alloc, name, object)?;
             Ok(Step::Report { subject, asked })
         }
@@ -284,7 +251,7 @@ fn read_value(alloc: Global, value: &Value) -> Result<Step, Fault>
 {
     match value {
         Value::Object(_) => {
-            let name = read_step_name(value)?;
+            let name = required::<StepName>(alloc, value, Member::Do)?;
             read_members(alloc, name, value)
         }
         _ => Err(Fault::Shape(Member::Step)),

@@ -1,13 +1,13 @@
-//! Why an expression was not read.
+//! Why a value was not read from JSON.
 ghost use Rattle.std.specs.Prelude.{Some, Ok, Err};
 
 use std::alloc::AllocError;
 use thiserror::Error;
 
-/// Why an expression was not read.
+/// Why a value was not read from JSON.
 #[derive(Clone, Copy, PartialEq, Eq, Debug, Error)]
 pub(crate) enum Unread {
-    #[error("the JSON is no expression")]
+    #[error("the JSON does not have the value's form")]
     Shape,
     #[error("out of memory")]
     Memory,

@@ -1,7 +1,7 @@
 use Rattle.std.proofs.Common.{◌≡◌, ◌++◌, drop, option_map}
 use Rattle.serde_json.specs.View.{items_view}
 use Rattle.recording.specs.Forms.{ends_of}
-use Rattle.recording.proofs.object.read_ends.Given as goal
+use Rattle.recording.proofs.forms.EndsFromJson.from_json.Given as goal
 
 -- the ends are those read so far, and those of the items that are left
 abbrev pub invariant-loop-item : goal.invariant-loop-item
