@@ -5,3 +5,4 @@ pub mod Moments
 pub mod ByPlace
 pub mod Keeping
 pub mod Reasoning
+pub mod PathsOf

@@ -1,14 +1,12 @@
 //! Chains of blame.
 ghost use Rattle.std.specs.Prelude.{◌≡◌, IfOk, length};
 ghost use Rattle.stage_ops.specs.Java.{java_step};
-ghost use Rattle.scratch_eval.specs.Blame.{failure_of, followed};
-ghost use Rattle.scratch_eval.specs.Queries.{AnswersOrMemory, chain_at};
+ghost use Rattle.scratch_eval.specs.Blame.{chain, failure_of, followed};
 ghost use Rattle.version_store.specs.Queries.{state_of};
 
 use crate::evaluated::Evaluated;
 use act_expr::Outcome;
 use propagate::StateRepresentation;
-use scratch_eval::QueryFault;
 use stage_graph::Places;
 use stage_ops::Done;
 use std::alloc::{AllocError, Global};
@@ -44,16 +42,12 @@ impl<R: StateRepresentation> Evaluated<R> {
         Ok(Places::from_vec(chain))
     }
 
-    /// The chain of blame of the stage at a place.
-    pub(crate) fn blame(&self, alloc: Global, place: u32) -> Result<Places, QueryFault>
-        ensures { AnswersOrMemory (chain_at (java_step self.now.mode) self.now.places place) result }
+    /// The chain of blame of the stage at a place; empty where none stands.
+    pub(crate) fn blame(&self, alloc: Global, place: u32) -> Result<Places, AllocError>
+        ensures { IfOk result (λ places. places ≡ chain (java_step self.now.mode) self.now.places place) }
     {
         let graph = self.graph();
         let _ = graph.len();
-        let Some(_) = graph.stage(place) else {
-            return Err(QueryFault::NoStage);
-        };
-        let chain = self.follow(alloc, place)?;
-        Ok(chain)
+        self.follow(alloc, place)
     }
 }

@@ -4,6 +4,7 @@
 //! [`Version::load`] evaluates the graph from scratch. [`Version::draft`] applies a list of edits and computes only
 //! the stages that they can reach; [`Draft::numbered`] makes a version of the draft. A version shares with its
 //! parent what the edits don't change, and answers as if its graph had been evaluated from scratch.
+//! [`Version::stage`] looks a stage up, and its [`StageView`] answers what is asked of it.
 #![tactic(auto)]
 
 mod before;
@@ -14,9 +15,11 @@ mod evaluated;
 mod origin;
 mod path;
 mod version;
+mod view;
 
 pub use before::Before;
 pub use draft::Draft;
 pub use propagate::StateRepresentation;
 pub use scratch_eval::{NoStage, QueryFault};
 pub use version::Version;
+pub use view::StageView;

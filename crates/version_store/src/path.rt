@@ -1,14 +1,13 @@
 //! Paths: why a stage completed when it did, or why it is pending.
 ghost use Rattle.std.specs.Prelude.{◌≡◌, IfOk, Some, length};
-ghost use Rattle.stage_graph.specs.Plain.{stage_at};
+ghost use Rattle.stage_graph.specs.Plain.{stage_at, IsLive};
 ghost use Rattle.stage_ops.specs.Reasons.{feed_in};
 ghost use Rattle.scratch_eval.specs.Path.{IsPath, path, reason_at, reason_in};
-ghost use Rattle.scratch_eval.specs.Queries.{AnswersOrMemory, list_at};
 ghost use Rattle.version_store.specs.Queries.{told};
 
 use crate::evaluated::Evaluated;
 use propagate::StateRepresentation;
-use scratch_eval::{NoStage, QueryFault};
+use scratch_eval::NoStage;
 use stage_graph::{Places, Stage};
 use stage_ops::{Cause, Reason};
 use std::alloc::{AllocError, Global};
@@ -52,17 +51,14 @@ impl<R: StateRepresentation> Evaluated<R> {
     }
 
     /// The path of the stage at a place.
-    pub(crate) fn path(&self, alloc: Global, place: u32) -> Result<Places, QueryFault>
-        ensures answer { AnswersOrMemory (list_at (path self.now) place (stage_at self.now.places place)) result }
+    pub(crate) fn path(&self, alloc: Global, place: u32) -> Result<Places, AllocError>
+        requires { IsLive self.now.places place }
+        ensures path { IfOk result (λ places. places ≡ path self.now place) }
         ensures adds_up { IfOk result (IsPath self.now place) }
     {
         let graph = self.graph();
         let _ = graph.len();
-        let Some(_) = graph.stage(place) else {
-            return Err(QueryFault::NoStage);
-        };
-        let path = self.follow_causes(alloc, place)?;
-        Ok(path)
+        self.follow_causes(alloc, place)
     }
 
     /// The cause of the state of the stage at a place.

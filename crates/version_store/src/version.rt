@@ -1,5 +1,6 @@
 //! Versions: a graph under its number.
 ghost use Rattle.std.specs.Prelude.{◌≡◌, ◌+◌, ◌*◌, ◌^◌, ◌≤◌, None, Some, IfOk, IfSome, MatchResult};
+ghost use Rattle.std.specs.Option.{option_map};
 ghost use Rattle.stage_graph.specs.Plain.{place_named, stage_at, dependents, IsLive};
 ghost use Rattle.stage_graph.specs.Walk.{IsRanked, rank};
 ghost use Rattle.stage_ops.specs.Joins.{joined};
@@ -13,12 +14,13 @@ ghost use Rattle.version_store.specs.Queries.{state_of, told, found, outcome_in,
 use crate::before::Before;
 use crate::evaluated::Evaluated;
 use crate::origin::Origin;
+use crate::view::StageView;
 use act_expr::Outcome;
 use propagate::StateRepresentation;
 use scratch_eval::{NoStage, QueryFault};
 use share_tree::{Again, Held};
 use stage_graph::{Graph, Places};
-use stage_ops::{Join, Reason, State, join};
+use stage_ops::{Join, Reason, State};
 use std::alloc::{AllocError, Global};
 use std::marker::Model;
 
@@ -135,22 +137,34 @@ impl<R: StateRepresentation> Version<R> {
         }
     }
 
+    /// The live stage at a place; none at an empty place and past the end.
+    pub fn stage(&self, place: u32) -> Option<StageView<'_, R>>
+        ensures version { IfSome result (λ view. view.version.now ≡ self.now) }
+        ensures place { IfSome result (λ view. view.place ≡ place) }
+        ensures stage { option_map (λ view. view.stage.now) result ≡ stage_at self.now.graph.places place }
+    {
+        match self.graph().stage(place) {
+            Some(stage) => Some(StageView {
+                version: self,
+                place,
+                stage,
+            }),
+            None => None,
+        }
+    }
+
     /// The state of the stage at a place.
     pub fn state(&self, place: u32) -> Result<State, NoStage>
         ensures { result ≡ told self.now.graph place (state_of self.now.graph place) }
     {
-        self.graph.state(place)
+        Ok(self.stage(place).ok_or(NoStage)?.state())
     }
 
     /// The outcome of the stage at a place; none while it is pending.
     pub fn outcome(&self, place: u32) -> Result<Option<Outcome>, NoStage>
         ensures { result ≡ told self.now.graph place (outcome_in (state_of self.now.graph place)) }
     {
-        let state = self.state(place)?;
-        Ok(match state.done {
-            Some(done) => Some(done.outcome),
-            None => None,
-        })
+        Ok(self.stage(place).ok_or(NoStage)?.outcome())
     }
 
     /// The tick at which the stage at a place completed; none while it is pending. It is 2^42 at most, and 2^41 more for
@@ -168,11 +182,7 @@ impl<R: StateRepresentation> Version<R> {
     fn completed(&self, place: u32) -> Result<Option<u64>, NoStage>
         ensures { result ≡ told self.now.graph place (moment_in (state_of self.now.graph place)) }
     {
-        let state = self.state(place)?;
-        Ok(match state.done {
-            Some(done) => Some(done.moment),
-            None => None,
-        })
+        Ok(self.stage(place).ok_or(NoStage)?.moment())
     }
 
     /// The tick at which the action of the stage at a place started; none while the stage is pending, and if no
@@ -180,26 +190,21 @@ impl<R: StateRepresentation> Version<R> {
     pub fn start(&self, place: u32) -> Result<Option<u64>, NoStage>
         ensures { result ≡ told self.now.graph place (start_in (state_of self.now.graph place)) }
     {
-        let state = self.state(place)?;
-        Ok(match state.done {
-            Some(done) => done.start,
-            None => None,
-        })
+        Ok(self.stage(place).ok_or(NoStage)?.start())
     }
 
     /// What `join` answers on the stage at a place.
     pub fn join(&self, place: u32) -> Result<Join, NoStage>
         ensures { result ≡ told self.now.graph place (joined (state_of self.now.graph place)) }
     {
-        let state = self.state(place)?;
-        Ok(join(&state))
+        Ok(self.stage(place).ok_or(NoStage)?.join())
     }
 
     /// The rank of the stage at a place: 0 without feeds, else 1 above the greatest rank of a feed.
     pub fn rank(&self, place: u32) -> Result<u32, NoStage>
         ensures { result ≡ told self.now.graph place (rank self.now.graph.places place) }
     {
-        self.graph.rank(place)
+        Ok(self.stage(place).ok_or(NoStage)?.rank())
     }
 
     /// The places whose stages have the stage at a place among their feeds, each once, in order.
@@ -208,7 +213,7 @@ impl<R: StateRepresentation> Version<R> {
             (λ users. (users.now ≡ dependents self.now.graph.places place) × IsLive self.now.graph.places place)
             (λ _. stage_at self.now.graph.places place ≡ None) }
     {
-        self.graph.dependents(place)
+        Ok(self.stage(place).ok_or(NoStage)?.dependents())
     }
 
     /// The stages that the version's edits touch: those that the edits name, and those that read one whose outcome,
@@ -235,14 +240,17 @@ impl<R: StateRepresentation> Version<R> {
     pub fn blame(&self, alloc: Global, place: u32) -> Result<Places, QueryFault>
         ensures { AnswersOrMemory (chain_at (java_step self.now.graph.mode) self.now.graph.places place) result }
     {
-        self.graph.blame(alloc, place)
+        match self.stage(place) {
+            Some(view) => Ok(view.blame(alloc)?),
+            None => Err(QueryFault::NoStage),
+        }
     }
 
     /// The cause of the state of the stage at a place: why it completed when it did, or why it is pending.
     pub fn reason(&self, place: u32) -> Result<Reason, NoStage>
         ensures { result ≡ told self.now.graph place (reason_at self.now.graph place) }
     {
-        self.graph.reason(place)
+        Ok(self.stage(place).ok_or(NoStage)?.reason())
     }
 
     /// The path of the stage at a place: the stage itself, and then the path of the feed that its cause names. It looks
@@ -251,17 +259,26 @@ impl<R: StateRepresentation> Version<R> {
         ensures answer { AnswersOrMemory (list_at (path self.now.graph) place (stage_at self.now.graph.places place)) result }
         ensures adds_up { IfOk result (IsPath self.now.graph place) }
     {
-        self.graph.path(alloc, place)
+        match self.stage(place) {
+            Some(view) => Ok(view.path(alloc)?),
+            None => Err(QueryFault::NoStage),
+        }
     }
 
     /// What the stage at a place was in the parent.
     pub fn before(&self, place: u32) -> Result<Before, NoStage>
         ensures { result ≡ told self.now.graph place (before self.now.origin place) }
     {
-        self.graph.state(place)?;
-        Ok(match &self.origin {
+        Ok(self.stage(place).ok_or(NoStage)?.before())
+    }
+
+    /// What stood at a place in the parent.
+    pub(crate) fn held_before(&self, place: u32) -> Before
+        ensures { result ≡ before self.now.origin place }
+    {
+        match &self.origin {
             Some(origin) => origin.before(place),
             None => Before::Absent,
-        })
+        }
     }
 }

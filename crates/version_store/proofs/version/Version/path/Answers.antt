@@ -1,12 +1,7 @@
-use Rattle.std.proofs.Common.{subst, ap, ◌∙◌}
-use Rattle.std.specs.Prelude.{IfOk}
-use Rattle.stage_graph.specs.Plain.{PlainGraph}
-use Rattle.version_store.specs.Plain.{PlainVersion}
-use Rattle.scratch_eval.specs.Path.{IsPath}
+use Rattle.scratch_eval.specs.Path.{path}
+use Rattle.version_store.proofs.PathsOf.{list_of}
 use Rattle.version_store.proofs.version.Version.path.Goals as goal
 
-pub returns-clause-adds_up : goal.returns-clause-adds_up
-returns-clause-adds_up g c =
-    subst (λ (graph : PlainGraph). IfOk c.path.result (IsPath graph c.args.place))
-    (c.deref.ensures ∙ ap (λ (version : PlainVersion). version.graph) c.self.view_is)
-    c.path.ensures.adds_up
+pub returns-in_ok-path-in-Some-clause-answer : goal.returns-in_ok-path-in-Some-clause-answer
+returns-in_ok-path-in-Some-clause-answer g c =
+    list_of path _ _ _ _ _ _ _ c.in-Some.ensures.version c.in-Some.ensures.place c.in-Some.ensures.stage c.in_ok-path-in-Some.ensures.path
