@@ -1,3 +1,4 @@
 pub mod Exact
 pub mod ExactReports
 pub mod Listing
+pub mod SweepReport

@@ -1,9 +1,7 @@
 //! What a stage was and is, and how much later or earlier it completes.
-ghost use Rattle.std.specs.Prelude.{◌≡◌, IfOk, Some};
+ghost use Rattle.std.specs.Prelude.{◌≡◌, IfOk};
 ghost use Rattle.std.specs.Option.{option_map};
 ghost use Rattle.serde_json.specs.View.{view};
-ghost use Rattle.stage_graph.specs.Plain.{IsLive, stage_at};
-ghost use Rattle.version_store.specs.Queries.{state_of};
 ghost use Rattle.report_json.specs.Json.{object};
 ghost use Rattle.report_json.specs.Stages.{before_json, change_against, change_members, completion_members, drift_against, drift_entry, old_and_new, shift_members, state_members, there_json};
 
@@ -11,13 +9,12 @@ use crate::object::Object;
 use crate::values::optional_outcome;
 use act_expr::Outcome;
 use propagate::StateRepresentation;
-use report_text::queries::{before_of, state_of};
 use report_text::{Shift, done_of, is_changed, shift_against};
 use serde_json::Value;
 use stage_graph::Stage;
 use stage_ops::Done;
 use std::alloc::{AllocError, Global};
-use version_store::{Before, Version};
+use version_store::{Before, StageView, Version};
 
 fn state_value(
     alloc: Global,
@@ -73,39 +70,33 @@ fn old_and_new(alloc: Global, stage: &Stage, old: Value, new: Value) -> Result<V
     Ok(object.into_value())
 }
 
-/// What the stage at a place was in the parent, and what it is here.
+/// What a stage was in the parent, and what it is here.
 pub(crate) fn change_value<R: StateRepresentation>(
     alloc: Global,
-    version: &Version<R>,
-    place: u32,
-    stage: &Stage,
+    stage: &StageView<'_, R>,
 ) -> Result<Value, AllocError>
-    requires { stage_at version.now.graph.places place ≡ Some stage.now }
-    ensures { IfOk result (λ value. view value ≡ object (change_members version.now place stage.now)) }
+    ensures { IfOk result (λ value. view value ≡ object (change_members stage.now.version.now stage.now.place stage.now.stage.now)) }
 {
-    let old = before_value(alloc, before_of(version, place))?;
-    let new = completion_value(alloc, &state_of(version, place).done)?;
-    old_and_new(alloc, stage, old, new)
+    let old = before_value(alloc, stage.before())?;
+    let new = completion_value(alloc, &stage.state().done)?;
+    old_and_new(alloc, stage.stage, old, new)
 }
 
-/// What the stage at a place is in another version and here, unless it is as the one of its name there.
+/// What a stage is in another version and here, unless it is as the one of its name there.
 pub(crate) fn change_against<R: StateRepresentation>(
     alloc: Global,
-    version: &Version<R>,
+    stage: &StageView<'_, R>,
     against: &Version<R>,
-    place: u32,
-    stage: &Stage,
 ) -> Result<Option<Value>, AllocError>
-    requires { stage_at version.now.graph.places place ≡ Some stage.now }
-    ensures { IfOk result (λ found. option_map view found ≡ change_against version.now against.now place stage.now) }
+    ensures { IfOk result (λ found. option_map view found ≡ change_against stage.now.version.now against.now stage.now.place stage.now.stage.now) }
 {
-    if !is_changed(version, against, place, stage) {
+    if !is_changed(stage, against) {
         return Ok(None);
     }
-    let there = done_of(against, stage.name.as_str());
+    let there = done_of(against, stage.stage.name.as_str());
     let old = there_value(alloc, &there)?;
-    let new = completion_value(alloc, &state_of(version, place).done)?;
-    Ok(Some(old_and_new(alloc, stage, old, new)?))
+    let new = completion_value(alloc, &stage.state().done)?;
+    Ok(Some(old_and_new(alloc, stage.stage, old, new)?))
 }
 
 // How much later or earlier a stage completes.
@@ -135,28 +126,23 @@ fn optional_shift(
     }
 }
 
-/// How much later or earlier than in the parent the stage at a place completes, if it does at another moment.
+/// How much later or earlier than in the parent a stage completes, if it does at another moment.
 pub(crate) fn shift_value<R: StateRepresentation>(
     alloc: Global,
-    version: &Version<R>,
-    place: u32,
-    stage: &Stage,
+    stage: &StageView<'_, R>,
 ) -> Result<Option<Value>, AllocError>
-    ensures { IfOk result (λ found. option_map view found ≡ drift_entry version.now place stage.now) }
+    ensures { IfOk result (λ found. option_map view found ≡ drift_entry stage.now.version.now stage.now.place stage.now.stage.now) }
 {
-    optional_shift(alloc, stage, Shift::at(version, place))
+    optional_shift(alloc, stage.stage, Shift::of(stage))
 }
 
 /// How much later or earlier than the one of its name in another version a stage completes, if it does at another moment.
 pub(crate) fn shift_against_value<R: StateRepresentation>(
     alloc: Global,
-    version: &Version<R>,
+    stage: &StageView<'_, R>,
     against: &Version<R>,
-    place: u32,
-    stage: &Stage,
 ) -> Result<Option<Value>, AllocError>
-    requires { stage_at version.now.graph.places place ≡ Some stage.now }
-    ensures { IfOk result (λ found. option_map view found ≡ drift_against version.now against.now place stage.now) }
+    ensures { IfOk result (λ found. option_map view found ≡ drift_against stage.now.version.now against.now stage.now.place stage.now.stage.now) }
 {
-    optional_shift(alloc, stage, shift_against(version, against, place, stage))
+    optional_shift(alloc, stage.stage, shift_against(stage, against))
 }

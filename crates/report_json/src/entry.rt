@@ -1,9 +1,8 @@
 //! The lists of the reports.
-ghost use Rattle.std.specs.Prelude.{◌≡◌, ◌++◌, [], IfOk, OnOk, Some, map};
+ghost use Rattle.std.specs.Prelude.{◌≡◌, ◌++◌, [], IfOk, OnOk, map};
 ghost use Rattle.std.specs.List.{cons_option, range_with_len};
 ghost use Rattle.std.specs.Option.{option_map};
 ghost use Rattle.serde_json.specs.View.{view};
-ghost use Rattle.stage_graph.specs.Plain.{stage_at};
 ghost use Rattle.report_json.specs.Entries.{entries, entry_at, entry_of};
 ghost use Rattle.report_json.specs.Json.{text};
 ghost use Rattle.report_json.specs.Reports.{of_all_places};
@@ -15,7 +14,7 @@ use propagate::StateRepresentation;
 use serde_json::Value;
 use stage_graph::Stage;
 use std::alloc::{AllocError, Global};
-use version_store::Version;
+use version_store::{StageView, Version};
 
 /// What a list of a report has of a stage.
 #[derive(Clone, Copy, Debug, PartialEq, Eq)]
@@ -76,8 +75,8 @@ fn entry_at<R: StateRepresentation>(
 ) -> Result<Option<Value>, AllocError>
     ensures { IfOk result (λ found. option_map view found ≡ entry_at entry version.now against.now place) }
 {
-    match version.graph().stage(place) {
-        Some(stage) => entry_of(alloc, entry, version, against, place, stage),
+    match version.stage(place) {
+        Some(stage) => entry_of(alloc, entry, &stage, against),
         None => Ok(None),
     }
 }
@@ -85,23 +84,20 @@ fn entry_at<R: StateRepresentation>(
 fn entry_of<R: StateRepresentation>(
     alloc: Global,
     entry: Entry,
-    version: &Version<R>,
+    stage: &StageView<'_, R>,
     against: &Version<R>,
-    place: u32,
-    stage: &Stage,
 ) -> Result<Option<Value>, AllocError>
-    requires { stage_at version.now.graph.places place ≡ Some stage.now }
-    ensures { IfOk result (λ found. option_map view found ≡ entry_of entry version.now against.now place stage.now) }
+    ensures { IfOk result (λ found. option_map view found ≡ entry_of entry stage.now.version.now against.now stage.now.place stage.now.stage.now) }
 {
     match entry {
-        Entry::Name => Ok(Some(name_value(alloc, stage)?)),
-        Entry::State => Ok(Some(stage_value(alloc, version, place, stage)?)),
-        Entry::Times => Ok(Some(times_value(alloc, version, place, stage)?)),
-        Entry::Step => Ok(Some(step_value(alloc, version, place, stage)?)),
-        Entry::Change => Ok(Some(change_value(alloc, version, place, stage)?)),
-        Entry::Shift => shift_value(alloc, version, place, stage),
-        Entry::ChangeAgainst => change_against(alloc, version, against, place, stage),
-        Entry::ShiftAgainst => shift_against_value(alloc, version, against, place, stage),
+        Entry::Name => Ok(Some(name_value(alloc, stage.stage)?)),
+        Entry::State => Ok(Some(stage_value(alloc, stage)?)),
+        Entry::Times => Ok(Some(times_value(alloc, stage)?)),
+        Entry::Step => Ok(Some(step_value(alloc, stage)?)),
+        Entry::Change => Ok(Some(change_value(alloc, stage)?)),
+        Entry::Shift => shift_value(alloc, stage),
+        Entry::ChangeAgainst => change_against(alloc, stage, against),
+        Entry::ShiftAgainst => shift_against_value(alloc, stage, against),
     }
 }
 

@@ -1,9 +1,6 @@
 //! The reports of one stage.
-ghost use Rattle.std.specs.Prelude.{◌≡◌, IfOk, Some};
+ghost use Rattle.std.specs.Prelude.{◌≡◌, IfOk};
 ghost use Rattle.serde_json.specs.View.{view};
-ghost use Rattle.stage_graph.specs.Plain.{IsLive, stage_at};
-ghost use Rattle.stage_ops.specs.Joins.{joined};
-ghost use Rattle.version_store.specs.Queries.{state_of};
 ghost use Rattle.serde_json.specs.Data.{no_members};
 ghost use Rattle.stage_ops.specs.declared.state.Join.TheVariants.{Cancelled, Returns, Throws};
 ghost use Rattle.report_json.specs.Json.{object, with};
@@ -16,12 +13,10 @@ use crate::object::{Object, kind_alone, of_kind};
 use crate::stages::outcome_value;
 use crate::values::value_json;
 use propagate::StateRepresentation;
-use report_text::queries::{chain_of, dependents_of, join_of, moment_of, path_of, rank_of};
 use serde_json::Value;
-use stage_graph::Stage;
 use stage_ops::Join;
 use std::alloc::{AllocError, Global};
-use version_store::Version;
+use version_store::{StageView, Version};
 
 // The names of the stages at these places.
 fn names<R: StateRepresentation>(
@@ -92,38 +87,32 @@ pub(crate) fn titled<R: StateRepresentation>(
 // The object of a report of a stage, with what the stage is.
 fn one_head<R: StateRepresentation>(
     alloc: Global,
-    version: &Version<R>,
-    place: u32,
-    stage: &Stage,
+    stage: &StageView<'_, R>,
 ) -> Result<Object, AllocError>
-    requires { stage_at version.now.graph.places place ≡ Some stage.now }
-    ensures { IfOk result (λ object. held object ≡ with no_members (one_head version.now place stage.now)) }
+    ensures { IfOk result (λ object. held object ≡ with no_members (one_head stage.now.version.now stage.now.place stage.now.stage.now)) }
 {
-    let outcome = outcome_value(alloc, version, place)?;
-    let mut object = titled(alloc, "one", version)?;
-    object.text("stage", stage.name.as_str())?;
-    object.text("op", stage.op.text())?;
-    object.count("rank", u64::from(rank_of(version, place)))?;
+    let outcome = outcome_value(alloc, stage)?;
+    let mut object = titled(alloc, "one", stage.version)?;
+    object.text("stage", stage.stage.name.as_str())?;
+    object.text("op", stage.stage.op.text())?;
+    object.count("rank", u64::from(stage.rank()))?;
     object.value("outcome", outcome)?;
-    object.optional_count("moment", moment_of(version, place))?;
+    object.optional_count("moment", stage.moment())?;
     Ok(object)
 }
 
 /// A stage, its feeds, its dependents and what `join` answers.
 pub(crate) fn one_value<R: StateRepresentation>(
     alloc: Global,
-    version: &Version<R>,
-    place: u32,
-    stage: &Stage,
+    stage: &StageView<'_, R>,
 ) -> Result<Value, AllocError>
-    requires { stage_at version.now.graph.places place ≡ Some stage.now }
-    ensures { IfOk result (λ value. view value ≡ object (one_members version.now place stage.now)) }
+    ensures { IfOk result (λ value. view value ≡ object (one_members stage.now.version.now stage.now.place stage.now.stage.now)) }
 {
-    let sources = names(alloc, version, stage.sources.as_slice())?;
-    let inner = names(alloc, version, stage.inner.as_slice())?;
-    let dependents = names(alloc, version, dependents_of(version, place))?;
-    let join = join_value(alloc, &join_of(version, place))?;
-    let mut object = one_head(alloc, version, place, stage)?;
+    let sources = names(alloc, stage.version, stage.stage.sources.as_slice())?;
+    let inner = names(alloc, stage.version, stage.stage.inner.as_slice())?;
+    let dependents = names(alloc, stage.version, stage.dependents())?;
+    let join = join_value(alloc, &stage.join())?;
+    let mut object = one_head(alloc, stage)?;
     object.value("sources", sources)?;
     object.value("inner", inner)?;
     object.value("dependents", dependents)?;
@@ -134,17 +123,14 @@ pub(crate) fn one_value<R: StateRepresentation>(
 /// How a stage came by its exception.
 pub(crate) fn blame_value<R: StateRepresentation>(
     alloc: Global,
-    version: &Version<R>,
-    place: u32,
-    stage: &Stage,
+    stage: &StageView<'_, R>,
 ) -> Result<Value, AllocError>
-    requires { stage_at version.now.graph.places place ≡ Some stage.now }
-    ensures { IfOk result (λ value. view value ≡ object (blame_members version.now place stage.now)) }
+    ensures { IfOk result (λ value. view value ≡ object (blame_members stage.now.version.now stage.now.place stage.now.stage.now)) }
 {
-    let chain = chain_of(alloc, version, place)?;
-    let chain = names(alloc, version, chain.as_slice())?;
-    let mut object = titled(alloc, "blame", version)?;
-    object.text("stage", stage.name.as_str())?;
+    let chain = stage.blame(alloc)?;
+    let chain = names(alloc, stage.version, chain.as_slice())?;
+    let mut object = titled(alloc, "blame", stage.version)?;
+    object.text("stage", stage.stage.name.as_str())?;
     object.value("chain", chain)?;
     Ok(object.into_value())
 }
@@ -152,18 +138,21 @@ pub(crate) fn blame_value<R: StateRepresentation>(
 /// Why a stage completed when it did, or why it is pending.
 pub(crate) fn path_value<R: StateRepresentation>(
     alloc: Global,
-    version: &Version<R>,
-    place: u32,
-    stage: &Stage,
+    stage: &StageView<'_, R>,
 ) -> Result<Value, AllocError>
-    requires { stage_at version.now.graph.places place ≡ Some stage.now }
-    ensures { IfOk result (λ value. view value ≡ object (path_members version.now place stage.now)) }
+    ensures { IfOk result (λ value. view value ≡ object (path_members stage.now.version.now stage.now.place stage.now.stage.now)) }
 {
-    let path = path_of(alloc, version, place)?;
-    let steps = entries(alloc, Entry::Step, version, version, path.as_slice())?;
-    let mut object = titled(alloc, "path", version)?;
-    object.text("stage", stage.name.as_str())?;
-    object.optional_count("moment", moment_of(version, place))?;
+    let path = stage.path(alloc)?;
+    let steps = entries(
+        alloc,
+        Entry::Step,
+        stage.version,
+        stage.version,
+        path.as_slice(),
+    )?;
+    let mut object = titled(alloc, "path", stage.version)?;
+    object.text("stage", stage.stage.name.as_str())?;
+    object.optional_count("moment", stage.moment())?;
     object.value("steps", steps)?;
     Ok(object.into_value())
 }

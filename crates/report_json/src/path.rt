@@ -1,35 +1,30 @@
 //! Why a stage completed when it did, or why it is pending.
-ghost use Rattle.std.specs.Prelude.{◌≡◌, ◌∷◌, [], IfOk, Some, codes};
+ghost use Rattle.std.specs.Prelude.{◌≡◌, ◌∷◌, [], IfOk, codes};
 ghost use Rattle.serde_json.specs.View.{view};
-ghost use Rattle.stage_graph.specs.Plain.{stage_at};
 ghost use Rattle.report_json.specs.Json.{count, object, text};
 ghost use Rattle.report_json.specs.Stages.{cause_members, kind_of_feed, step_members};
 
 use crate::object::{Object, kind_alone, of_kind};
 use propagate::StateRepresentation;
-use report_text::queries::{moment_of, reason_of};
 use report_text::{end_text, name_of};
 use serde_json::Value;
 use stage_graph::{Graph, Representation, Stage};
 use stage_ops::Cause;
 use std::alloc::{AllocError, Global};
-use version_store::Version;
+use version_store::StageView;
 
 /// A stage with its moment, its own share of the time, and its cause.
 pub(crate) fn step_value<R: StateRepresentation>(
     alloc: Global,
-    version: &Version<R>,
-    place: u32,
-    stage: &Stage,
+    stage: &StageView<'_, R>,
 ) -> Result<Value, AllocError>
-    requires { stage_at version.now.graph.places place ≡ Some stage.now }
-    ensures { IfOk result (λ value. view value ≡ object (step_members version.now.graph place stage.now)) }
+    ensures { IfOk result (λ value. view value ≡ object (step_members stage.now.version.now.graph stage.now.place stage.now.stage.now)) }
 {
-    let reason = reason_of(version, place);
-    let cause = cause_value(alloc, version.graph(), stage, reason.cause)?;
+    let reason = stage.reason();
+    let cause = cause_value(alloc, stage.version.graph(), stage.stage, reason.cause)?;
     let mut object = Object::new(alloc);
-    object.text("name", stage.name.as_str())?;
-    object.optional_count("moment", moment_of(version, place))?;
+    object.text("name", stage.stage.name.as_str())?;
+    object.optional_count("moment", stage.moment())?;
     object.count("queued", reason.queued)?;
     object.count("ran", reason.ran)?;
     object.value("cause", cause)?;

@@ -84,8 +84,8 @@ fn one_report<R: StateRepresentation>(
     ensures value { IfOk result (λ value. Some (view value) ≡ report_json version.now (One place)) }
     ensures no_stage { (result ≡ Err QueryFault.NoStage) ↔ (report_json version.now (One place) ≡ None) }
 {
-    match version.graph().stage(place) {
-        Some(stage) => Ok(one_value(alloc, version, place, stage)?),
+    match version.stage(place) {
+        Some(stage) => Ok(one_value(alloc, &stage)?),
         None => Err(QueryFault::NoStage),
     }
 }
@@ -98,8 +98,8 @@ fn blame_report<R: StateRepresentation>(
     ensures value { IfOk result (λ value. Some (view value) ≡ report_json version.now (Blame place)) }
     ensures no_stage { (result ≡ Err QueryFault.NoStage) ↔ (report_json version.now (Blame place) ≡ None) }
 {
-    match version.graph().stage(place) {
-        Some(stage) => Ok(blame_value(alloc, version, place, stage)?),
+    match version.stage(place) {
+        Some(stage) => Ok(blame_value(alloc, &stage)?),
         None => Err(QueryFault::NoStage),
     }
 }
@@ -112,8 +112,8 @@ fn path_report<R: StateRepresentation>(
     ensures value { IfOk result (λ value. Some (view value) ≡ report_json version.now (Path place)) }
     ensures no_stage { (result ≡ Err QueryFault.NoStage) ↔ (report_json version.now (Path place) ≡ None) }
 {
-    match version.graph().stage(place) {
-        Some(stage) => Ok(path_value(alloc, version, place, stage)?),
+    match version.stage(place) {
+        Some(stage) => Ok(path_value(alloc, &stage)?),
         None => Err(QueryFault::NoStage),
     }
 }

@@ -1,7 +1,6 @@
 //! The report of which stages are worth making faster.
 ghost use Rattle.std.specs.Prelude.{◌≡◌, ◌↔◌, IfOk, None, Some};
 ghost use Rattle.serde_json.specs.View.{view};
-ghost use Rattle.stage_graph.specs.Plain.{stage_at};
 ghost use Rattle.time_sweep.specs.Sweep.{sweep};
 ghost use Rattle.report_json.specs.Json.{object};
 ghost use Rattle.report_json.specs.Reports.{sweep_json, sweep_members, trials};
@@ -13,13 +12,11 @@ use crate::one::titled;
 use crate::values::outcome_json;
 use level_pool::Runner;
 use propagate::StateRepresentation;
-use report_text::queries::moment_of;
 use report_text::{first_of, name_of, swept, tick_of};
 use serde_json::Value;
-use stage_graph::Stage;
 use std::alloc::{AllocError, Global};
 use time_sweep::Trial;
-use version_store::{QueryFault, Version};
+use version_store::{QueryFault, StageView, Version};
 
 // A trial of a stage that completes at this tick.
 fn trial_value<R: StateRepresentation>(
@@ -58,21 +55,18 @@ fn trials<R: StateRepresentation>(
 // The report of these trials.
 fn sweep_of_stage<R: StateRepresentation>(
     alloc: Global,
-    version: &Version<R>,
-    target: u32,
-    stage: &Stage,
+    stage: &StageView<'_, R>,
     most: Option<usize>,
     found: &[Trial],
 ) -> Result<Value, AllocError>
-    requires stands { stage_at version.now.graph.places target ≡ Some stage.now }
-    requires all { found.now ≡ sweep version.now.graph target }
-    ensures { IfOk result (λ value. view value ≡ object (sweep_members version.now target most stage.now)) }
+    requires { found.now ≡ sweep stage.now.version.now.graph stage.now.place }
+    ensures { IfOk result (λ value. view value ≡ object (sweep_members stage.now.version.now stage.now.place most stage.now.stage.now)) }
 {
-    let tick = tick_of(version, target);
-    let trials = trials(alloc, version, tick, first_of(most, found))?;
-    let mut object = titled(alloc, "sweep", version)?;
-    object.text("target", stage.name.as_str())?;
-    object.optional_count("moment", moment_of(version, target))?;
+    let tick = tick_of(stage);
+    let trials = trials(alloc, stage.version, tick, first_of(most, found))?;
+    let mut object = titled(alloc, "sweep", stage.version)?;
+    object.text("target", stage.stage.name.as_str())?;
+    object.optional_count("moment", stage.moment())?;
     object.count("count", found.len() as u64)?;
     object.value("trials", trials)?;
     Ok(object.into_value())
@@ -92,10 +86,10 @@ pub fn sweep_value<R: StateRepresentation, W: Runner>(
     ensures value { IfOk result (λ value. Some (view value) ≡ sweep_json version.now target most) }
     ensures no_stage { (result ≡ Err QueryFault.NoStage) ↔ (sweep_json version.now target most ≡ None) }
 {
-    match version.graph().stage(target) {
+    match version.stage(target) {
         Some(stage) => {
             let found = swept(alloc, version, target, runner)?;
-            Ok(sweep_of_stage(alloc, version, target, stage, most, found.as_slice())?)
+            Ok(sweep_of_stage(alloc, &stage, most, found.as_slice())?)
         }
         None => Err(QueryFault::NoStage),
     }

@@ -1,3 +1,4 @@
+pub mod EmptyPlaces
 pub mod LinesOfOne
 pub mod LinesOfPlaces
 pub mod Untouched

@@ -1,11 +1,17 @@
 -- The lines of the remaining places.
-use Rattle.std.proofs.Common.{◌≡◌, ℕ, ◌+◌, ◌-◌, ◌<◌, suc, zero, Bool, true, false, cond, List, [], ◌∷◌, ◌++◌, arith, sym, ap, ◌∙◌, subst, append_assoc, length, drop, take, get_or, drop-cons, add-one, Option, Result, Ok, Err, OnErr}
+use Rattle.std.proofs.Common.{◌≡◌, ℕ, ◌+◌, ◌-◌, ◌<◌, suc, zero, Bool, true, false, cond, List, [], ◌∷◌, ◌++◌, arith, sym, ap, ◌∙◌, subst, append_assoc, length, drop, take, get_or, drop-cons, add-one, Option, Some, Result, Ok, Err, OnOk, OnErr}
+use Rattle.std.specs.Prelude.{unwrap_or}
+use Rattle.std.specs.Option.{option_map}
 use Rattle.std.proofs.KnownBytes.{Appends-trans}
 use Rattle.std.specs.List.{count_by, flat_map, range_with_len, sum_by}
 use Rattle.std.proofs.lemmas.List.{take_more}
 use Rattle.std.proofs.lemmas.List.Sums.{sum_by-append}
 use Rattle.std.specs.Io.KnownBytes.{Appends}
+use Rattle.stage_graph.specs.declared.stage.Stage.{Stage}
 use Rattle.text_io.specs.Sink.{AppendsBut, AppendsPrefix}
+use Rattle.version_store.specs.Plain.{PlainVersion}
+use Rattle.report_text.specs.AgainstTexts.{passes}
+use Rattle.report_text.specs.Texts.{line_of}
 
 -- a clause that is the same at every error
 pub on_err : {T E P : Type 0} (r : Result T E) → P → OnErr r P
@@ -14,6 +20,9 @@ on_err (Err e) p = p
 
 pub of_the_text : {T E : Type 0} (r : Result T E) (a b : Option (List ℕ)) (text same : List ℕ) → text ≡ same → OnErr r (AppendsPrefix a b text) → OnErr r (AppendsPrefix a b same)
 of_the_text r a b text same is stop = subst (λ l. OnErr r (AppendsPrefix a b l)) is stop
+
+pub all_of_the_text : {T E : Type 0} (r : Result T E) (a b : Option (List ℕ)) (text same : List ℕ) → text ≡ same → OnOk r (Appends a b text) → OnOk r (Appends a b same)
+all_of_the_text r a b text same is all = subst (λ l. OnOk r (Appends a b l)) is all
 
 -- the line of the next place, and those of the places after it
 pub next_place : (line : ℕ → List ℕ) (place end : ℕ) → place < end
@@ -54,6 +63,29 @@ writes_on a b c text rest piece more so_far next here = record {
 -- the content of a line that was cleared, once its text was appended
 pub in_the_line : (bytes line cleared text : List ℕ) → bytes ≡ line → line ≡ cleared ++ text → cleared ≡ [] → bytes ≡ text
 in_the_line bytes line cleared text are is empty = are ∙ is ∙ ap (λ l. l ++ text) empty
+
+-- the text of a stage that was looked up
+pub of_the_stage : (text : PlainVersion → ℕ → Stage → List ℕ) (version same : PlainVersion) (place here : ℕ) (stage : Stage) (found : Option Stage)
+    → version ≡ same → place ≡ here → Some stage ≡ found → text version place stage ≡ unwrap_or (option_map (text same here) found) []
+of_the_stage text version same place here stage found is there stands =
+    ap (λ (version : PlainVersion). text version place stage) is
+    ∙ ap (λ place. text same place stage) there
+    ∙ ap (λ found. unwrap_or (option_map (text same here) found) []) stands
+
+-- the same of its line, and of what it passes
+pub line_of_the_stage : (text : PlainVersion → ℕ → Stage → List ℕ) (version same : PlainVersion) (place here : ℕ) (stage : Stage) (found : Option Stage)
+    → version ≡ same → place ≡ here → Some stage ≡ found → text version place stage ≡ line_of (text same) here found
+line_of_the_stage text version same place here stage found is there stands =
+    ap (λ (version : PlainVersion). text version place stage) is
+    ∙ ap (λ place. text same place stage) there
+    ∙ ap (line_of (text same) here) stands
+
+pub the_stage_passes : (test : PlainVersion → ℕ → Stage → Bool) (version same : PlainVersion) (place here : ℕ) (stage : Stage) (found : Option Stage)
+    → version ≡ same → place ≡ here → Some stage ≡ found → test version place stage ≡ passes (test same) here found
+the_stage_passes test version same place here stage found is there stands =
+    ap (λ (version : PlainVersion). test version place stage) is
+    ∙ ap (λ place. test same place stage) there
+    ∙ ap (passes (test same) here) stands
 
 -- a header in an empty line, and then the lines
 pub with_header : (line cleared header lines : List ℕ) → line ≡ cleared ++ header → cleared ≡ [] → line ++ lines ≡ header ++ lines

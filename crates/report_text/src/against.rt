@@ -1,19 +1,17 @@
 //! The comparison of a stage with the one of its name in another version.
-ghost use Rattle.std.specs.Prelude.{◌≡◌, ◌++◌, Some, OnOk, string_bytes};
-ghost use Rattle.stage_graph.specs.Plain.{stage_at};
+ghost use Rattle.std.specs.Prelude.{◌≡◌, ◌++◌, OnOk, string_bytes};
 ghost use Rattle.propagate.specs.Completions.{same_outcome};
 ghost use Rattle.report_text.specs.AgainstTexts.{change_against, changes_against_header, done_of, drift_against, drift_against_header, is_changed, is_unlike, same_blamed, same_done, shift_against, shift_from, there_text, unlike_line};
 
-use crate::queries::{moment_of, state_of};
 use crate::shift::Shift;
 use crate::words::name_of;
 use act_expr::Outcome;
 use propagate::StateRepresentation;
-use stage_graph::{Graph, Representation, Stage};
+use stage_graph::{Graph, Representation};
 use stage_ops::Done;
 use std::alloc::AllocError;
 use std::fmt::Write;
-use version_store::Version;
+use version_store::{StageView, Version};
 
 /// The completion of the stage of a name, none while it is pending; none at all where the version has no such stage.
 pub fn done_of<R: StateRepresentation>(version: &Version<R>, name: &str) -> Option<Option<Done>>
@@ -82,33 +80,24 @@ fn is_unlike<R: Representation>(
 }
 
 /// Whether a stage differs from the one of its name in the other version, or that one is not there.
-pub fn is_changed<R: StateRepresentation>(
-    version: &Version<R>,
-    against: &Version<R>,
-    place: u32,
-    stage: &Stage,
-) -> bool
-    requires { stage_at version.now.graph.places place ≡ Some stage.now }
-    ensures { result ≡ is_changed version.now against.now place stage.now }
+pub fn is_changed<R: StateRepresentation>(view: &StageView<'_, R>, against: &Version<R>) -> bool
+    ensures { result ≡ is_changed view.now.version.now against.now view.now.place view.now.stage.now }
 {
-    let done = state_of(version, place).done;
-    let there = done_of(against, stage.name.as_str());
-    is_unlike(version.graph(), &done, against.graph(), &there)
+    let done = view.state().done;
+    let there = done_of(against, view.stage.name.as_str());
+    is_unlike(view.version.graph(), &done, against.graph(), &there)
 }
 
 /// What the stage is there and what it is here, or nothing if both are the same.
 pub(crate) fn push_change_against<R: StateRepresentation>(
     line: &mut String,
-    version: &Version<R>,
+    view: &StageView<'_, R>,
     against: &Version<R>,
-    place: u32,
-    stage: &Stage,
 ) -> Result<(), AllocError>
-    requires { stage_at version.now.graph.places place ≡ Some stage.now }
-    ensures { OnOk result (string_bytes line.new ≡ string_bytes line.old ++ change_against version.now against.now place stage.now) }
+    ensures { OnOk result (string_bytes line.new ≡ string_bytes line.old ++ change_against view.now.version.now against.now view.now.place view.now.stage.now) }
 {
-    if is_changed(version, against, place, stage) {
-        push_unlike(line, version, against, place, stage)
+    if is_changed(view, against) {
+        push_unlike(line, view, against)
     } else {
         Ok(())
     }
@@ -116,16 +105,13 @@ pub(crate) fn push_change_against<R: StateRepresentation>(
 
 fn push_unlike<R: StateRepresentation>(
     line: &mut String,
-    version: &Version<R>,
+    view: &StageView<'_, R>,
     against: &Version<R>,
-    place: u32,
-    stage: &Stage,
 ) -> Result<(), AllocError>
-    requires { stage_at version.now.graph.places place ≡ Some stage.now }
-    ensures { OnOk result (string_bytes line.new ≡ string_bytes line.old ++ unlike_line version.now against.now place stage.now) }
+    ensures { OnOk result (string_bytes line.new ≡ string_bytes line.old ++ unlike_line view.now.version.now against.now view.now.place view.now.stage.now) }
 {
-    let name = stage.name.as_str();
-    let state = state_of(version, place);
+    let name = view.stage.name.as_str();
+    let state = view.state();
     write!(line, "{name} ")?;
     push_there(line, done_of(against, name))?;
     writeln!(line, " -> {state}")
@@ -157,30 +143,24 @@ fn shift_from(there: &Option<Option<Done>>, moment: Option<u64>) -> Option<Shift
 
 /// How much later or earlier than the one of its name a stage completes, if both complete and at another moment.
 pub fn shift_against<R: StateRepresentation>(
-    version: &Version<R>,
+    view: &StageView<'_, R>,
     against: &Version<R>,
-    place: u32,
-    stage: &Stage,
 ) -> Option<Shift>
-    requires { stage_at version.now.graph.places place ≡ Some stage.now }
-    ensures { result ≡ shift_against version.now against.now place stage.now }
+    ensures { result ≡ shift_against view.now.version.now against.now view.now.place view.now.stage.now }
 {
-    let there = done_of(against, stage.name.as_str());
-    shift_from(&there, moment_of(version, place))
+    let there = done_of(against, view.stage.name.as_str());
+    shift_from(&there, view.moment())
 }
 
 pub(crate) fn push_drift_against<R: StateRepresentation>(
     line: &mut String,
-    version: &Version<R>,
+    view: &StageView<'_, R>,
     against: &Version<R>,
-    place: u32,
-    stage: &Stage,
 ) -> Result<(), AllocError>
-    requires { stage_at version.now.graph.places place ≡ Some stage.now }
-    ensures { OnOk result (string_bytes line.new ≡ string_bytes line.old ++ drift_against version.now against.now place stage.now) }
+    ensures { OnOk result (string_bytes line.new ≡ string_bytes line.old ++ drift_against view.now.version.now against.now view.now.place view.now.stage.now) }
 {
-    let name = stage.name.as_str();
-    match shift_against(version, against, place, stage) {
+    let name = view.stage.name.as_str();
+    match shift_against(view, against) {
         Some(shift) => writeln!(line, "{name} {shift}"),
         None => Ok(()),
     }

@@ -1,19 +1,17 @@
 //! The report of how a stage came by its exception.
 ghost use Rattle.std.specs.Prelude.{◌≡◌, ◌↔◌, ◌+◌, ◌-◌, ◌^◌, ◌<◌, ◌++◌, [], None, string_bytes, unwrap_or, OnOk, OnErr};
 ghost use Rattle.std.specs.Io.KnownBytes.{Appends};
-ghost use Rattle.stage_graph.specs.Plain.{IsLive};
 ghost use Rattle.text_io.specs.Sink.{AppendsPrefix};
 ghost use Rattle.report_text.specs.Reports.{failed_writes, text};
 ghost use Rattle.report_text.specs.Texts.{blame_text};
 ghost use Rattle.report_text.specs.declared.what.What.TheVariants.{Blame};
 
 use crate::fault::ReportFault;
-use crate::queries::chain_of;
 use crate::words::push_names_line;
 use propagate::StateRepresentation;
 use std::alloc::{AllocError, Global};
 use text_io::Sink;
-use version_store::Version;
+use version_store::{StageView, Version};
 
 /// Writes how a stage came by its exception.
 pub(crate) fn write_blame<R: StateRepresentation, S: Sink>(
@@ -29,11 +27,11 @@ pub(crate) fn write_blame<R: StateRepresentation, S: Sink>(
     ensures no_stage { (result ≡ Err ReportFault.NoStage) ↔ (text version.now (Blame place) ≡ None) }
     ensures failures { S.failures sink.new ≡ S.failures sink.old + failed_writes result }
 {
-    let Some(_) = version.graph().stage(place) else {
+    let Some(view) = version.stage(place) else {
         return Err(ReportFault::NoStage);
     };
     line.clear();
-    push_blame(alloc, line, version, place)?;
+    push_blame(alloc, line, &view)?;
     sink.write(line.as_bytes())?;
     Ok(())
 }
@@ -41,12 +39,10 @@ pub(crate) fn write_blame<R: StateRepresentation, S: Sink>(
 fn push_blame<R: StateRepresentation>(
     alloc: Global,
     line: &mut String,
-    version: &Version<R>,
-    place: u32,
+    view: &StageView<'_, R>,
 ) -> Result<(), AllocError>
-    requires { IsLive version.now.graph.places place }
-    ensures { OnOk result (string_bytes line.new ≡ string_bytes line.old ++ blame_text version.now.graph place) }
+    ensures { OnOk result (string_bytes line.new ≡ string_bytes line.old ++ blame_text view.now.version.now.graph view.now.place) }
 {
-    let chain = chain_of(alloc, version, place)?;
-    push_names_line(line, "blame", version.graph(), chain.as_slice())
+    let chain = view.blame(alloc)?;
+    push_names_line(line, "blame", view.version.graph(), chain.as_slice())
 }

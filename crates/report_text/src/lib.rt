@@ -9,7 +9,6 @@ mod headers;
 mod lines;
 mod one;
 mod path;
-pub mod queries;
 mod reporting;
 mod shift;
 mod sweep;

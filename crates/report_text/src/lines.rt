@@ -1,17 +1,14 @@
 //! The lines of the reports of a header and lines.
-ghost use Rattle.std.specs.Prelude.{◌≡◌, ◌++◌, Some, OnOk, string_bytes};
-ghost use Rattle.stage_graph.specs.Plain.{stage_at};
+ghost use Rattle.std.specs.Prelude.{◌≡◌, ◌++◌, OnOk, string_bytes};
 ghost use Rattle.report_text.specs.Lines.{has_line, line_count, place_line};
 ghost use Rattle.report_text.specs.Texts.{stage_line, times_line};
 
 use crate::against::{is_changed, push_change_against, push_drift_against, shift_against};
-use crate::queries::{rank_of, start_of, state_of};
 use crate::words::push_number_or_dash;
 use propagate::StateRepresentation;
-use stage_graph::Stage;
 use std::alloc::AllocError;
 use std::fmt::Write;
-use version_store::Version;
+use version_store::{StageView, Version};
 
 /// The content of a report's lines.
 #[derive(Clone, Copy, Debug, PartialEq, Eq)]
@@ -52,16 +49,13 @@ fn has_line<R: StateRepresentation>(
 ) -> bool
     ensures { result ≡ has_line lines version.now against.now place }
 {
+    let Some(view) = version.stage(place) else {
+        return false;
+    };
     match lines {
-        Lines::States | Lines::Times => version.graph().stage(place).is_some(),
-        Lines::ChangesAgainst => match version.graph().stage(place) {
-            Some(stage) => is_changed(version, against, place, stage),
-            None => false,
-        },
-        Lines::ShiftsAgainst => match version.graph().stage(place) {
-            Some(stage) => shift_against(version, against, place, stage).is_some(),
-            None => false,
-        },
+        Lines::States | Lines::Times => true,
+        Lines::ChangesAgainst => is_changed(&view, against),
+        Lines::ShiftsAgainst => shift_against(&view, against).is_some(),
     }
 }
 
@@ -75,46 +69,40 @@ pub(crate) fn push_line<R: StateRepresentation>(
 ) -> Result<(), AllocError>
     ensures { OnOk result (string_bytes line.new ≡ string_bytes line.old ++ place_line lines version.now against.now place) }
 {
-    let Some(stage) = version.graph().stage(place) else {
+    let Some(view) = version.stage(place) else {
         return Ok(());
     };
     match lines {
-        Lines::States => push_stage(line, version, place, stage),
-        Lines::Times => push_times(line, version, place, stage),
-        Lines::ChangesAgainst => push_change_against(line, version, against, place, stage),
-        Lines::ShiftsAgainst => push_drift_against(line, version, against, place, stage),
+        Lines::States => push_stage(line, &view),
+        Lines::Times => push_times(line, &view),
+        Lines::ChangesAgainst => push_change_against(line, &view, against),
+        Lines::ShiftsAgainst => push_drift_against(line, &view, against),
     }
 }
 
 pub(crate) fn push_stage<R: StateRepresentation>(
     line: &mut String,
-    version: &Version<R>,
-    place: u32,
-    stage: &Stage,
+    view: &StageView<'_, R>,
 ) -> Result<(), AllocError>
-    requires { stage_at version.now.graph.places place ≡ Some stage.now }
-    ensures { OnOk result (string_bytes line.new ≡ string_bytes line.old ++ stage_line version.now.graph place stage.now) }
+    ensures { OnOk result (string_bytes line.new ≡ string_bytes line.old ++ stage_line view.now.version.now.graph view.now.place view.now.stage.now) }
 {
-    let name = stage.name.as_str();
-    let op = stage.op;
-    let rank = rank_of(version, place);
-    let state = state_of(version, place);
+    let name = view.stage.name.as_str();
+    let op = view.stage.op;
+    let rank = view.rank();
+    let state = view.state();
     writeln!(line, "{name} {op} rank {rank} {state}")
 }
 
 fn push_times<R: StateRepresentation>(
     line: &mut String,
-    version: &Version<R>,
-    place: u32,
-    stage: &Stage,
+    view: &StageView<'_, R>,
 ) -> Result<(), AllocError>
-    requires { stage_at version.now.graph.places place ≡ Some stage.now }
-    ensures { OnOk result (string_bytes line.new ≡ string_bytes line.old ++ times_line version.now.graph place stage.now) }
+    ensures { OnOk result (string_bytes line.new ≡ string_bytes line.old ++ times_line view.now.version.now.graph view.now.place view.now.stage.now) }
 {
-    let name = stage.name.as_str();
-    let queued = stage.queued;
-    let runs = stage.runs;
+    let name = view.stage.name.as_str();
+    let queued = view.stage.queued;
+    let runs = view.stage.runs;
     write!(line, "{name} start ")?;
-    push_number_or_dash(line, start_of(version, place))?;
+    push_number_or_dash(line, view.start())?;
     writeln!(line, " queued {queued} runs {runs}")
 }

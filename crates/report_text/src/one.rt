@@ -1,7 +1,6 @@
 //! The report of one stage.
-ghost use Rattle.std.specs.Prelude.{◌≡◌, ◌≢◌, ◌↔◌, ◌+◌, ◌-◌, ◌^◌, ◌<◌, ◌++◌, [], None, Some, string_bytes, unwrap_or, OnOk, OnErr};
+ghost use Rattle.std.specs.Prelude.{◌≡◌, ◌≢◌, ◌↔◌, ◌+◌, ◌-◌, ◌^◌, ◌<◌, ◌++◌, [], None, string_bytes, unwrap_or, OnOk, OnErr};
 ghost use Rattle.std.specs.Io.KnownBytes.{Appends};
-ghost use Rattle.stage_graph.specs.Plain.{IsLive, stage_at};
 ghost use Rattle.text_io.specs.Sink.{AppendsPrefix};
 ghost use Rattle.report_text.specs.Reports.{failed_writes, text};
 ghost use Rattle.report_text.specs.Texts.{join_line, names_line, one_text};
@@ -9,15 +8,13 @@ ghost use Rattle.report_text.specs.declared.what.What.TheVariants.{One};
 
 use crate::fault::ReportFault;
 use crate::lines::Lines;
-use crate::queries::{dependents_of, join_of};
 use crate::words::push_names_line;
 use crate::writing::write_place;
 use propagate::StateRepresentation;
-use stage_graph::Stage;
 use std::alloc::AllocError;
 use std::fmt::Write;
 use text_io::Sink;
-use version_store::Version;
+use version_store::{StageView, Version};
 
 /// Writes a stage, its feeds, its dependents and the answer of `join`.
 pub(crate) fn write_one<R: StateRepresentation, S: Sink>(
@@ -32,8 +29,8 @@ pub(crate) fn write_one<R: StateRepresentation, S: Sink>(
     ensures no_stage { (result ≡ Err ReportFault.NoStage) ↔ (text version.now (One place) ≡ None) }
     ensures failures { S.failures sink.new ≡ S.failures sink.old + failed_writes result }
 {
-    match version.graph().stage(place) {
-        Some(stage) => write_lines_of(line, version, place, stage, sink),
+    match version.stage(place) {
+        Some(view) => write_lines_of(line, &view, sink),
         None => Err(ReportFault::NoStage),
     }
 }
@@ -41,26 +38,24 @@ pub(crate) fn write_one<R: StateRepresentation, S: Sink>(
 // Writes the lines of the stage at a place.
 fn write_lines_of<R: StateRepresentation, S: Sink>(
     line: &mut String,
-    version: &Version<R>,
-    place: u32,
-    stage: &Stage,
+    view: &StageView<'_, R>,
     sink: &mut S,
 ) -> Result<(), ReportFault>
-    requires stands { stage_at version.now.graph.places place ≡ Some stage.now }
-    requires room { S.failures sink.old < 2 ^ 64 - 1 }
-    ensures ok { OnOk result (Appends (S.held sink.old) (S.held sink.new) (one_text version.now.graph place stage.now)) }
-    ensures err { OnErr result (AppendsPrefix (S.held sink.old) (S.held sink.new) (one_text version.now.graph place stage.now)) }
+    requires { S.failures sink.old < 2 ^ 64 - 1 }
+    ensures ok { OnOk result (Appends (S.held sink.old) (S.held sink.new) (one_text view.now.version.now.graph view.now.place view.now.stage.now)) }
+    ensures err { OnErr result (AppendsPrefix (S.held sink.old) (S.held sink.new) (one_text view.now.version.now.graph view.now.place view.now.stage.now)) }
     ensures found { result ≢ Err ReportFault.NoStage }
     ensures failures { S.failures sink.new ≡ S.failures sink.old + failed_writes result }
 {
-    let sources = stage.sources.as_slice();
-    let inner = stage.inner.as_slice();
-    let dependents = dependents_of(version, place);
-    write_place(line, Lines::States, version, version, place, sink)?;
+    let version = view.version;
+    let sources = view.stage.sources.as_slice();
+    let inner = view.stage.inner.as_slice();
+    let dependents = view.dependents();
+    write_place(line, Lines::States, version, version, view.place, sink)?;
     write_names(line, "sources", version, sources, sink)?;
     write_names(line, "inner", version, inner, sink)?;
     write_names(line, "dependents", version, dependents, sink)?;
-    write_join(line, version, place, sink)
+    write_join(line, view, sink)
 }
 
 // Writes a title, and the names of the stages at these places.
@@ -86,31 +81,27 @@ fn write_names<R: StateRepresentation, S: Sink>(
 // Writes the answer of `join` on the stage at a place.
 fn write_join<R: StateRepresentation, S: Sink>(
     line: &mut String,
-    version: &Version<R>,
-    place: u32,
+    view: &StageView<'_, R>,
     sink: &mut S,
 ) -> Result<(), ReportFault>
-    requires live { IsLive version.now.graph.places place }
-    requires room { S.failures sink.old < 2 ^ 64 - 1 }
-    ensures ok { OnOk result (Appends (S.held sink.old) (S.held sink.new) (join_line version.now.graph place)) }
-    ensures err { OnErr result (AppendsPrefix (S.held sink.old) (S.held sink.new) (join_line version.now.graph place)) }
+    requires { S.failures sink.old < 2 ^ 64 - 1 }
+    ensures ok { OnOk result (Appends (S.held sink.old) (S.held sink.new) (join_line view.now.version.now.graph view.now.place)) }
+    ensures err { OnErr result (AppendsPrefix (S.held sink.old) (S.held sink.new) (join_line view.now.version.now.graph view.now.place)) }
     ensures found { result ≢ Err ReportFault.NoStage }
     ensures failures { S.failures sink.new ≡ S.failures sink.old + failed_writes result }
 {
     line.clear();
-    push_join(line, version, place)?;
+    push_join(line, view)?;
     sink.write(line.as_bytes())?;
     Ok(())
 }
 
 fn push_join<R: StateRepresentation>(
     line: &mut String,
-    version: &Version<R>,
-    place: u32,
+    view: &StageView<'_, R>,
 ) -> Result<(), AllocError>
-    requires { IsLive version.now.graph.places place }
-    ensures { OnOk result (string_bytes line.new ≡ string_bytes line.old ++ join_line version.now.graph place) }
+    ensures { OnOk result (string_bytes line.new ≡ string_bytes line.old ++ join_line view.now.version.now.graph view.now.place) }
 {
-    let join = join_of(version, place);
+    let join = view.join();
     writeln!(line, "join {join}")
 }

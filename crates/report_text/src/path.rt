@@ -1,15 +1,13 @@
 //! The report of why a stage completed when it did, or why it is pending.
-ghost use Rattle.std.specs.Prelude.{◌≡◌, ◌≢◌, ◌↔◌, ◌+◌, ◌-◌, ◌^◌, ◌<◌, ◌++◌, [], None, Some, string_bytes, slice_get, unwrap_or, OnOk, OnErr};
+ghost use Rattle.std.specs.Prelude.{◌≡◌, ◌≢◌, ◌↔◌, ◌+◌, ◌-◌, ◌^◌, ◌<◌, ◌++◌, [], None, string_bytes, slice_get, unwrap_or, OnOk, OnErr};
 ghost use Rattle.std.specs.List.{flat_map};
 ghost use Rattle.std.specs.Io.KnownBytes.{Appends};
-ghost use Rattle.stage_graph.specs.Plain.{stage_at};
 ghost use Rattle.text_io.specs.Sink.{AppendsPrefix};
 ghost use Rattle.report_text.specs.PathTexts.{at_text, because_text, end_text, path_header, path_text, step_line, step_line_at};
 ghost use Rattle.report_text.specs.Reports.{failed_writes, text};
 ghost use Rattle.report_text.specs.declared.what.What.TheVariants.{Path};
 
 use crate::fault::ReportFault;
-use crate::queries::{moment_of, path_of, reason_of};
 use crate::words::name_of;
 use propagate::StateRepresentation;
 use stage_graph::{Act, Graph, Representation, Stage};
@@ -17,7 +15,7 @@ use stage_ops::{Cause, Reason};
 use std::alloc::{AllocError, Global};
 use std::fmt::Write;
 use text_io::Sink;
-use version_store::Version;
+use version_store::{StageView, Version};
 
 /// Writes why a stage completed when it did, or why it is pending.
 pub(crate) fn write_path<R: StateRepresentation, S: Sink>(
@@ -33,8 +31,8 @@ pub(crate) fn write_path<R: StateRepresentation, S: Sink>(
     ensures no_stage { (result ≡ Err ReportFault.NoStage) ↔ (text version.now (Path place) ≡ None) }
     ensures failures { S.failures sink.new ≡ S.failures sink.old + failed_writes result }
 {
-    match version.graph().stage(place) {
-        Some(stage) => write_path_of(alloc, line, version, place, stage, sink),
+    match version.stage(place) {
+        Some(view) => write_path_of(alloc, line, &view, sink),
         None => Err(ReportFault::NoStage),
     }
 }
@@ -43,23 +41,20 @@ pub(crate) fn write_path<R: StateRepresentation, S: Sink>(
 fn write_path_of<R: StateRepresentation, S: Sink>(
     alloc: Global,
     line: &mut String,
-    version: &Version<R>,
-    place: u32,
-    stage: &Stage,
+    view: &StageView<'_, R>,
     sink: &mut S,
 ) -> Result<(), ReportFault>
-    requires stands { stage_at version.now.graph.places place ≡ Some stage.now }
-    requires room { S.failures sink.old < 2 ^ 64 - 1 }
-    ensures ok { OnOk result (Appends (S.held sink.old) (S.held sink.new) (path_text version.now.graph place stage.now)) }
-    ensures err { OnErr result (AppendsPrefix (S.held sink.old) (S.held sink.new) (path_text version.now.graph place stage.now)) }
+    requires { S.failures sink.old < 2 ^ 64 - 1 }
+    ensures ok { OnOk result (Appends (S.held sink.old) (S.held sink.new) (path_text view.now.version.now.graph view.now.place view.now.stage.now)) }
+    ensures err { OnErr result (AppendsPrefix (S.held sink.old) (S.held sink.new) (path_text view.now.version.now.graph view.now.place view.now.stage.now)) }
     ensures found { result ≢ Err ReportFault.NoStage }
     ensures failures { S.failures sink.new ≡ S.failures sink.old + failed_writes result }
 {
-    let path = path_of(alloc, version, place)?;
+    let path = view.path(alloc)?;
     let places = path.as_slice();
     line.clear();
-    push_path_header(line, version, place, stage, places.len())?;
-    write_each_step(line, version, places, sink)
+    push_path_header(line, view, places.len())?;
+    write_each_step(line, view.version, places, sink)
 }
 
 // Writes the header, which is in the line buffer, and then the line of each of the places.
@@ -111,41 +106,35 @@ fn push_step_at<R: StateRepresentation>(
 ) -> Result<(), AllocError>
     ensures { OnOk result (string_bytes line.new ≡ string_bytes line.old ++ step_line_at version.now.graph place) }
 {
-    match version.graph().stage(place) {
-        Some(stage) => push_step(line, version, place, stage),
+    match version.stage(place) {
+        Some(view) => push_step(line, &view),
         None => Ok(()),
     }
 }
 
 fn push_step<R: StateRepresentation>(
     line: &mut String,
-    version: &Version<R>,
-    place: u32,
-    stage: &Stage,
+    view: &StageView<'_, R>,
 ) -> Result<(), AllocError>
-    requires { stage_at version.now.graph.places place ≡ Some stage.now }
-    ensures { OnOk result (string_bytes line.new ≡ string_bytes line.old ++ step_line version.now.graph place stage.now) }
+    ensures { OnOk result (string_bytes line.new ≡ string_bytes line.old ++ step_line view.now.version.now.graph view.now.place view.now.stage.now) }
 {
-    let moment = moment_of(version, place);
-    let reason = reason_of(version, place);
-    line.push_str(stage.name.as_str())?;
+    let moment = view.moment();
+    let reason = view.reason();
+    line.push_str(view.stage.name.as_str())?;
     push_at(line, "", moment)?;
-    push_because(line, version.graph(), stage, &reason)?;
+    push_because(line, view.version.graph(), view.stage, &reason)?;
     line.push_str("\n")
 }
 
 fn push_path_header<R: StateRepresentation>(
     line: &mut String,
-    version: &Version<R>,
-    place: u32,
-    stage: &Stage,
+    view: &StageView<'_, R>,
     count: usize,
 ) -> Result<(), AllocError>
-    requires { stage_at version.now.graph.places place ≡ Some stage.now }
-    ensures { OnOk result (string_bytes line.new ≡ string_bytes line.old ++ path_header version.now.graph place stage.now count) }
+    ensures { OnOk result (string_bytes line.new ≡ string_bytes line.old ++ path_header view.now.version.now.graph view.now.place view.now.stage.now count) }
 {
-    let moment = moment_of(version, place);
-    let name = stage.name.as_str();
+    let moment = view.moment();
+    let name = view.stage.name.as_str();
     write!(line, "path of {name}")?;
     push_at(line, " pending", moment)?;
     writeln!(line, " stages {count}")

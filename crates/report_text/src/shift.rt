@@ -4,7 +4,7 @@ ghost use Rattle.report_text.specs.Texts.{shift_at, shift_between, shift_since};
 
 use propagate::StateRepresentation;
 use std::fmt;
-use version_store::{Before, Version};
+use version_store::{Before, StageView, Version};
 
 /// How many ticks later or earlier a stage completes.
 #[derive(Clone, Copy, Debug, PartialEq, Eq)]
@@ -56,9 +56,16 @@ impl Shift {
     pub fn at<R: StateRepresentation>(version: &Version<R>, place: u32) -> Option<Shift>
         ensures { result ≡ shift_at version.now place }
     {
-        match (version.before(place), version.moment(place)) {
-            (Ok(before), Ok(moment)) => Shift::since(before, moment),
-            _ => None,
+        match version.stage(place) {
+            Some(view) => Shift::of(&view),
+            None => None,
         }
+    }
+
+    /// The shift of a stage, if it completes at another moment than in the parent.
+    pub fn of<R: StateRepresentation>(view: &StageView<'_, R>) -> Option<Shift>
+        ensures { result ≡ shift_at view.now.version.now view.now.place }
+    {
+        Shift::since(view.before(), view.moment())
     }
 }

@@ -1,8 +1,8 @@
 //! The report of which stages are worth making faster.
-ghost use Rattle.std.specs.Prelude.{◌≡◌, ◌≢◌, ◌↔◌, ◌+◌, ◌-◌, ◌^◌, ◌<◌, ◌++◌, [], None, Some, IfOk, string_bytes, unwrap_or, OnOk, OnErr};
+ghost use Rattle.std.specs.Prelude.{◌≡◌, ◌≢◌, ◌↔◌, ◌+◌, ◌-◌, ◌^◌, ◌<◌, ◌++◌, [], None, IfOk, string_bytes, unwrap_or, OnOk, OnErr};
 ghost use Rattle.std.specs.List.{flat_map};
 ghost use Rattle.std.specs.Io.KnownBytes.{Appends};
-ghost use Rattle.stage_graph.specs.Plain.{IsLive, stage_at};
+ghost use Rattle.stage_graph.specs.Plain.{IsLive};
 ghost use Rattle.text_io.specs.Sink.{AppendsPrefix};
 ghost use Rattle.time_sweep.specs.Sweep.{completion_of, sweep, ticks_of};
 ghost use Rattle.report_text.specs.Reports.{failed_writes};
@@ -10,16 +10,14 @@ ghost use Rattle.report_text.specs.SweepTexts.{first_of, sweep_header, sweep_rep
 
 use crate::fault::ReportFault;
 use crate::path::push_at;
-use crate::queries::{moment_of, state_of};
 use crate::words::name_of;
 use level_pool::Runner;
 use propagate::StateRepresentation;
-use stage_graph::Stage;
 use std::alloc::{AllocError, Global};
 use std::fmt::Write;
 use text_io::Sink;
 use time_sweep::{Trial, sweep_of};
-use version_store::{QueryFault, Version};
+use version_store::{QueryFault, StageView, Version};
 
 /// Writes which stages, if their action took no time, would make a stage complete sooner, a line at a time: the soonest
 /// first, and at one tick by place. The header counts all of them; no more than `most` lines follow it.
@@ -40,19 +38,11 @@ pub fn report_sweep<R: StateRepresentation, W: Runner, S: Sink>(
     ensures no_stage { (result ≡ Err ReportFault.NoStage) ↔ (sweep_report version.now target most ≡ None) }
     ensures failures { S.failures sink.new ≡ S.failures sink.old + failed_writes result }
 {
-    match version.graph().stage(target) {
-        Some(stage) => {
+    match version.stage(target) {
+        Some(view) => {
             let found = swept(alloc, version, target, runner)?;
             let mut line = String::new(alloc);
-            write_sweep(
-                &mut line,
-                version,
-                target,
-                stage,
-                most,
-                found.as_slice(),
-                sink,
-            )
+            write_sweep(&mut line, &view, most, found.as_slice(), sink)
         }
         None => Err(ReportFault::NoStage),
     }
@@ -61,25 +51,22 @@ pub fn report_sweep<R: StateRepresentation, W: Runner, S: Sink>(
 // Writes the trials of the stage at a place, which are these.
 fn write_sweep<R: StateRepresentation, S: Sink>(
     line: &mut String,
-    version: &Version<R>,
-    target: u32,
-    stage: &Stage,
+    view: &StageView<'_, R>,
     most: Option<usize>,
     trials: &[Trial],
     sink: &mut S,
 ) -> Result<(), ReportFault>
-    requires stands { stage_at version.now.graph.places target ≡ Some stage.now }
-    requires all { trials.now ≡ sweep version.now.graph target }
+    requires all { trials.now ≡ sweep view.now.version.now.graph view.now.place }
     requires room { S.failures sink.old < 2 ^ 64 - 1 }
-    ensures ok { OnOk result (Appends (S.held sink.old) (S.held sink.new) (sweep_text version.now.graph target most stage.now)) }
-    ensures err { OnErr result (AppendsPrefix (S.held sink.old) (S.held sink.new) (sweep_text version.now.graph target most stage.now)) }
+    ensures ok { OnOk result (Appends (S.held sink.old) (S.held sink.new) (sweep_text view.now.version.now.graph view.now.place most view.now.stage.now)) }
+    ensures err { OnErr result (AppendsPrefix (S.held sink.old) (S.held sink.new) (sweep_text view.now.version.now.graph view.now.place most view.now.stage.now)) }
     ensures found { result ≢ Err ReportFault.NoStage }
     ensures failures { S.failures sink.new ≡ S.failures sink.old + failed_writes result }
 {
     line.clear();
-    push_sweep_header(line, version, target, stage, trials.len())?;
-    let tick = tick_of(version, target);
-    write_each_trial(line, version, tick, first_of(most, trials), sink)
+    push_sweep_header(line, view, trials.len())?;
+    let tick = tick_of(view);
+    write_each_trial(line, view.version, tick, first_of(most, trials), sink)
 }
 
 /// The trials by which the stage would complete sooner.
@@ -100,11 +87,10 @@ pub fn swept<R: StateRepresentation, W: Runner>(
 }
 
 /// The tick at which the stage completes; 0 while it is pending, and then nothing makes it complete sooner.
-pub fn tick_of<R: StateRepresentation>(version: &Version<R>, target: u32) -> u64
-    requires { IsLive version.now.graph.places target }
-    ensures { result ≡ ticks_of (completion_of version.now.graph target) }
+pub fn tick_of<R: StateRepresentation>(view: &StageView<'_, R>) -> u64
+    ensures { result ≡ ticks_of (completion_of view.now.version.now.graph view.now.place) }
 {
-    match state_of(version, target).done {
+    match view.state().done {
         Some(done) => done.moment,
         None => 0,
     }
@@ -180,16 +166,13 @@ fn push_trial<R: StateRepresentation>(
 
 fn push_sweep_header<R: StateRepresentation>(
     line: &mut String,
-    version: &Version<R>,
-    target: u32,
-    stage: &Stage,
+    view: &StageView<'_, R>,
     count: usize,
 ) -> Result<(), AllocError>
-    requires { stage_at version.now.graph.places target ≡ Some stage.now }
-    ensures { OnOk result (string_bytes line.new ≡ string_bytes line.old ++ sweep_header version.now.graph target stage.now count) }
+    ensures { OnOk result (string_bytes line.new ≡ string_bytes line.old ++ sweep_header view.now.version.now.graph view.now.place view.now.stage.now count) }
 {
-    let moment = moment_of(version, target);
-    let name = stage.name.as_str();
+    let moment = view.moment();
+    let name = view.stage.name.as_str();
     write!(line, "sweep of {name}")?;
     push_at(line, " pending", moment)?;
     writeln!(line, " stages {count}")

@@ -1,8 +1,7 @@
 //! The reports on the touched stages of a version only: what changed, and how much later or earlier it is.
-ghost use Rattle.std.specs.Prelude.{◌≡◌, ◌≢◌, ◌+◌, ◌-◌, ◌^◌, ◌<◌, ◌++◌, Some, OnOk, OnErr, string_bytes, is_some, count_by};
+ghost use Rattle.std.specs.Prelude.{◌≡◌, ◌≢◌, ◌+◌, ◌-◌, ◌^◌, ◌<◌, ◌++◌, OnOk, OnErr, string_bytes, is_some, count_by};
 ghost use Rattle.std.specs.List.{flat_map};
 ghost use Rattle.std.specs.Io.KnownBytes.{Appends};
-ghost use Rattle.stage_graph.specs.Plain.{stage_at};
 ghost use Rattle.text_io.specs.Sink.{AppendsPrefix};
 ghost use Rattle.report_text.specs.Reports.{failed_writes};
 ghost use Rattle.report_text.specs.Lines.{touched_line};
@@ -10,14 +9,12 @@ ghost use Rattle.report_text.specs.Texts.{before_text, change_line, changes_text
 
 use crate::fault::ReportFault;
 use crate::headers::{push_changes_header, push_drift_header};
-use crate::queries::{before_of, state_of};
 use crate::shift::Shift;
 use propagate::StateRepresentation;
-use stage_graph::Stage;
 use std::alloc::{AllocError, Global};
 use std::fmt::Write;
 use text_io::Sink;
-use version_store::{Before, Version};
+use version_store::{Before, StageView, Version};
 
 /// The content of the line of a touched stage.
 #[derive(Clone, Copy, Debug, PartialEq, Eq)]
@@ -138,28 +135,25 @@ fn push_line<R: StateRepresentation>(
 ) -> Result<(), AllocError>
     ensures { OnOk result (string_bytes line.new ≡ string_bytes line.old ++ touched_line lines version.now place) }
 {
-    let Some(stage) = version.graph().stage(place) else {
+    let Some(view) = version.stage(place) else {
         return Ok(());
     };
     match lines {
-        TouchedLines::Changes => push_change(line, version, place, stage),
-        TouchedLines::Shifts => push_drift(line, version, place, stage),
+        TouchedLines::Changes => push_change(line, &view),
+        TouchedLines::Shifts => push_drift(line, &view),
     }
 }
 
 fn push_change<R: StateRepresentation>(
     line: &mut String,
-    version: &Version<R>,
-    place: u32,
-    stage: &Stage,
+    view: &StageView<'_, R>,
 ) -> Result<(), AllocError>
-    requires { stage_at version.now.graph.places place ≡ Some stage.now }
-    ensures { OnOk result (string_bytes line.new ≡ string_bytes line.old ++ change_line version.now place stage.now) }
+    ensures { OnOk result (string_bytes line.new ≡ string_bytes line.old ++ change_line view.now.version.now view.now.place view.now.stage.now) }
 {
-    let name = stage.name.as_str();
-    let state = state_of(version, place);
+    let name = view.stage.name.as_str();
+    let state = view.state();
     write!(line, "{name} ")?;
-    push_before(line, before_of(version, place))?;
+    push_before(line, view.before())?;
     writeln!(line, " -> {state}")
 }
 
@@ -176,14 +170,12 @@ fn push_before(line: &mut String, before: Before) -> Result<(), AllocError>
 
 fn push_drift<R: StateRepresentation>(
     line: &mut String,
-    version: &Version<R>,
-    place: u32,
-    stage: &Stage,
+    view: &StageView<'_, R>,
 ) -> Result<(), AllocError>
-    ensures { OnOk result (string_bytes line.new ≡ string_bytes line.old ++ drift_line version.now place stage.now) }
+    ensures { OnOk result (string_bytes line.new ≡ string_bytes line.old ++ drift_line view.now.version.now view.now.place view.now.stage.now) }
 {
-    let name = stage.name.as_str();
-    match Shift::at(version, place) {
+    let name = view.stage.name.as_str();
+    match Shift::of(view) {
         Some(shift) => writeln!(line, "{name} {shift}"),
         None => Ok(()),
     }

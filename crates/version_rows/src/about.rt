@@ -1,31 +1,27 @@
 //! What is told of a stage where one points at its row.
-ghost use Rattle.std.specs.Prelude.{◌≡◌, ◌++◌, OnOk, Some, string_bytes};
-ghost use Rattle.stage_graph.specs.Plain.{stage_at};
+ghost use Rattle.std.specs.Prelude.{◌≡◌, ◌++◌, OnOk, string_bytes};
 ghost use Rattle.version_rows.specs.Rows.{about_text, cause_text, own_text};
 
-use crate::queries::{name_of, rank_of, reason_of, state_of};
+use crate::names::name_of;
 use propagate::StateRepresentation;
 use stage_graph::{Graph, Representation, Stage};
 use stage_ops::{Cause, Reason};
 use std::alloc::AllocError;
 use std::fmt::Write;
-use version_store::Version;
+use version_store::StageView;
 
 /// The outcome and the moment, the rank, what it waited for, and how long its own action was queued and ran since.
 pub(crate) fn push_about<R: StateRepresentation>(
     line: &mut String,
-    version: &Version<R>,
-    place: u32,
-    stage: &Stage,
+    view: &StageView<'_, R>,
 ) -> Result<(), AllocError>
-    requires { stage_at version.now.graph.places place ≡ Some stage.now }
-    ensures { OnOk result (string_bytes line.new ≡ string_bytes line.old ++ about_text version.now.graph place stage.now) }
+    ensures { OnOk result (string_bytes line.new ≡ string_bytes line.old ++ about_text view.now.version.now.graph view.now.place view.now.stage.now) }
 {
-    let state = state_of(version, place);
-    let rank = rank_of(version, place);
-    let reason = reason_of(version, place);
+    let state = view.state();
+    let rank = view.rank();
+    let reason = view.reason();
     write!(line, "{state}\nrank {rank}\n")?;
-    push_cause(line, version.graph(), stage, reason.cause)?;
+    push_cause(line, view.version.graph(), view.stage, reason.cause)?;
     line.push_str("\n")?;
     push_own(line, &reason)
 }

@@ -1,17 +1,15 @@
 //! The stages that may have a row.
-ghost use Rattle.std.specs.Prelude.{◌≡◌, ◌++◌, IfOk, OnOk, Some};
+ghost use Rattle.std.specs.Prelude.{◌≡◌, ◌++◌, IfOk, OnOk};
 ghost use Rattle.std.specs.Option.{option_to_list};
 ghost use Rattle.stage_graph.specs.Plain.{stage_at};
 ghost use Rattle.version_rows.specs.Candidates.{candidate_in, candidate_of, candidates, is_wanted, rest_of};
 
 use crate::course::{course_of, start_of};
 use crate::flags::{flags_of, is_flagged};
-use crate::queries::{reason_of, state_of};
 use propagate::StateRepresentation;
-use stage_graph::Stage;
 use stage_ops::Reason;
 use std::alloc::{AllocError, Global};
-use version_store::Version;
+use version_store::{StageView, Version};
 
 /// Which stages may have a row.
 #[derive(Clone, Copy, Debug, PartialEq, Eq)]
@@ -72,9 +70,9 @@ fn candidate_at<R: StateRepresentation>(
 ) -> Option<Candidate>
     ensures { result ≡ candidate_in version.now.graph scope is_on_path place (stage_at version.now.graph.places place) }
 {
-    let stage = version.graph().stage(place)?;
+    let view = version.stage(place)?;
     if is_wanted(scope, is_on_path) {
-        Some(candidate_of(version, is_on_path, place, stage))
+        Some(candidate_of(is_on_path, &view))
     } else {
         None
     }
@@ -89,22 +87,17 @@ fn is_wanted(scope: Scope, is_on_path: bool) -> bool
     }
 }
 
-fn candidate_of<R: StateRepresentation>(
-    version: &Version<R>,
-    is_on_path: bool,
-    place: u32,
-    stage: &Stage,
-) -> Candidate
-    requires { stage_at version.now.graph.places place ≡ Some stage.now }
-    ensures { result ≡ candidate_of version.now.graph is_on_path place stage.now }
+fn candidate_of<R: StateRepresentation>(is_on_path: bool, view: &StageView<'_, R>) -> Candidate
+    ensures { result ≡ candidate_of view.now.version.now.graph is_on_path view.now.place view.now.stage.now }
 {
-    let state = state_of(version, place);
-    let start = start_of(course_of(stage, &state.done));
+    let place = view.place;
+    let state = view.state();
+    let start = start_of(course_of(view.stage, &state.done));
     Candidate {
         place,
         is_on_path,
         order: u128::from(start) * (1 << 32) + u128::from(place),
-        rest: rest_of(is_on_path, &reason_of(version, place)),
+        rest: rest_of(is_on_path, &view.reason()),
     }
 }
 

@@ -70,12 +70,8 @@ fn path_of<R: StateRepresentation>(
     ensures path { IfOk result (λ places. places ≡ path version.now.graph place) }
     ensures no_stage { (result ≡ Err QueryFault.NoStage) ↔ (stage_at version.now.graph.places place ≡ None) }
 {
-    if version.graph().stage(place).is_none() {
-        return Err(QueryFault::NoStage);
-    }
-    match version.path(alloc, place) {
-        Ok(path) => Ok(path),
-        Err(QueryFault::Memory) => Err(QueryFault::Memory),
-        Err(QueryFault::NoStage) => unreachable!(),
+    match version.stage(place) {
+        Some(view) => Ok(view.path(alloc)?),
+        None => Err(QueryFault::NoStage),
     }
 }

@@ -3,7 +3,7 @@ ghost use Rattle.std.specs.Prelude.{◌≡◌, IfOk, string_bytes, ◌++◌, OnO
 ghost use Rattle.version_rows.specs.Drawings.{note_text, path_title, title_text};
 
 use crate::chosen::MOST_ROWS;
-use crate::queries::name_of;
+use crate::names::name_of;
 use propagate::StateRepresentation;
 use std::alloc::{AllocError, Global};
 use std::fmt::Write;

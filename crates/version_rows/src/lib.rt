@@ -8,7 +8,7 @@ mod course;
 mod drawing;
 mod flags;
 mod heading;
-mod queries;
+mod names;
 mod rows;
 
 pub use candidate::Scope;

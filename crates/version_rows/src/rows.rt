@@ -1,19 +1,16 @@
 //! The rows, and the path over them.
 ghost use Rattle.std.specs.Prelude.{◌≡◌, ◌++◌, IfOk, OnOk, Some, filter_map, map};
 ghost use Rattle.std.specs.Option.{option_to_list};
-ghost use Rattle.stage_graph.specs.Plain.{stage_at};
 ghost use Rattle.version_rows.specs.Drawings.{row_index};
 ghost use Rattle.version_rows.specs.Rows.{plain, row_in, row_of};
 
 use crate::about::push_about;
 use crate::candidate::Candidate;
 use crate::course::course_of;
-use crate::queries::state_of;
 use propagate::StateRepresentation;
-use stage_graph::Stage;
 use std::alloc::{AllocError, Global};
 use timeline_svg::{Course, Row};
-use version_store::Version;
+use version_store::{StageView, Version};
 
 /// The rows of the candidates.
 pub(crate) fn rows_of<R: StateRepresentation>(
@@ -38,8 +35,8 @@ fn row_of<R: StateRepresentation>(
 ) -> Result<Row, AllocError>
     ensures { IfOk result (λ row. plain row ≡ row_of version.now.graph candidate.now) }
 {
-    match version.graph().stage(candidate.place) {
-        Some(stage) => row_of_stage(alloc, version, candidate, stage),
+    match version.stage(candidate.place) {
+        Some(view) => row_of_stage(alloc, candidate, &view),
         None => Ok(Row {
             name: String::new(alloc),
             about: String::new(alloc),
@@ -52,23 +49,22 @@ fn row_of<R: StateRepresentation>(
 
 fn row_of_stage<R: StateRepresentation>(
     alloc: Global,
-    version: &Version<R>,
     candidate: &Candidate,
-    stage: &Stage,
+    view: &StageView<'_, R>,
 ) -> Result<Row, AllocError>
-    requires { stage_at version.now.graph.places candidate.now.place ≡ Some stage.now }
-    ensures { IfOk result (λ row. plain row ≡ row_in version.now.graph candidate.now (Some stage.now)) }
+    requires { view.now.place ≡ candidate.now.place }
+    ensures { IfOk result (λ row. plain row ≡ row_in view.now.version.now.graph candidate.now (Some view.now.stage.now)) }
 {
     let mut name = String::new(alloc);
-    name.push_str(stage.name.as_str())?;
+    name.push_str(view.stage.name.as_str())?;
     let mut about = String::new(alloc);
-    push_about(&mut about, version, candidate.place, stage)?;
-    let state = state_of(version, candidate.place);
+    push_about(&mut about, view)?;
+    let state = view.state();
     Ok(Row {
         name,
         about,
-        created: stage.created,
-        course: course_of(stage, &state.done),
+        created: view.stage.created,
+        course: course_of(view.stage, &state.done),
         is_on_path: candidate.is_on_path,
     })
 }

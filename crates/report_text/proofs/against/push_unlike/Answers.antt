@@ -8,5 +8,5 @@ returns g c =
     let first = c.in_ok-write.ensures.bytes in
     let met = c.done_of.ensures in
     let told = c.in_ok-push_there.ensures in
-    let state = c.state_of-state.ensures in
+    let state = c.state-state.ensures in
     IfOk-equal _ _ _ _ c.writeln.ensures.bytes (rw (told, met, first, state, name) (simp append_assoc))

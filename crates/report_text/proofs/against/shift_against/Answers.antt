@@ -6,5 +6,5 @@ pub returns : goal.returns
 returns g c =
     let there = c.args.against.now.graph in
     c.shift_from.ensures
-    ∙ ap (λ met. shift_from met c.moment_of.result) (c.done_of-there.ensures ∙ ap (done_of there) c.as_str.ensures)
-    ∙ ap (shift_from (done_of there c.args.stage.now.name)) c.moment_of.ensures
+    ∙ ap (λ met. shift_from met c.moment.result) (c.done_of-there.ensures ∙ ap (done_of there) c.as_str.ensures)
+    ∙ ap (shift_from (done_of there c.args.view.now.stage.now.name)) c.moment.ensures

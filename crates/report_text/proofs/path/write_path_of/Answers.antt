@@ -15,5 +15,5 @@ pub returns-clause-err : goal.returns-clause-err
 returns-clause-err g c =
     of_the_text _ _ _ _ _
     (with_header _ _ _ _ c.in_ok-push_path_header.ensures c.clear.ensures.bytes
-    ∙ ap (λ (path : List ℕ). path_header c.args.version.now.graph c.args.place c.args.stage.now (length path) ++ flat_map (step_line_at c.args.version.now.graph) path) (c.as_slice-places.ensures ∙ c.in_ok-path.ensures))
+    ∙ ap (λ (path : List ℕ). path_header c.args.view.now.version.now.graph c.args.view.now.place c.args.view.now.stage.now (length path) ++ flat_map (step_line_at c.args.view.now.version.now.graph) path) (c.as_slice-places.ensures ∙ c.in_ok-path.ensures.path))
     c.write_each_step.ensures.err

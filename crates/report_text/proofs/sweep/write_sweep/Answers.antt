@@ -12,11 +12,11 @@ returns-in_err-push_sweep_header-clause-err g c = on_err _ (AppendsPrefix-none _
 
 pub returns-clause-err : goal.returns-clause-err
 returns-clause-err g c =
-    let graph = c.args.version.now.graph in
-    let header = λ (trials : List Trial). sweep_header graph c.args.target c.args.stage.now (length trials) in
+    let graph = c.args.view.now.version.now.graph in
+    let header = λ (trials : List Trial). sweep_header graph c.args.view.now.place c.args.view.now.stage.now (length trials) in
     of_the_text _ _ _ _ _
     (with_header _ _ _ _ c.in_ok-push_sweep_header.ensures c.clear.ensures.bytes
     ∙ ap (λ shown. header c.args.trials.now ++ flat_map (trial_line graph c.tick_of-tick.result) shown) c.first_of.ensures
     ∙ ap (λ tick. header c.args.trials.now ++ flat_map (trial_line graph tick) (first_of c.args.most c.args.trials.now)) c.tick_of-tick.ensures
-    ∙ ap (λ trials. header trials ++ flat_map (trial_line graph (ticks_of (completion_of graph c.args.target))) (first_of c.args.most trials)) c.requires.all)
+    ∙ ap (λ trials. header trials ++ flat_map (trial_line graph (ticks_of (completion_of graph c.args.view.now.place))) (first_of c.args.most trials)) c.requires.all)
     c.write_each_trial.ensures.err
