@@ -88,6 +88,7 @@ impl<N: Naming, R: StateRepresentation, W: Wait + Drop> Shared<N, R, W> {
         ensures later { SeesOn client.old client.new }
         ensures named { HasSeenIn client.new (reply_of (λ _. Opened version) result) }
     {
+        // The history comes with what the proof needs of the table: it is a legal log, and its sessions stand at versions.
         let _ = self.table.history();
         let answer = self.table.open(client.number, session, version);
         let reply = match answer {
@@ -112,6 +113,7 @@ impl<N: Naming, R: StateRepresentation, W: Wait + Drop> Shared<N, R, W> {
         ensures named { HasSeenIn client.new (reply_of (λ version. At version.number) result) }
         ensures gives { IfOk result (λ version. IsSeen client.new version) }
     {
+        // The history comes with what the proof needs of the table: it is a legal log, and its sessions stand at versions.
         let _ = self.table.history();
         let event = Event::Head { session };
         match self.table.head(client.number, session) {
@@ -140,6 +142,7 @@ impl<N: Naming, R: StateRepresentation, W: Wait + Drop> Shared<N, R, W> {
         ensures later { SeesOn client.old client.new }
         ensures named { HasSeenIn client.new (reply_of Undone result) }
     {
+        // The history comes with what the proof needs of the table: it is a legal log, and its sessions stand at versions.
         let _ = self.table.history();
         let answer = self.table.undo(client.number, session);
         let reply = match answer {
@@ -163,6 +166,7 @@ impl<N: Naming, R: StateRepresentation, W: Wait + Drop> Shared<N, R, W> {
         ensures later { SeesOn client.old client.new }
         ensures named { HasSeenIn client.new (reply_of (λ _. Closed) result) }
     {
+        // The history comes with what the proof needs of the table: it is a legal log, and its sessions stand at versions.
         let _ = self.table.history();
         let answer = self.table.close(client.number, session);
         let reply = match answer {
@@ -197,6 +201,7 @@ impl<N: Naming, R: StateRepresentation, W: Wait + Drop> Shared<N, R, W> {
         ensures refused { IfErr result (RefusesToCommit draft.now.origin.number) }
     {
         client.front = client.front.longer(&self.front);
+        // The history comes with what the proof needs of the table: it is a legal log, and its sessions stand at versions.
         let _ = self.table.history();
         let base = draft.base();
         let ready = match self.table.prepare(client.number, session, draft) {

@@ -1,14 +1,14 @@
-pub mod Crossing
 pub mod Added
 pub mod Booked
 pub mod Commits
+pub mod Crossing
 pub mod Cycles
 pub mod Drafting
 pub mod Foreign
-pub mod Leads
+pub mod HeadlineLemmas
 pub mod Legal
-pub mod Making
 pub mod Maps
+pub mod NewVersionLemmas
 pub mod Runs
 pub mod Sound
 pub mod Spans

@@ -1,5 +1,6 @@
 //! What is asked of a table, and what it answers.
 ghost use Rattle.std.specs.Prelude.{◌≡◌, ◌↔◌, IsTrue};
+ghost use Rattle.session_core.specs.Headline.{session_of};
 
 use crate::refusal::Refusal;
 use share_tree::Held;
@@ -59,6 +60,19 @@ pub struct Entry {
 }
 
 impl Event {
+    /// The session that the event is about. Allocates nothing.
+    pub fn session(&self) -> u32
+        ensures { result ≡ session_of self.now }
+    {
+        match self {
+            Event::Open { session, .. }
+            | Event::Head { session }
+            | Event::Commit { session, .. }
+            | Event::Undo { session }
+            | Event::Close { session } => *session,
+        }
+    }
+
     /// Whether two events are the same. Allocates nothing.
     pub fn same(&self, other: &Event) -> bool
         ensures { IsTrue result ↔ (self.now ≡ other.now) }

@@ -103,6 +103,7 @@ impl<R: StateRepresentation> Machine<R> {
     pub(crate) fn standing(&self)
         ensures { StandAtVersions self.now.state }
     {
+        // With the field comes what its type says of it, and that is the claim.
         let _ = &self.sessions;
     }
 

@@ -272,6 +272,7 @@ impl<R: StateRepresentation> Table<R> {
         let Ok(first) = self.version(0) else {
             return;
         };
+        // With its length a graph says that it is sound, as every graph is.
         let _ = first.graph().len();
     }
 

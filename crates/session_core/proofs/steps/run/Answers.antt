@@ -5,7 +5,7 @@ use Rattle.std.proofs.lemmas.List.{append_assoc, take_all}
 use Rattle.session_core.specs.declared.event.Event.{Event}
 use Rattle.session_core.specs.declared.event.Reply.{Reply}
 use Rattle.session_core.specs.Runs.{Runs}
-use Rattle.session_core.proofs.Leads.{leads_from_opening}
+use Rattle.session_core.proofs.HeadlineLemmas.{leads_from_opening}
 use Rattle.session_core.proofs.Runs.{Runs-snoc}
 use Rattle.session_core.proofs.steps.run.Goals as goal
 

@@ -32,7 +32,7 @@ use Rattle.session_core.proofs.Runs.{replies_step}
 use Rattle.session_core.specs.Headline.{session_of, headed, without, after, led_to, IsEdited, IsInOrder, AreInOrder, IsMade, all_made, HasOneAnswer, LeadsTo, LeadsFromOpening}
 use Rattle.session_core.proofs.Cycles.{ranked_from_applied}
 use Rattle.session_core.proofs.Sound.{sound_from_applied}
-use Rattle.session_core.proofs.Making.{left, Making, one_making, still_made}
+use Rattle.session_core.proofs.NewVersionLemmas.{left, Making, one_making, still_made}
 use Rattle.session_core.proofs.Maps.{Sorted, find-insert, find-remove, Sorted-insert, Sorted-remove}
 
 -- what one step does to the sessions and the versions
