@@ -3,14 +3,13 @@ use Rattle.std.proofs.Common.{◌≡◌, ℕ, ◌+◌, ◌≤◌, inl, inr, Bool
 use Rattle.std.specs.Io.KnownBytes.{Consumes}
 use Rattle.std.proofs.KnownBytes.{Consumes-nil, Consumes-trans}
 use Rattle.script_lines.specs.Lines.{ScriptLine, lines_of}
-use Rattle.script_lines.specs.LineReader.{ReadsOn, StopsReading, line_read}
-use Rattle.script_lines.specs.Faults.{served}
+use Rattle.script_lines.specs.LineReader.{ReadsEndBy, ReadsOn, StopsReading, line_read, is_read_fault as is_line_read_fault}
+use Rattle.serve_script.specs.Faults.{is_read_fault, served, unread}
 use Rattle.script_lines.specs.ReaderView.{ReaderView}
-use Rattle.script_lines.specs.Serves.{ReadsEndBy}
-use Rattle.script_lines.proofs.Steps.{unfailed_in_answer}
-use Rattle.script_lines.specs.declared.fault.AnswerFault.{AnswerFault}
-use Rattle.script_lines.specs.declared.fault.ServeFault.{ServeFault}
-use Rattle.script_lines.specs.declared.fault.ServeFault.TheVariants.{Memory, Write, Read}
+use Rattle.serve_script.proofs.Steps.{unfailed_in_answer}
+use Rattle.serve_script.specs.declared.fault.AnswerFault.{AnswerFault}
+use Rattle.script_lines.specs.declared.fault.LineFault.{LineFault}
+use Rattle.script_lines.specs.declared.fault.LineFault.TheVariants as line
 use Rattle.report_json.specs.Forms.{form_of}
 use Rattle.report_json.specs.declared.form.Form.{Form}
 use Rattle.report_json.specs.declared.form.Format.{Format}
@@ -99,27 +98,35 @@ comes_to_end format most number form c m d before after had left still failures_
     }
 
 -- a fault ended the reading
-ends_by : (fault : ServeFault) (read piece : List ℕ) (most left before after : ℕ) → length read + left ≡ most
-    → ReadsEndBy fault (length piece) left before after → ReadsEndBy fault (length (read ++ piece)) most before after
-ends_by Memory read piece most left before after counted reads = reads
-ends_by Write read piece most left before after counted reads = reads
-ends_by Read read piece most left before after counted (inl failed) = inl failed
-ends_by Read read piece most left before after counted (inr (all, same)) =
+ends_by : (at_read : Bool) (read piece : List ℕ) (most left before after : ℕ) → length read + left ≡ most
+    → ReadsEndBy at_read (length piece) left before after → ReadsEndBy at_read (length (read ++ piece)) most before after
+ends_by false read piece most left before after counted reads = reads
+ends_by true read piece most left before after counted (inl failed) = inl failed
+ends_by true read piece most left before after counted (inr (all, same)) =
     inr ((let joined = length-append read piece in omega (arith, joined, all, counted)), same)
 
-pub stops_on : (format : Format) (most number : ℕ) (c m : ClientView) (before : ReaderView) (had left still : Option (List ℕ)) (first failures_before failures_after : ℕ) (a b : Option (List ℕ)) (fault : ServeFault)
-    → PlaysOn format most number c m before had left a b → failures_before ≡ first → StopsReading fault before.left left still failures_before failures_after
-    → StopsReading fault most had still first failures_after
-stops_on format most number c m before had left still first failures_before failures_after a b fault so_far unfailed stops = record {
+stops_on : (format : Format) (most number : ℕ) (c m : ClientView) (before : ReaderView) (had left still : Option (List ℕ)) (first failures_before failures_after : ℕ) (a b : Option (List ℕ)) (at_read : Bool)
+    → PlaysOn format most number c m before had left a b → failures_before ≡ first → StopsReading at_read before.left left still failures_before failures_after
+    → StopsReading at_read most had still first failures_after
+stops_on format most number c m before had left still first failures_before failures_after a b at_read so_far unfailed stops = record {
   piece = so_far.read ++ stops.piece;
   consumed = Consumes-trans had left still so_far.read stops.piece so_far.consumed stops.consumed;
-  reads = subst (λ n. ReadsEndBy fault (length (so_far.read ++ stops.piece)) most n failures_after) unfailed
-      (ends_by fault so_far.read stops.piece most before.left failures_before failures_after so_far.counted stops.reads);
+  reads = subst (λ n. ReadsEndBy at_read (length (so_far.read ++ stops.piece)) most n failures_after) unfailed
+      (ends_by at_read so_far.read stops.piece most before.left failures_before failures_after so_far.counted stops.reads);
 }
+
+-- no line came
+pub stops_in_line : (format : Format) (most number : ℕ) (c m : ClientView) (before : ReaderView) (had left still : Option (List ℕ)) (first failures_before failures_after : ℕ) (a b : Option (List ℕ)) (fault : LineFault)
+    → PlaysOn format most number c m before had left a b → failures_before ≡ first → StopsReading (is_line_read_fault fault) before.left left still failures_before failures_after
+    → StopsReading (is_read_fault (unread fault)) most had still first failures_after
+stops_in_line format most number c m before had left still first failures_before failures_after a b line.Memory so_far unfailed stops =
+    stops_on format most number c m before had left still first failures_before failures_after a b false so_far unfailed stops
+stops_in_line format most number c m before had left still first failures_before failures_after a b line.Read so_far unfailed stops =
+    stops_on format most number c m before had left still first failures_before failures_after a b true so_far unfailed stops
 
 -- an answer failed
 pub stops_answering : (format : Format) (most number : ℕ) (c m : ClientView) (before after : ReaderView) (had left still : Option (List ℕ)) (first failures : ℕ) (a b : Option (List ℕ)) (fault : AnswerFault) (more : Bool)
-    → PlaysOn format most number c m before had left a b → ReadsOn more before after left still → failures ≡ first → StopsReading (served fault) most had still first failures
+    → PlaysOn format most number c m before had left a b → ReadsOn more before after left still → failures ≡ first → StopsReading (is_read_fault (served fault)) most had still first failures
 stops_answering format most number c m before after had left still first failures a b fault more so_far on unfailed = record {
   piece = so_far.read ++ on.piece;
   consumed = Consumes-trans had left still so_far.read on.piece so_far.consumed on.consumed;

@@ -1,7 +1,7 @@
 //! Answers the steps of a script.
 ghost use Rattle.std.specs.Prelude.{◌≡◌, ◌+◌, ◌-◌, ◌^◌, ◌<◌, false, None, Some, OnOk};
 ghost use Rattle.std.specs.Io.KnownBytes.{Appends};
-ghost use Rattle.script_lines.specs.Faults.{failed_writes};
+ghost use Rattle.serve_script.specs.Faults.{failed_writes};
 ghost use Rattle.recording.specs.declared.step.Subject.TheVariants.{Version as Numbered, Head as Stand};
 ghost use Rattle.serve_script.specs.Told.{reply_told};
 ghost use Rattle.many_scripts.specs.Played.{IsBooked, IsChange, IsCommit, IsReport, IsReportAgainst, IsReportOf, IsStep};
@@ -12,8 +12,7 @@ use crate::events::{book, commit};
 use desk::{Client, Desk, Known, Naming, ReadFault};
 use level_pool::Runner;
 use recording::{Asked, Step, Subject};
-use script_lines::AnswerFault;
-use serve_script::{against_in, tell_no_version, tell_reply, write_asked};
+use serve_script::{AnswerFault, against_in, tell_no_version, tell_reply, write_asked};
 use session_core::{Event, Reply, TableFault};
 use share_tree::Held;
 use stage_graph::Edits;

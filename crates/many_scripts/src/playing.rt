@@ -1,6 +1,6 @@
 //! A client's loop over its script.
 ghost use Rattle.std.specs.Prelude.{◌≡◌, ◌≢◌, ◌+◌, ◌-◌, ◌^◌, ◌<◌, [], OnOk, IfErr};
-ghost use Rattle.script_lines.specs.Faults.{failed_writes_of_serve};
+ghost use Rattle.serve_script.specs.Faults.{failed_writes_of_serve, is_read_fault};
 ghost use Rattle.script_lines.specs.LineReader.{StopsReading};
 ghost use Rattle.many_scripts.specs.Playing.{HasHeard, PlaysScript};
 
@@ -9,7 +9,8 @@ use crate::lines::answer_any;
 use desk::{Client, Naming};
 use level_pool::Runner;
 use report_json::Format;
-use script_lines::{LineReader, ServeFault};
+use script_lines::LineReader;
+use serve_script::ServeFault;
 use std::sync::Wait;
 use text_io::{Sink, Source};
 use version_store::StateRepresentation;
@@ -37,7 +38,7 @@ pub(crate) fn play<
     requires writes { S.failures sink.old < 2 ^ 64 - 1 }
     ensures ok { OnOk result (PlaysScript format reader.old.left client.old client.new (R.remaining source.old) (R.remaining source.new)
         (R.failures source.old) (R.failures source.new) (S.held sink.old) (S.held sink.new)) }
-    ensures err { IfErr result (λ fault. StopsReading fault reader.old.left (R.remaining source.old) (R.remaining source.new)
+    ensures err { IfErr result (λ fault. StopsReading (is_read_fault fault) reader.old.left (R.remaining source.old) (R.remaining source.new)
         (R.failures source.old) (R.failures source.new)) }
     ensures failures { S.failures sink.new ≡ S.failures sink.old + failed_writes_of_serve result }
 {

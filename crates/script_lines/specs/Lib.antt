@@ -1,8 +1,6 @@
-pub mod Faults
 pub mod LineReader
 pub mod Lines
 pub mod PartialFields
 pub mod ReaderFields
 pub mod ReaderView
 pub mod Seen
-pub mod Serves

@@ -1,10 +1,10 @@
 -- What a line reader reads, and what it gives.
-use Rattle.std.specs.Prelude.{◌≡◌, ℕ, ◌+◌, ◌<◌, Bool, true, false, List, [], ◌∷◌, ◌++◌, length, Option}
+use Rattle.std.specs.Prelude.{◌≡◌, ℕ, ◌+◌, ◌<◌, ◌⊎◌, Bool, true, false, List, [], ◌∷◌, ◌++◌, length, Option}
 use Rattle.std.specs.Io.KnownBytes.{Consumes, IsAtEnd}
 use Rattle.script_lines.specs.Lines.{ScriptLine, comes_after, line_begun, lines_of}
 use Rattle.script_lines.specs.ReaderView.{ReaderView}
-use Rattle.script_lines.specs.Serves.{ReadsEndBy}
-use Rattle.script_lines.specs.declared.fault.ServeFault.{ServeFault}
+use Rattle.script_lines.specs.declared.fault.LineFault.{LineFault}
+use Rattle.script_lines.specs.declared.fault.LineFault.TheVariants.{Memory, Read}
 
 -- the line that was read last; None where it is a blank one
 abbrev pub line_read : ReaderView → Option ScriptLine
@@ -43,11 +43,20 @@ pub record ReadsOn (more : Bool) (before after : ReaderView) (had left : Option 
   pub counted : length piece + after.left ≡ before.left
   pub gives : GivesLine more before after piece left
 
--- what was read before a fault ended it
-pub record StopsReading (fault : ServeFault) (most : ℕ) (had left : Option (List ℕ)) (failures_before failures_after : ℕ) : Type 0 where
+abbrev pub is_read_fault : LineFault → Bool
+is_read_fault Memory = false
+is_read_fault Read = true
+
+-- at a read fault a read failed, or the most was read; at any other no read failed
+abbrev pub ReadsEndBy : Bool → ℕ → ℕ → ℕ → ℕ → Type 0
+ReadsEndBy false read most failures_before failures_after = failures_after ≡ failures_before
+ReadsEndBy true read most failures_before failures_after = (failures_after ≡ failures_before + 1) ⊎ ((read ≡ most) × (failures_after ≡ failures_before))
+
+-- what was read before a fault ended it, which is a read fault or not
+pub record StopsReading (at_read : Bool) (most : ℕ) (had left : Option (List ℕ)) (failures_before failures_after : ℕ) : Type 0 where
   pub piece : List ℕ
   pub consumed : Consumes had left piece
-  pub reads : ReadsEndBy fault (length piece) most failures_before failures_after
+  pub reads : ReadsEndBy at_read (length piece) most failures_before failures_after
 
 -- no byte that was read is lost: a line is begun, and the lines that come are those of all that waited and was read
 pub record KeepsRead (before after : ReaderView) (had left : Option (List ℕ)) : Type 0 where

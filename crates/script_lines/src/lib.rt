@@ -1,4 +1,4 @@
-//! The lines of a script: how they are assembled from the bytes that are read, and the loop that answers them.
+//! The lines of a script: how they are assembled from the bytes that are read.
 #![tactic(auto)]
 
 mod fault;
@@ -6,7 +6,7 @@ mod line;
 mod line_reader;
 mod partial_line;
 
-pub use fault::{AnswerFault, ServeFault};
+pub use fault::LineFault;
 pub use line::Line;
 pub use line_reader::LineReader;
 pub use partial_line::{PartialLine, split_line};

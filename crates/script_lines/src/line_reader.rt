@@ -1,13 +1,12 @@
 //! A script that is read line by line.
-ghost use Rattle.std.specs.Prelude.{◌≡◌, ◌≢◌, ◌+◌, ◌-◌, ◌^◌, ◌<◌, ◌≤◌, [], length, take, is_ok, if◌then◌else◌, Some, IfOk, OnOk, IfErr, OnErr};
+ghost use Rattle.std.specs.Prelude.{◌≡◌, ◌+◌, ◌-◌, ◌^◌, ◌<◌, ◌≤◌, [], length, take, is_ok, if◌then◌else◌, Some, IfOk, OnOk, IfErr, OnErr};
 ghost use Rattle.std.specs.Option.{option_map};
 ghost use Rattle.std.specs.Io.KnownBytes.{Consumes, IsAtEnd, Keeps};
 ghost use Rattle.script_lines.specs.Lines.{IsBegun};
-ghost use Rattle.script_lines.specs.LineReader.{KeepsRead, ReadsOn, ReadsPiece, StopsReading, TakesLine, line_read};
+ghost use Rattle.script_lines.specs.LineReader.{KeepsRead, ReadsOn, ReadsPiece, StopsReading, TakesLine, is_read_fault, line_read};
 ghost use Rattle.script_lines.specs.Seen.{seen};
-ghost use Rattle.script_lines.specs.declared.fault.ServeFault.{ServeFault};
 
-use crate::fault::ServeFault;
+use crate::fault::LineFault;
 use crate::line::Line;
 use crate::partial_line::{PartialLine, split_line};
 use std::alloc::{AllocError, Global};
@@ -131,18 +130,17 @@ impl LineReader {
 
     /// Continues to the end of the next line, and reads as much as that takes. False if the source has ended: then
     /// the line is the last one. If a fault ends the call, all that was read is still in the reader.
-    pub fn advance<R: Source>(&mut self, source: &mut R) -> Result<bool, ServeFault>
+    pub fn advance<R: Source>(&mut self, source: &mut R) -> Result<bool, LineFault>
         requires { R.failures source.old < 2 ^ 64 - 1 }
         ensures reads { IfOk result (λ more. ReadsOn more self.old self.new (R.remaining source.old) (R.remaining source.new)) }
         ensures no_failure { OnOk result (R.failures source.new ≡ R.failures source.old) }
-        ensures err { IfErr result (λ fault. StopsReading fault self.old.left (R.remaining source.old) (R.remaining source.new) (R.failures source.old) (R.failures source.new)) }
+        ensures err { IfErr result (λ fault. StopsReading (is_read_fault fault) self.old.left (R.remaining source.old) (R.remaining source.new) (R.failures source.old) (R.failures source.new)) }
         ensures kept { OnErr result (KeepsRead self.old self.new (R.remaining source.old) (R.remaining source.new)) }
-        ensures no_write { IfErr result (λ fault. fault ≢ ServeFault.Write) }
     {
         self.clear();
         while !self.take_line()? {
             if self.left() == 0 {
-                return Err(ServeFault::Read);
+                return Err(LineFault::Read);
             }
             if !self.read_more(source)? {
                 return Ok(false);

@@ -1,4 +1,5 @@
 pub mod Answering
 pub mod Counted
 pub mod Playing
+pub mod Steps
 pub mod Told

@@ -8,7 +8,7 @@ use Rattle.session_core.specs.Machine.{State}
 use Rattle.report_json.specs.Forms.{form_of}
 use Rattle.report_json.specs.declared.form.Form.{Form}
 use Rattle.report_json.specs.declared.form.Format.{Format}
-use Rattle.script_lines.specs.Serves.{ServesAll}
+use Rattle.serve_script.specs.Serves.{ServesAll}
 use Rattle.stage_graph.specs.Plain.{PlainGraph}
 use Rattle.version_store.specs.Plain.{PlainVersion}
 use Rattle.serve_script.specs.Answers.{IsAnswered, answer_line, answers_from, last_version, opening_state, played_from}

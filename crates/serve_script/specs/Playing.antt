@@ -2,7 +2,7 @@
 use Rattle.std.specs.Prelude.{◌≡◌, ℕ, List, Option, Some}
 use Rattle.report_json.specs.declared.form.Format.{Format}
 use Rattle.script_lines.specs.Lines.{lines_of}
-use Rattle.script_lines.specs.Serves.{ServesAll}
+use Rattle.serve_script.specs.Serves.{ServesAll}
 use Rattle.session_core.specs.Machine.{State}
 use Rattle.stage_graph.specs.Plain.{PlainGraph}
 use Rattle.version_store.specs.Plain.{PlainVersion}

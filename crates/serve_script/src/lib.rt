@@ -1,10 +1,11 @@
 //! A script of steps, answered: what each line names is done, and its reply or report is written, as text or as JSON.
 //!
-//! [`serve`] answers a whole script. The definition `answers` says which bytes it writes. [`play`] gives the version that
-//! the script made last too.
+//! [`serve`] answers a whole script. The definition `answers` says which bytes it writes. [`serve_last`] does the same for a
+//! program that ends then, and [`play`] gives the version that the script made last too.
 #![tactic(auto)]
 
 mod asking;
+mod fault;
 mod reply;
 mod server;
 mod serving;
@@ -12,6 +13,6 @@ mod telling;
 mod values;
 
 pub use asking::{against_in, write_asked};
-pub use script_lines::ServeFault;
-pub use serving::{play, serve};
+pub use fault::{AnswerFault, ServeFault};
+pub use serving::{play, serve, serve_last};
 pub use telling::{tell_fault, tell_no_version, tell_reply};

@@ -3,7 +3,6 @@ ghost use Rattle.std.specs.Prelude.{◌≡◌, ◌++◌, [], IfOk, OnOk, string_
 ghost use Rattle.std.specs.List.{filter_map};
 ghost use Rattle.recording.specs.FaultTexts.{fault_text};
 ghost use Rattle.report_text.specs.Texts.{line_end};
-ghost use Rattle.session_core.specs.Headline.{session_of};
 ghost use Rattle.serve_script.specs.Replies.{added_in, base_in, dependent_text, detail_text, index_text, name_of_user, refused_line, reply_line, user_name};
 
 use recording::Fault;
@@ -48,7 +47,7 @@ fn push_reply<R: StateRepresentation>(
 ) -> Result<(), AllocError>
     ensures { OnOk result (string_bytes line.new ≡ string_bytes line.old ++ reply_line (option_copied base.entry) event.now listed reply) }
 {
-    let session = session_of(event);
+    let session = event.session();
     match reply {
         Reply::Opened(version) => writeln!(line, "opened {session} at {version}"),
         Reply::At(version) => writeln!(line, "head {version}"),
@@ -70,19 +69,6 @@ pub(crate) fn base_of<'a, R: StateRepresentation>(
     match event {
         Event::Commit { base, .. } => table.version(*base).ok(),
         _ => None,
-    }
-}
-
-/// The session of an event.
-pub(crate) fn session_of(event: &Event) -> u32
-    ensures { result ≡ session_of event.now }
-{
-    match event {
-        Event::Open { session, .. } => *session,
-        Event::Head { session } => *session,
-        Event::Commit { session, .. } => *session,
-        Event::Undo { session } => *session,
-        Event::Close { session } => *session,
     }
 }
 

@@ -3,19 +3,21 @@ ghost use Rattle.std.specs.Prelude.{◌≡◌, [], ◌∷◌, ◌++◌, ◌+◌,
 ghost use Rattle.std.specs.Option.{option_map};
 ghost use Rattle.text_io.specs.Sink.{Advances, StopsShort};
 ghost use Rattle.stage_graph.specs.Walk.{IsRanked};
-ghost use Rattle.script_lines.specs.Faults.{failed_writes, failed_writes_of_serve};
+ghost use Rattle.serve_script.specs.Faults.{failed_writes, failed_writes_of_serve};
 ghost use Rattle.script_lines.specs.Lines.{IsBegun, comes_after};
 ghost use Rattle.script_lines.specs.Seen.{seen};
-ghost use Rattle.script_lines.specs.Serves.{ServesAll, ServesPart};
+ghost use Rattle.serve_script.specs.Serves.{ServesAll, ServesPart};
 ghost use Rattle.serve_script.specs.Answers.{answers_from, answers_to, played_from};
 ghost use Rattle.serve_script.specs.Playing.{PlaysAll, PlaysOn, PlaysTo};
 
+use crate::fault::{AnswerFault, ServeFault};
 use crate::server::Server;
 use level_pool::Runner;
 use report_json::Format;
-use script_lines::{AnswerFault, Line, LineReader, ServeFault};
+use script_lines::{Line, LineReader};
 use stage_graph::Graph;
 use std::alloc::{AllocError, Global};
+use std::mem::forget;
 use text_io::{Sink, Source};
 use version_store::{StateRepresentation, Version};
 
@@ -48,9 +50,34 @@ pub fn serve<K: StateRepresentation, W: Runner, R: Source, S: Sink>(
     ensures failures { S.failures sink.new ≡ S.failures sink.old + failed_writes_of_serve result }
 {
     let mut server = Server::new(alloc, graph, runner)?;
-    let buffer = filled_buffer(alloc, AT_ONCE)?;
-    let mut lines = LineReader::new(alloc, buffer, MOST);
-    serve_lines(&mut lines, source, &mut server, format, sink)
+    answer_script(alloc, source, &mut server, format, sink)
+}
+
+/// Reads and answers a script, as `serve` does, for a program that has nothing left to do then: the versions are not dropped one
+/// by one, but left to the system, which takes back the memory of a process that ends.
+///
+/// Errors: those of `serve`.
+pub fn serve_last<K: StateRepresentation, W: Runner, R: Source, S: Sink>(
+    alloc: Global,
+    runner: &W,
+    source: &mut R,
+    sink: &mut S,
+    graph: Graph<K>,
+    format: Format,
+) -> Result<(), ServeFault>
+    requires ranked { IsRanked graph.places }
+    requires reads { R.failures source.old < 2 ^ 64 - 1 }
+    requires writes { S.failures sink.old < 2 ^ 64 - 1 }
+    ensures ok { OnOk result (ServesAll (2 ^ 30) (answers_to format graph) (R.remaining source.old) (R.remaining source.new)
+        (R.failures source.old) (R.failures source.new) (S.held sink.old) (S.held sink.new)) }
+    ensures err { IfErr result (ServesPart (2 ^ 30) (answers_to format graph) (R.remaining source.old) (R.remaining source.new)
+        (R.failures source.old) (R.failures source.new) (S.held sink.old) (S.held sink.new)) }
+    ensures failures { S.failures sink.new ≡ S.failures sink.old + failed_writes_of_serve result }
+{
+    let mut server = Server::new(alloc, graph, runner)?;
+    let end = answer_script(alloc, source, &mut server, format, sink);
+    forget(server);
+    end
 }
 
 /// Reads and answers a script, as `serve` does, and gives the version that was made last: the one of the greatest number.
@@ -74,10 +101,29 @@ pub fn play<K: StateRepresentation, W: Runner, R: Source, S: Sink>(
     ensures failures { S.failures sink.new ≡ S.failures sink.old + failed_writes_of_serve result }
 {
     let mut server = Server::new(alloc, graph, runner)?;
+    answer_script(alloc, source, &mut server, format, sink)?;
+    Ok(server.last()?)
+}
+
+// Reads and answers a script.
+fn answer_script<K: StateRepresentation, W: Runner, R: Source, S: Sink>(
+    alloc: Global,
+    source: &mut R,
+    server: &mut Server<'_, K, W>,
+    format: Format,
+    sink: &mut S,
+) -> Result<(), ServeFault>
+    requires reads { R.failures source.old < 2 ^ 64 - 1 }
+    requires writes { S.failures sink.old < 2 ^ 64 - 1 }
+    ensures ok { OnOk result (PlaysAll (2 ^ 30) format server.old server.new (R.remaining source.old) (R.remaining source.new)
+        (R.failures source.old) (R.failures source.new) (S.held sink.old) (S.held sink.new)) }
+    ensures err { IfErr result (ServesPart (2 ^ 30) (answers_from format 1 server.old) (R.remaining source.old) (R.remaining source.new)
+        (R.failures source.old) (R.failures source.new) (S.held sink.old) (S.held sink.new)) }
+    ensures failures { S.failures sink.new ≡ S.failures sink.old + failed_writes_of_serve result }
+{
     let buffer = filled_buffer(alloc, AT_ONCE)?;
     let mut lines = LineReader::new(alloc, buffer, MOST);
-    serve_lines(&mut lines, source, &mut server, format, sink)?;
-    Ok(server.last()?)
+    serve_lines(&mut lines, source, server, format, sink)
 }
 
 fn filled_buffer(alloc: Global, len: usize) -> Result<Vec<u8>, AllocError>

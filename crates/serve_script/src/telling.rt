@@ -7,15 +7,15 @@ ghost use Rattle.serde_json.specs.View.{view};
 ghost use Rattle.serde_json.specs.Written.{has_float};
 ghost use Rattle.text_io.specs.Sink.{AppendsPrefix};
 ghost use Rattle.report_json.specs.Json.{answer_text};
-ghost use Rattle.script_lines.specs.Faults.{failed_writes};
+ghost use Rattle.serve_script.specs.Faults.{failed_writes};
 ghost use Rattle.serve_script.specs.Told.{fault_told, no_stage_told, no_version_told, reply_told};
 
+use crate::fault::AnswerFault;
 use crate::reply::{fault_line, reply_line};
 use crate::values::{fault_value, plain_refusal, reply_value};
 use recording::Fault;
 use report_json::{Form, write_answer};
 use report_text::ReportFault;
-use script_lines::AnswerFault;
 use serde_json::Value;
 use session_core::{Event, Reply};
 use std::alloc::Global;

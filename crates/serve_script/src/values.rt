@@ -6,7 +6,7 @@ ghost use Rattle.report_json.specs.Json.{count, object, text, with};
 ghost use Rattle.report_json.specs.Objects.{held};
 ghost use Rattle.serve_script.specs.Values.{at_version, dependent_members, detail_members, edit_name, fault_json, index_members, refusal_json, refusal_name, refused, reply_json};
 
-use crate::reply::{session_of, user_name};
+use crate::reply::user_name;
 use recording::Fault;
 use report_json::Object;
 use serde_json::Value;
@@ -26,11 +26,11 @@ pub(crate) fn reply_value<R: StateRepresentation>(
     ensures { IfOk result (λ value. view value ≡ reply_json (option_copied base.entry) event.now listed reply) }
 {
     match reply {
-        Reply::Opened(version) => opened(alloc, session_of(event), version),
+        Reply::Opened(version) => opened(alloc, event.session(), version),
         Reply::At(version) => at_version(alloc, "head", version),
         Reply::Committed(version) => at_version(alloc, "committed", version),
         Reply::Undone(version) => at_version(alloc, "undone", version),
-        Reply::Closed => closed(alloc, session_of(event)),
+        Reply::Closed => closed(alloc, event.session()),
         Reply::Refused(refusal) => refusal_value(alloc, base, event, listed, refusal),
         Reply::Memory => plain_refusal(alloc, 90, "Memory"),
     }

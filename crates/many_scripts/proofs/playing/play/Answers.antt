@@ -1,11 +1,11 @@
 use Rattle.std.proofs.Common.{arith, refl, ◌∙◌}
 use Rattle.std.specs.Option.{option_map}
 use Rattle.std.proofs.lemmas.Result.{err_from_is_err_and}
-use Rattle.script_lines.specs.Faults.{served}
+use Rattle.serve_script.specs.Faults.{is_read_fault, served, unread}
 use Rattle.script_lines.specs.LineReader.{StopsReading}
 use Rattle.script_lines.specs.Seen.{seen}
-use Rattle.script_lines.specs.declared.fault.ServeFault.{ServeFault}
-use Rattle.many_scripts.proofs.PlayedOn.{at_err, begins, comes_to_end, goes_on, stops_answering, stops_on}
+use Rattle.serve_script.specs.declared.fault.ServeFault.{ServeFault}
+use Rattle.many_scripts.proofs.PlayedOn.{at_err, begins, comes_to_end, goes_on, stops_answering, stops_in_line}
 use Rattle.many_scripts.proofs.playing.play.Goals as goal
 
 pub loop-client-init : goal.loop-client-init
@@ -29,9 +29,9 @@ loop-client-preserved g c = (
 pub returns-in_err-advance-clause-err : goal.returns-in_err-advance-clause-err
 returns-in_err-advance-clause-err g c =
     at_err c.from_residual.result
-    (λ (fault : ServeFault). StopsReading fault c.args.reader.now.left (g.R.Source.remaining c.args.source.now) (g.R.Source.remaining c.advance.new.source) (g.R.Source.failures c.args.source.now) (g.R.Source.failures c.advance.new.source))
-    c.in_err-advance.field-0.0 (err_from_is_err_and c.from_residual.result c.from_residual.ensures.1)
-    (stops_on c.args.format c.args.reader.now.left c.loop-client.number c.args.client.now c.loop-client.client c.loop-client.reader
+    (λ (fault : ServeFault). StopsReading (is_read_fault fault) c.args.reader.now.left (g.R.Source.remaining c.args.source.now) (g.R.Source.remaining c.advance.new.source) (g.R.Source.failures c.args.source.now) (g.R.Source.failures c.advance.new.source))
+    (unread c.in_err-advance.field-0.0) (err_from_is_err_and c.from_residual.result c.from_residual.ensures.1)
+    (stops_in_line c.args.format c.args.reader.now.left c.loop-client.number c.args.client.now c.loop-client.client c.loop-client.reader
     (g.R.Source.remaining c.args.source.now) (g.R.Source.remaining c.loop-client.source) (g.R.Source.remaining c.advance.new.source)
     (g.R.Source.failures c.args.source.now) (g.R.Source.failures c.loop-client.source) (g.R.Source.failures c.advance.new.source)
     (g.S.Sink.held c.args.sink.now) (g.S.Sink.held c.loop-client.sink) c.in_err-advance.field-0.0
@@ -40,7 +40,7 @@ returns-in_err-advance-clause-err g c =
 pub returns-in_err-answer_any-clause-err : goal.returns-in_err-answer_any-clause-err
 returns-in_err-answer_any-clause-err g c =
     at_err c.from_residual-in_err-answer_any.result
-    (λ (fault : ServeFault). StopsReading fault c.args.reader.now.left (g.R.Source.remaining c.args.source.now) (g.R.Source.remaining c.advance.new.source) (g.R.Source.failures c.args.source.now) (g.R.Source.failures c.advance.new.source))
+    (λ (fault : ServeFault). StopsReading (is_read_fault fault) c.args.reader.now.left (g.R.Source.remaining c.args.source.now) (g.R.Source.remaining c.advance.new.source) (g.R.Source.failures c.args.source.now) (g.R.Source.failures c.advance.new.source))
     (served c.in_err-answer_any.field-0.0) (err_from_is_err_and c.from_residual-in_err-answer_any.result c.from_residual-in_err-answer_any.ensures.1)
     (stops_answering c.args.format c.args.reader.now.left c.loop-client.number c.args.client.now c.loop-client.client c.loop-client.reader c.advance.new.self
     (g.R.Source.remaining c.args.source.now) (g.R.Source.remaining c.loop-client.source) (g.R.Source.remaining c.advance.new.source)
@@ -51,7 +51,7 @@ returns-in_err-answer_any-clause-err g c =
 pub returns-in_err-answer_any-2-clause-err : goal.returns-in_err-answer_any-2-clause-err
 returns-in_err-answer_any-2-clause-err g c =
     at_err c.from_residual-in_err-answer_any-2.result
-    (λ (fault : ServeFault). StopsReading fault c.args.reader.now.left (g.R.Source.remaining c.args.source.now) (g.R.Source.remaining c.advance.new.source) (g.R.Source.failures c.args.source.now) (g.R.Source.failures c.advance.new.source))
+    (λ (fault : ServeFault). StopsReading (is_read_fault fault) c.args.reader.now.left (g.R.Source.remaining c.args.source.now) (g.R.Source.remaining c.advance.new.source) (g.R.Source.failures c.args.source.now) (g.R.Source.failures c.advance.new.source))
     (served c.in_err-answer_any-2.field-0.0) (err_from_is_err_and c.from_residual-in_err-answer_any-2.result c.from_residual-in_err-answer_any-2.ensures.1)
     (stops_answering c.args.format c.args.reader.now.left c.loop-client.number c.args.client.now c.loop-client.client c.loop-client.reader c.advance.new.self
     (g.R.Source.remaining c.args.source.now) (g.R.Source.remaining c.loop-client.source) (g.R.Source.remaining c.advance.new.source)

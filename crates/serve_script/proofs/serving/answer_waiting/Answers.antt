@@ -2,7 +2,7 @@ use Rattle.std.proofs.Common.{arith, refl, ◌+◌, ◌∙◌}
 use Rattle.std.specs.Option.{option_map}
 use Rattle.text_io.proofs.Written.{Advances-none, Advances-trans, StopsShort-after, StopsShort-from_step}
 use Rattle.script_lines.specs.Seen.{seen}
-use Rattle.script_lines.proofs.Steps.{answers_line, goes_on, on_err, stops_in_line}
+use Rattle.serve_script.proofs.Steps.{answers_line, goes_on, on_err, stops_in_line}
 use Rattle.serve_script.proofs.Counted.{takes_one}
 use Rattle.serve_script.specs.Answers.{answers_from, played_from}
 use Rattle.serve_script.proofs.Playing.{plays_begun, plays_line, then_plays}

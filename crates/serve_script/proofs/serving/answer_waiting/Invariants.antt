@@ -1,6 +1,6 @@
 use Rattle.std.proofs.Common.{◌≡◌, ◌+◌, ◌≤◌, length}
 use Rattle.text_io.specs.Sink.{Advances}
-use Rattle.script_lines.proofs.Steps.{to_rest}
+use Rattle.serve_script.proofs.Steps.{to_rest}
 use Rattle.serve_script.specs.Answers.{answers_from, played_from}
 use Rattle.serve_script.specs.Playing.{PlaysOn}
 use Rattle.serve_script.proofs.Playing.{in_rest}

@@ -2,15 +2,11 @@ use Rattle.std.proofs.Common.{[], refl, arith}
 use Rattle.std.proofs.KnownBytes.{Consumes-nil}
 use Rattle.std.proofs.lemmas.Result.{err_from_is_err_and}
 use Rattle.text_io.proofs.Written.{AppendsPrefix-none}
-use Rattle.script_lines.specs.declared.fault.ServeFault.TheVariants.{Memory}
-use Rattle.script_lines.proofs.Steps.{serves_part_at}
+use Rattle.serve_script.specs.declared.fault.ServeFault.TheVariants.{Memory}
+use Rattle.serve_script.proofs.Steps.{serves_part_at}
 use Rattle.serve_script.specs.Answers.{answers_to}
 use Rattle.serve_script.proofs.serving.serve.Goals as goal
 
 pub returns-in_err-server-clause-err : goal.returns-in_err-server-clause-err
 returns-in_err-server-clause-err g c =
     serves_part_at _ Memory (err_from_is_err_and c.from_residual.result c.from_residual.ensures.1) _ (answers_to c.args.format c.args.graph) [] _ _ _ _ _ _ (Consumes-nil _) (omega arith) (AppendsPrefix-none _ _) refl
-
-pub returns-in_err-buffer-clause-err : goal.returns-in_err-buffer-clause-err
-returns-in_err-buffer-clause-err g c =
-    serves_part_at _ Memory (err_from_is_err_and c.from_residual-in_err-buffer.result c.from_residual-in_err-buffer.ensures.1) _ (answers_to c.args.format c.args.graph) [] _ _ _ _ _ _ (Consumes-nil _) (omega arith) (AppendsPrefix-none _ _) refl

@@ -5,8 +5,8 @@ use Rattle.std.proofs.lemmas.Result.{err_from_is_err_and}
 use Rattle.text_io.proofs.Written.{Advances-kept, Advances-none, Advances-trans, AppendsPrefix-from_all, StopsShort-after, StopsShort-from_step}
 use Rattle.script_lines.specs.Lines.{comes_after, line_begun, lines_of}
 use Rattle.script_lines.specs.Seen.{seen}
-use Rattle.script_lines.specs.declared.fault.ServeFault.TheVariants.{Read, Write}
-use Rattle.script_lines.proofs.Steps.{answers_piece, ends, reads_end, reads_piece, serves_part, serves_part_at, stops_at_end, unfailed_in_answer, written_so_far}
+use Rattle.serve_script.specs.declared.fault.ServeFault.TheVariants.{Read, Write}
+use Rattle.serve_script.proofs.Steps.{answers_piece, ends, reads_end, reads_piece, serves_part, serves_part_at, stops_at_end, unfailed_in_answer, written_so_far}
 use Rattle.serve_script.proofs.Counted.{begins, reads_on}
 use Rattle.serve_script.specs.Answers.{answers_from, played_from}
 use Rattle.serve_script.proofs.Playing.{played_at_end, plays_piece, then_plays}

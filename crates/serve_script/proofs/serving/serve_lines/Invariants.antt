@@ -1,7 +1,7 @@
 use Rattle.std.proofs.Common.{◌≡◌, ℕ, ◌+◌, ◌≤◌, List, length}
 use Rattle.std.specs.Io.KnownBytes.{Consumes}
 use Rattle.text_io.specs.Sink.{Advances}
-use Rattle.script_lines.proofs.Steps.{to_all, to_rest}
+use Rattle.serve_script.proofs.Steps.{to_all, to_rest}
 use Rattle.serve_script.specs.Answers.{answers_from, played_from}
 use Rattle.serve_script.specs.Playing.{PlaysOn}
 use Rattle.serve_script.proofs.Playing.{in_all, in_rest}

@@ -1,6 +1,6 @@
 use Rattle.std.proofs.Common.{ap, sym, ◌∙◌}
 use Rattle.text_io.proofs.Written.{AppendsPrefix-none}
-use Rattle.script_lines.proofs.Steps.{on_err}
+use Rattle.serve_script.proofs.Steps.{on_err}
 use Rattle.report_json.specs.Json.{answer_text}
 use Rattle.serve_script.specs.Told.{fault_told}
 use Rattle.serve_script.proofs.Answering.{part_of}

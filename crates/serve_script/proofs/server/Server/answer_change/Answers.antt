@@ -1,6 +1,6 @@
 use Rattle.std.proofs.Common.{ap, ◌∙◌, sym}
 use Rattle.text_io.proofs.Written.{AppendsPrefix-none}
-use Rattle.script_lines.proofs.Steps.{on_err}
+use Rattle.serve_script.proofs.Steps.{on_err}
 use Rattle.session_core.specs.declared.event.Event.TheVariants.{Commit}
 use Rattle.serve_script.specs.Answers.{answer_change, answer_event}
 use Rattle.serve_script.proofs.Answering.{part_of}

@@ -1,6 +1,6 @@
 use Rattle.std.proofs.Common.{ap}
 use Rattle.text_io.proofs.Written.{AppendsPrefix-none}
-use Rattle.script_lines.proofs.Steps.{on_err}
+use Rattle.serve_script.proofs.Steps.{on_err}
 use Rattle.serve_script.proofs.Answering.{all_of, head_edited, head_refused, part_of, stays}
 use Rattle.serve_script.proofs.server.Server.answer_head.Goals as goal
 

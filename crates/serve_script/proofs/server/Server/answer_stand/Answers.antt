@@ -1,6 +1,6 @@
 use Rattle.std.proofs.Common.{ap, sym, ◌∙◌}
 use Rattle.text_io.proofs.Written.{AppendsPrefix-none}
-use Rattle.script_lines.proofs.Steps.{on_err}
+use Rattle.serve_script.proofs.Steps.{on_err}
 use Rattle.session_core.specs.Machine.{State}
 use Rattle.serve_script.specs.Answers.{report_among}
 use Rattle.serve_script.proofs.Answering.{all_of, part_of, stand_refused, stand_told, stays}

@@ -5,13 +5,13 @@ use Rattle.std.proofs.KnownBytes.{Appends-kept, Appends-trans, Consumes-trans}
 use Rattle.text_io.specs.Sink.{AppendsPrefix, Advances, StopsShort}
 use Rattle.text_io.proofs.Written.{Advances-at, AppendsPrefix-after, StopsShort-at}
 use Rattle.script_lines.specs.Lines.{ScriptLine, IsBegun, comes_after, lines_of}
-use Rattle.script_lines.specs.LineReader.{ReadsPiece, TakesLine, line_read}
+use Rattle.script_lines.specs.LineReader.{ReadsEndBy, ReadsPiece, TakesLine, line_read}
 use Rattle.script_lines.specs.ReaderView.{ReaderView}
-use Rattle.script_lines.specs.Serves.{ReadsEndBy, ServesPart}
-use Rattle.script_lines.specs.Faults.{served}
-use Rattle.script_lines.specs.declared.fault.AnswerFault.{AnswerFault}
-use Rattle.script_lines.specs.declared.fault.AnswerFault.TheVariants as answer
-use Rattle.script_lines.specs.declared.fault.ServeFault.{ServeFault}
+use Rattle.serve_script.specs.Serves.{ServesPart}
+use Rattle.serve_script.specs.Faults.{is_read_fault, served}
+use Rattle.serve_script.specs.declared.fault.AnswerFault.{AnswerFault}
+use Rattle.serve_script.specs.declared.fault.AnswerFault.TheVariants as answer
+use Rattle.serve_script.specs.declared.fault.ServeFault.{ServeFault}
 use Rattle.script_lines.proofs.LineLemmas.{comes_after-last}
 
 pub on_err : {T E P : Type 0} (r : Result T E) → P → OnErr r P
@@ -108,7 +108,7 @@ ends answers then after read reader line a b c d begun none is step last nothing
 -- ---- faults
 
 pub serves_part : (fault : ServeFault) (most : ℕ) (answers : List (Option ScriptLine) → List ℕ) (read : List ℕ) (had left : Option (List ℕ)) (before after : ℕ) (held holds : Option (List ℕ))
-    → Consumes had left read → length read ≤ most → AppendsPrefix held holds (answers (lines_of read)) → ReadsEndBy fault (length read) most before after
+    → Consumes had left read → length read ≤ most → AppendsPrefix held holds (answers (lines_of read)) → ReadsEndBy (is_read_fault fault) (length read) most before after
     → ServesPart most answers had left before after held holds fault
 serves_part fault most answers read had left before after held holds consumed within stop reads = record {
   read = read;
@@ -120,13 +120,13 @@ serves_part fault most answers read had left before after held holds consumed wi
 
 pub serves_part_at : {T : Type 0} (r : Result T ServeFault) (fault : ServeFault) → (y : ServeFault) × (r ≡ Err y) × (y ≡ fault)
     → (most : ℕ) (answers : List (Option ScriptLine) → List ℕ) (read : List ℕ) (had left : Option (List ℕ)) (before after : ℕ) (held holds : Option (List ℕ))
-    → Consumes had left read → length read ≤ most → AppendsPrefix held holds (answers (lines_of read)) → ReadsEndBy fault (length read) most before after
+    → Consumes had left read → length read ≤ most → AppendsPrefix held holds (answers (lines_of read)) → ReadsEndBy (is_read_fault fault) (length read) most before after
     → IfErr r (ServesPart most answers had left before after held holds)
 serves_part_at r fault (y, is, same) most answers read had left before after held holds consumed within stop reads =
     subst (λ (t : Result _ ServeFault). IfErr t (ServesPart most answers had left before after held holds)) (sym (is ∙ ap Err same))
     (serves_part fault most answers read had left before after held holds consumed within stop reads)
 
 -- no read failed where an answer failed
-pub unfailed_in_answer : (fault : AnswerFault) (read most before after : ℕ) → after ≡ before → ReadsEndBy (served fault) read most before after
+pub unfailed_in_answer : (fault : AnswerFault) (read most before after : ℕ) → after ≡ before → ReadsEndBy (is_read_fault (served fault)) read most before after
 unfailed_in_answer answer.Memory read most before after same = same
 unfailed_in_answer answer.Write read most before after same = same
