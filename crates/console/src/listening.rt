@@ -27,7 +27,7 @@ pub(crate) fn is_json_refusal(answer: &[u8]) -> bool {
 }
 
 /// Whether an answer begins as a refusal does, as text or as JSON: as text it may also be of a stage that is called `refused`.
-fn may_be_refusal(answer: &[u8]) -> bool {
+pub(crate) fn may_be_refusal(answer: &[u8]) -> bool {
     answer.starts_with(b"refused ") || is_json_refusal(answer)
 }
 

@@ -1,6 +1,6 @@
 //! What is told of the steps of a script, by line.
 use crate::json_refusal::text_of_refusal;
-use crate::listening::is_json_refusal;
+use crate::listening::{is_json_refusal, may_be_refusal};
 use crate::voice::Voice;
 use diagnosis::{
     Findings, KnownStages, Refusal, examine_step, explain_step, json_fault, may_step_be_unread,
@@ -64,6 +64,14 @@ impl<'a> StepTeller<'a> {
 
     /// Tells of a line and of what it was answered.
     pub fn tell(&mut self, number: u64, line: &[u8], answer: &[u8]) {
+        // (of most lines there is nothing to tell, and a look at them shows it)
+        if may_be_refusal(answer) || may_step_be_unread(line) {
+            self.tell_of_answer(number, line, answer);
+        }
+    }
+
+    /// Tells of a line that may be refused, or may have what nothing reads.
+    fn tell_of_answer(&mut self, number: u64, line: &[u8], answer: &[u8]) {
         let first = first_line(answer).unwrap_or("");
         let read = match first.as_bytes() {
             [b'{', ..] => text_of_refusal(self.alloc, first),

@@ -1,4 +1,5 @@
 //! Going once over the bytes of a JSON text, which is not read.
+ghost use Rattle.std.specs.Prelude.{◌≤◌, IfSome, length};
 
 /// What looks at the texts of a JSON text and at the bytes between them.
 pub(crate) trait Passing<'a> {
@@ -9,25 +10,45 @@ pub(crate) trait Passing<'a> {
     fn pass(&mut self, byte: u8) -> bool;
 }
 
-/// Whether all that is gone past is read.
-pub(crate) fn all_pass<'a, P: Passing<'a>>(bytes: &'a [u8], passing: &mut P) -> bool {
-    let mut start = None;
+/// Where the quote stands that closes a text, whose opening quote stands before these bytes.
+fn closing_quote(bytes: &[u8]) -> Option<usize> {
     let mut is_escaped = false;
     for (index, byte) in bytes.iter().enumerate() {
-        match start {
-            Some(_) if is_escaped => is_escaped = false,
-            Some(_) if *byte == b'\\' => is_escaped = true,
-            Some(first) if *byte == b'"' => {
-                start = None;
-                passing.take(bytes.get(first..index).unwrap_or(b""));
-            }
-            Some(_) => {}
-            None if *byte == b'"' => start = Some(index + 1),
-            None => {
-                if !passing.pass(*byte) {
-                    return false;
-                }
-            }
+        match *byte {
+            _ if is_escaped => is_escaped = false,
+            b'"' => return Some(index),
+            b'\\' => is_escaped = true,
+            _ => {}
+        }
+    }
+    None
+}
+
+/// The text whose opening quote stands before these bytes, and what comes after its closing quote, if it has one.
+fn split_text(bytes: &[u8]) -> Option<(&[u8], &[u8])>
+    ensures { IfSome result (λ parts. length parts.1.now ≤ length bytes.now) }
+{
+    let end = closing_quote(bytes)?;
+    let text = bytes.get(..end)?;
+    match bytes.get(end..)? {
+        [_, after @ ..] => Some((text, after)),
+        [] => None,
+    }
+}
+
+/// Whether all that is gone past is read.
+pub(crate) fn all_pass<'a, P: Passing<'a>>(bytes: &'a [u8], passing: &mut P) -> bool {
+    let mut rest = bytes;
+    while let [byte, after @ ..] = rest {
+        rest = after;
+        if *byte == b'"' {
+            let Some((text, closed)) = split_text(after) else {
+                return true;
+            };
+            passing.take(text);
+            rest = closed;
+        } else if !passing.pass(*byte) {
+            return false;
         }
     }
     true

@@ -20,7 +20,7 @@ use std::env;
 use std::fs::File;
 use std::io::Read;
 use std::time::Instant;
-use version_store::Version;
+use version_store::{StateRepresentation, Version};
 
 /// The marker of this program's meters.
 #[derive(Drop)]
@@ -35,7 +35,7 @@ struct Plan {
 }
 
 /// The graph of a recording.
-fn read(rt: &HostRuntime, path: &str) -> Result<Graph<InShared>>
+fn read<R: StateRepresentation>(rt: &HostRuntime, path: &str) -> Result<Graph<R>>
     ensures { IfOk result (λ graph. IsRanked graph.places) }
 {
     let mut bytes = Vec::new(rt.alloc());
@@ -63,13 +63,13 @@ fn edits(alloc: Global, stages: &[String], turn: u32) -> Result<Held<Edits>> {
 }
 
 /// The version that a list of edits makes of another.
-fn drafted<W: Runner>(
+fn drafted<R: StateRepresentation, W: Runner>(
     alloc: Global,
     runner: &W,
-    version: &Version<InShared>,
+    version: &Version<R>,
     number: u32,
     edits: &Held<Edits>,
-) -> Result<Version<InShared>> {
+) -> Result<Version<R>> {
     let mut meter = Meter::new(Measured);
     match version.draft(alloc, edits, runner, &mut meter) {
         Ok(draft) => Ok(draft.numbered(number)?),
@@ -78,7 +78,7 @@ fn drafted<W: Runner>(
 }
 
 /// The microseconds of one evaluation of the graph from scratch.
-fn evaluated(rt: &HostRuntime, graph: &Graph<InShared>) -> Result<u128>
+fn evaluated<R: StateRepresentation>(rt: &HostRuntime, graph: &Graph<R>) -> Result<u128>
     requires { IsRanked graph.now.places }
 {
     let start = Instant::now(rt)?;
@@ -87,23 +87,41 @@ fn evaluated(rt: &HostRuntime, graph: &Graph<InShared>) -> Result<u128>
     Ok(start.elapsed(rt)?.as_micros())
 }
 
-fn measure<W: Runner>(rt: &HostRuntime, runner: &W, path: &str, plan: &Plan) -> Result<()> {
-    let graph = read(rt, path)?;
-    let stages = graph.len();
-    let scratch = evaluated(rt, &graph)?;
-    let start = Instant::now(rt)?;
-    let mut version = Version::load(rt.alloc(), graph)?;
-    let loaded = start.elapsed(rt)?.as_micros();
-    let mut kept = Vec::new(rt.alloc());
-    let start = Instant::now(rt)?;
+/// The version that the plan's lists of edits make, one after the other; those before it are kept if the plan says so.
+fn draft_all<R: StateRepresentation, W: Runner>(
+    alloc: Global,
+    runner: &W,
+    plan: &Plan,
+    version: Version<R>,
+    kept: &mut Vec<Version<R>>,
+) -> Result<Version<R>> {
+    let mut version = version;
     for turn in 0..plan.edits {
-        let edits = edits(rt.alloc(), plan.stages.as_slice(), turn)?;
-        let next = drafted(rt.alloc(), runner, &version, turn, &edits)?;
+        let edits = edits(alloc, plan.stages.as_slice(), turn)?;
+        let next = drafted(alloc, runner, &version, turn, &edits)?;
         if plan.keep {
             kept.push(version)?;
         }
         version = next;
     }
+    Ok(version)
+}
+
+fn measure<R: StateRepresentation, W: Runner>(
+    rt: &HostRuntime,
+    runner: &W,
+    path: &str,
+    plan: &Plan,
+) -> Result<()> {
+    let graph: Graph<R> = read(rt, path)?;
+    let stages = graph.len();
+    let scratch = evaluated(rt, &graph)?;
+    let start = Instant::now(rt)?;
+    let version = Version::load(rt.alloc(), graph)?;
+    let loaded = start.elapsed(rt)?.as_micros();
+    let mut kept = Vec::new(rt.alloc());
+    let start = Instant::now(rt)?;
+    let version = draft_all(rt.alloc(), runner, plan, version, &mut kept)?;
     let took = start.elapsed(rt)?.as_micros();
     let touched = version.touched().len();
     println!(rt;
@@ -128,7 +146,7 @@ fn main(rt: HostRuntime) -> Result<()> {
             stages.push(word)?;
         }
     }
-    measure(
+    measure::<InShared, _>(
         &rt,
         &OneThread::new(&rt),
         path.as_str(),

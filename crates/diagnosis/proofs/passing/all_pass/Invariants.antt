@@ -1,0 +1,6 @@
+use Rattle.std.proofs.Common.{ℕ, length}
+use Rattle.diagnosis.proofs.passing.all_pass.Given as goal
+
+-- what is still to be gone past gets shorter
+abbrev pub decreases-loop-rest : goal.decreases-loop-rest
+decreases-loop-rest g l = length l.rest
