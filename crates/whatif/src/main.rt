@@ -24,7 +24,7 @@ use level_pool::{OneThread, Pooled, Runner};
 use recording_pictures::{Asked, Form as PictureForm, draw_recording, scope_named};
 use recording_reports::{StageReport, report_all, report_stage};
 use report_json::Format;
-use serve_script::serve;
+use serve_script::serve_last;
 use stage_graph::{Graph, InShared};
 use std::alloc::Global;
 use std::cell::Cell;
@@ -288,7 +288,7 @@ fn answered<W: Runner, R: Source, S: Sink>(
     requires reads { R.failures source.old ≡ 0 }
     requires writes { S.failures sink.old ≡ 0 }
 {
-    let end = serve(alloc, runner, source, sink, graph, format);
+    let end = serve_last(alloc, runner, source, sink, graph, format);
     watch.ends();
     flushed(sink, served(end))
 }
