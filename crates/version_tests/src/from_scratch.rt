@@ -1,19 +1,15 @@
 //! Random lists of edits: each query of a drafted version answers as on the same graph evaluated from scratch.
+ghost use Rattle.stage_graph.specs.Walk.{IsRanked};
+
+use crate::versions::{edited, held_edits, opened};
 use level_pool::OneThread;
-use recording::read_recording;
 use share_tree::Held;
-use stage_graph::{Edits, Fault, InShared};
-use stage_ops::Meter;
+use stage_graph::{Edits, Fault, Graph};
 use std::alloc::{AllocError, Global};
 use std::process::Abort;
 use std::test::Fail;
 use std::thread::Threads;
-use test_kit::edits_of;
 use version_store::{Before, StateRepresentation, Version};
-
-/// The marker of this test's meters.
-#[derive(Drop)]
-struct Random;
 
 /// Numbers that look random, and are the same at each run.
 #[derive(Drop)]
@@ -55,41 +51,45 @@ fn name(alloc: Global, numbers: &mut Numbers, turn: usize) -> Result<String, All
     }
 }
 
+/// The names of one source or of two.
+fn sources(alloc: Global, numbers: &mut Numbers, turn: usize) -> Result<String, AllocError> {
+    let first = name(alloc, numbers, turn)?;
+    if numbers.below(2) != 0 {
+        return format!(in alloc; "\"{first}\"");
+    }
+    let second = name(alloc, numbers, turn)?;
+    format!(in alloc; "\"{first}\",\"{second}\"")
+}
+
 /// An edit that rewires a stage, without its session.
 fn rewire(alloc: Global, numbers: &mut Numbers, turn: usize) -> Result<String, AllocError> {
     let stage = name(alloc, numbers, turn)?;
-    let mut sources = format!(in alloc; "\"{}\"", name(alloc, numbers, turn)?)?;
-    if numbers.below(2) == 0 {
-        let source = name(alloc, numbers, turn)?;
-        sources = format!(in alloc; "{sources},\"{source}\"")?;
-    }
+    let sources = sources(alloc, numbers, turn)?;
     format!(in alloc;
         "{{\"do\":\"rewire\",\"stage\":\"{stage}\",\"sources\":[{sources}],\"inner\":[]}}"
     )
 }
 
+/// What an edit says of a stage.
+fn saying(alloc: Global, numbers: &mut Numbers) -> Result<String, AllocError> {
+    let ticks = numbers.below(9);
+    match numbers.below(6) {
+        0 => format!(in alloc; "\"do\":\"setTimes\",\"queued\":2,\"runs\":{ticks}"),
+        1 => format!(in alloc; "\"do\":\"setAction\",\"action\":{ticks}"),
+        2 => format!(in alloc; "\"do\":\"pinMoment\",\"at\":{ticks}"),
+        3 => format!(in alloc;
+            "\"do\":\"setEnds\",\"ends\":[{{\"at\":{ticks},\"do\":\"cancel\"}}]"
+        ),
+        4 => String::from_str(alloc, r#""do":"pinResult","result":{"bare":"Y"}"#),
+        _ => String::from_str(alloc, r#""do":"pinResult","result":null"#),
+    }
+}
+
 /// An edit that says something else of a stage, without its session.
 fn change(alloc: Global, numbers: &mut Numbers, turn: usize) -> Result<String, AllocError> {
     let stage = name(alloc, numbers, turn)?;
-    let ticks = numbers.below(9);
-    let (what, value) = match numbers.below(6) {
-        0 => (
-            "setTimes",
-            format!(in alloc; "\"queued\":2,\"runs\":{ticks}")?,
-        ),
-        1 => ("setAction", format!(in alloc; "\"action\":{ticks}")?),
-        2 => ("pinMoment", format!(in alloc; "\"at\":{ticks}")?),
-        3 => (
-            "setEnds",
-            format!(in alloc; "\"ends\":[{{\"at\":{ticks},\"do\":\"cancel\"}}]")?,
-        ),
-        4 => (
-            "pinResult",
-            String::from_str(alloc, r#""result":{"bare":"Y"}"#)?,
-        ),
-        _ => ("pinResult", String::from_str(alloc, r#""result":null"#)?),
-    };
-    format!(in alloc; "{{\"do\":\"{what}\",\"stage\":\"{stage}\",{value}}}")
+    let saying = saying(alloc, numbers)?;
+    format!(in alloc; "{{{saying},\"stage\":\"{stage}\"}}")
 }
 
 /// An edit of any kind, without its session.
@@ -106,27 +106,26 @@ fn edit(alloc: Global, numbers: &mut Numbers, turn: usize) -> Result<String, All
 }
 
 /// A step of one to three edits.
-fn step(alloc: Global, numbers: &mut Numbers, turn: usize) -> Result<String, Fail> {
+fn step(alloc: Global, numbers: &mut Numbers, turn: usize) -> Result<String, AllocError> {
     let mut edits = edit(alloc, numbers, turn)?;
     for _more in 0..numbers.below(3) {
-        let next = edit(alloc, numbers, turn)?;
-        edits = format!(in alloc; "{edits},{next}")?;
+        edits.push_str(",")?;
+        edits.push_str(edit(alloc, numbers, turn)?.as_str())?;
     }
-    Ok(format!(in alloc; "{{\"do\":\"edits\",\"session\":1,\"edits\":[{edits}]}}")?)
+    format!(in alloc; "{{\"do\":\"edits\",\"session\":1,\"edits\":[{edits}]}}")
 }
 
-/// Both versions tell the same of what stands at a place.
-fn same_at<R: StateRepresentation>(
-    rt: &impl Abort,
+/// Whether both versions tell the same of what stands at a place.
+fn is_same_at<R: StateRepresentation>(
     drafted: &Version<R>,
     loaded: &Version<R>,
     place: u32,
-) {
-    assert_eq!(rt; drafted.state(place), loaded.state(place));
-    assert_eq!(rt; drafted.start(place), loaded.start(place));
-    assert_eq!(rt; drafted.rank(place), loaded.rank(place));
-    assert_eq!(rt; drafted.join(place), loaded.join(place));
-    assert_eq!(rt; drafted.dependents(place), loaded.dependents(place));
+) -> bool {
+    drafted.state(place) == loaded.state(place)
+        && drafted.start(place) == loaded.start(place)
+        && drafted.rank(place) == loaded.rank(place)
+        && drafted.join(place) == loaded.join(place)
+        && drafted.dependents(place) == loaded.dependents(place)
 }
 
 /// What stands at a place of a version, as a version made of it tells it.
@@ -138,32 +137,27 @@ fn before_of<R: StateRepresentation>(parent: &Version<R>, place: u32) -> Before 
     }
 }
 
-/// A version tells what its parent's stages were, and has touched each that came to something else.
+/// Whether a version tells what its parent's stage was, and has touched it if it came to something else.
 fn tells_changes<R: StateRepresentation>(
-    rt: &impl Abort,
     parent: &Version<R>,
     drafted: &Version<R>,
     place: u32,
-) {
+) -> bool {
     let before = before_of(parent, place);
-    assert_eq!(rt; drafted.before(place), Ok(before));
-    if before_of(drafted, place) != before {
-        assert!(rt; drafted.touched().contains(&place));
-    }
+    drafted.before(place) == Ok(before)
+        && (before_of(drafted, place) == before || drafted.touched().contains(&place))
 }
 
-/// Both versions blame the same stages for what a stage came to.
-fn same_blame<R: StateRepresentation>(
-    rt: &impl Abort,
+/// Whether both versions blame the same stages for what a stage came to.
+fn is_same_blame<R: StateRepresentation>(
     alloc: Global,
     drafted: &Version<R>,
     loaded: &Version<R>,
     place: u32,
-) -> Result<(), Fail> {
+) -> Result<bool, Fail> {
     let one = drafted.blame(alloc, place)?;
     let other = loaded.blame(alloc, place)?;
-    assert_eq!(rt; one.as_slice(), other.as_slice());
-    Ok(())
+    Ok(one.as_slice() == other.as_slice())
 }
 
 /// A version answers each query as its graph does from scratch.
@@ -176,72 +170,102 @@ fn same_answers<R: StateRepresentation>(
 ) -> Result<(), Fail> {
     assert!(rt; drafted.graph().same(loaded.graph()));
     for place in 0..drafted.graph().len() as u32 {
-        same_at(rt, drafted, loaded, place);
+        assert!(rt; is_same_at(drafted, loaded, place));
         if drafted.rank(place).is_ok() {
-            same_blame(rt, alloc, drafted, loaded, place)?;
-            tells_changes(rt, parent, drafted, place);
+            assert!(rt; is_same_blame(alloc, drafted, loaded, place)?);
+            assert!(rt; tells_changes(parent, drafted, place));
         }
     }
     Ok(())
 }
 
-/// Both faults are the same, but for the cycle that is told.
-fn same_fault(rt: &impl Abort, fault: &Fault, other: &Fault) {
-    match (fault, other) {
-        (Fault::Refused(refused), Fault::Refused(other)) => assert_eq!(rt; refused, other),
-        _ => assert_eq!(rt; fault.number(), other.number()),
-    }
-}
-
-/// The version that a list of edits makes, once it has been compared with its graph from scratch; none where the list is
-/// refused, by both ways alike.
-fn compared<R: StateRepresentation, H: Abort + Threads + Sync>(
-    rt: &H,
+/// The version that edits make answers as the graph that they make does from scratch.
+fn same_from_scratch<R: StateRepresentation>(
+    rt: &impl Abort,
     alloc: Global,
     version: &Version<R>,
-    edits: Edits,
-) -> Result<Option<Version<R>>, Fail> {
-    let edits = Held::new(alloc, edits)?;
-    let mut meter = Meter::new(Random);
-    let applied = version.graph().apply(alloc, &edits);
-    match version.draft(alloc, &edits, &OneThread::new(rt), &mut meter) {
-        Ok(draft) => {
-            let drafted = draft.numbered(1)?;
-            let loaded = Version::load(alloc, applied?)?;
-            same_answers(rt, alloc, version, &drafted, &loaded)?;
-            Ok(Some(drafted))
+    edits: &Edits,
+    drafted: &Version<R>,
+) -> Result<(), Fail> {
+    let graph = version.graph().apply(alloc, edits)?;
+    let loaded = Version::load(alloc, graph)?;
+    same_answers(rt, alloc, version, drafted, &loaded)
+}
+
+/// Whether both faults are the same, but for the cycle that is told.
+fn is_same_fault(fault: &Fault, other: &Fault) -> bool {
+    match (fault, other) {
+        (Fault::Refused(refused), Fault::Refused(other)) => refused == other,
+        _ => fault.number() == other.number(),
+    }
+}
+
+/// Whether edits of a graph are refused by the same fault.
+fn is_refused<R: StateRepresentation>(
+    alloc: Global,
+    graph: &Graph<R>,
+    edits: &Edits,
+    fault: &Fault,
+) -> bool
+    requires { IsRanked graph.now.places }
+{
+    match graph.apply(alloc, edits) {
+        Ok(_) => false,
+        Err(other) => is_same_fault(fault, &other),
+    }
+}
+
+/// Whether edits are accepted; the version is then the one that they make, once it has been compared with its graph from
+/// scratch. Where they are refused, they are by both ways alike.
+fn is_accepted<R: StateRepresentation, H: Abort + Threads + Sync>(
+    rt: &H,
+    alloc: Global,
+    version: &mut Version<R>,
+    edits: &Held<Edits>,
+) -> Result<bool, Fail> {
+    match edited(alloc, &OneThread::new(rt), version, edits) {
+        Ok(edited) => {
+            same_from_scratch(rt, alloc, version, edits, &edited)?;
+            *version = edited;
+            Ok(true)
         }
         Err(fault) => {
-            same_fault(rt, &fault, &applied.err().expect(rt, "a refusal"));
-            Ok(None)
+            assert!(rt; is_refused(alloc, version.graph(), edits, &fault));
+            Ok(false)
         }
     }
 }
 
-/// So many random lists of edits, each on the version that the last accepted one made; how many are accepted.
+/// A random list of edits.
+fn random_edits(alloc: Global, numbers: &mut Numbers, turn: usize) -> Result<Held<Edits>, Fail> {
+    let step = step(alloc, numbers, turn)?;
+    held_edits(alloc, step.as_str())
+}
+
+/// How many of so many random lists of edits are accepted, each on the version that the last accepted one made.
 fn accepted<R: StateRepresentation, H: Abort + Threads + Sync>(
     rt: &H,
     alloc: Global,
+    version: &mut Version<R>,
     lists: usize,
 ) -> Result<u32, Fail> {
     let mut numbers = Numbers { state: 7 };
-    let graph = read_recording::<R>(alloc, STAGES.as_bytes())?;
-    let mut version = Version::load(alloc, graph)?;
     let mut accepted = 0u32;
     for turn in 0..lists {
-        let step = step(alloc, &mut numbers, turn)?;
-        let edits = edits_of(alloc, step.as_str())?;
-        if let Some(edited) = compared(rt, alloc, &version, edits)? {
-            version = edited;
+        let edits = random_edits(alloc, &mut numbers, turn)?;
+        if is_accepted(rt, alloc, version, &edits)? {
             accepted = accepted.saturating_add(1);
         }
     }
     Ok(accepted)
 }
 
-#[test]
-fn random_lists_of_edits(rt: HostRuntime) -> Result<(), Fail> {
-    let accepted = accepted::<InShared, _>(&rt, rt.alloc(), 300)?;
-    assert!(rt; accepted > 50, "{accepted}");
+/// What holds of random lists of edits.
+pub(crate) fn hold<R: StateRepresentation, H: Abort + Threads + Sync>(
+    rt: &H,
+    alloc: Global,
+) -> Result<(), Fail> {
+    let mut version: Version<R> = opened(alloc, STAGES)?;
+    assert!(rt; accepted(rt, alloc, &mut version, 300)? > 50);
     Ok(())
 }

@@ -1,15 +1,88 @@
-//! Two workers that meet in one level of a draft.
-
-use crate::versions::{drafted, opened};
+//! Drafts by two workers: each touched stage is computed once, and two stages of one level at the same time.
+use crate::versions::made;
 use level_pool::{Gate, Scoped};
-use stage_graph::InShared;
-use std::alloc::Global;
+use std::alloc::{AllocError, Global};
 use std::process::Abort;
 use std::sync::atomic::{AtomicU64, Ordering};
 use std::test::Fail;
 use std::thread::{self, Threads};
 use std::time::{Clock, Duration};
+use test_kit::{COMPOSE_PICKS, REWIRE_A, REWIRED};
 use version_store::{StateRepresentation, Version};
+
+/// A gate that counts how often each of the first eight pieces ran.
+#[derive(Drop)]
+struct Counted {
+    counts: Vec<AtomicU64>,
+}
+
+impl Counted {
+    fn new(alloc: Global) -> Result<Counted, AllocError> {
+        let mut counts = Vec::new(alloc);
+        for _piece in 0..8 {
+            counts.push(AtomicU64::new(0))?;
+        }
+        Ok(Counted { counts })
+    }
+
+    /// Whether each of these pieces ran once, and no other one.
+    fn is_just(&self, places: &[u32]) -> bool {
+        let mut pairs = self.counts.iter().zip(0..8);
+        pairs.all(|(count, place)| {
+            let wanted = if places.contains(&place) { 1 } else { 0 };
+            count.load(Ordering::SeqCst) == wanted
+        })
+    }
+}
+
+impl Gate for Counted {
+    fn enter(&self, piece: u32) {
+        if let Some(count) = self.counts.get(piece as usize) {
+            count.fetch_add(1, Ordering::SeqCst);
+        }
+    }
+
+    fn leave(&self, _piece: u32) {}
+}
+
+/// Whether a step on a recording touches these places, where two workers pass a gate with each piece.
+fn touches<R: StateRepresentation, H: Abort + Threads + Sync, G: Gate + Sync>(
+    rt: &H,
+    alloc: Global,
+    gate: &G,
+    recording: &str,
+    step: &str,
+    places: &[u32],
+) -> Result<bool, Fail> {
+    let made: Version<R> = made(alloc, &Scoped::new(rt, 2, gate), recording, step)?;
+    Ok(made.touched() == places)
+}
+
+/// A step on a recording touches these places, and the stage at each is computed once; no other one is computed.
+fn ran<R: StateRepresentation, H: Abort + Threads + Sync>(
+    rt: &H,
+    alloc: Global,
+    recording: &str,
+    step: &str,
+    places: &[u32],
+) -> Result<(), Fail> {
+    let counted = Counted::new(alloc)?;
+    let is_touched = touches::<R, H, Counted>(rt, alloc, &counted, recording, step, places)?;
+    assert!(rt; is_touched && counted.is_just(places));
+    Ok(())
+}
+
+/// A draft computes the touched stages by its runner, each once, and no others.
+fn run_once<R: StateRepresentation, H: Abort + Threads + Sync>(
+    rt: &H,
+    alloc: Global,
+) -> Result<(), Fail> {
+    let unread = r#"{"do":"setTakes","session":1,"stage":"i1","takes":4}"#;
+    let index = r#"{"do":"setAction","session":1,"stage":"s","action":1}"#;
+    ran::<R, H>(rt, alloc, COMPOSE_PICKS, unread, &[2])?;
+    ran::<R, H>(rt, alloc, COMPOSE_PICKS, index, &[0, 3])?;
+    ran::<R, H>(rt, alloc, REWIRED, REWIRE_A, &[3, 4, 5])
+}
 
 /// The turns that a piece waits at the gate before it goes on alone.
 const MOST_TURNS: u32 = 1_000_000;
@@ -49,29 +122,27 @@ impl<'a, C: Clock> Gate for Meeting<'a, C> {
     fn leave(&self, _piece: u32) {}
 }
 
-/// What is touched where the two stages of one rank meet at a gate.
-fn touched_at<R: StateRepresentation, H: Abort + Threads + Clock + Sync>(
+/// The two stages of one rank are computed at the same time. Were they computed one by one, the first would use up its turns.
+fn meet<R: StateRepresentation, H: Abort + Threads + Clock + Sync>(
     rt: &H,
     alloc: Global,
-    meeting: &Meeting<'_, H>,
 ) -> Result<(), Fail> {
-    let version: Version<R> = opened(alloc, TWO_OF_ONE)?;
-    let runner = Scoped::new(rt, 2, meeting);
-    let draft = drafted(rt, alloc, &runner, &version, PIN_Z)?.numbered(1)?;
-    assert_eq!(rt; draft.touched(), [0, 1, 2].as_slice());
-    Ok(())
-}
-
-/// The two stages of one rank are computed at the same time. Were they computed one by one, the first would use up its turns.
-#[test]
-fn two_workers(rt: HostRuntime) -> Result<(), Fail> {
     let meeting = Meeting {
-        clock: &rt,
+        clock: rt,
         entered: AtomicU64::new(0),
         gone_on_alone: AtomicU64::new(0),
     };
-    touched_at::<InShared, _>(&rt, rt.alloc(), &meeting)?;
-    assert_eq!(rt; meeting.entered.load(Ordering::SeqCst), 2);
-    assert_eq!(rt; meeting.gone_on_alone.load(Ordering::SeqCst), 0);
+    assert!(rt; touches::<R, H, _>(rt, alloc, &meeting, TWO_OF_ONE, PIN_Z, &[0, 1, 2])?);
+    assert!(rt; meeting.entered.load(Ordering::SeqCst) == 2);
+    assert!(rt; meeting.gone_on_alone.load(Ordering::SeqCst) == 0);
     Ok(())
+}
+
+/// What holds of drafts by two workers.
+pub(crate) fn hold<R: StateRepresentation, H: Abort + Threads + Clock + Sync>(
+    rt: &H,
+    alloc: Global,
+) -> Result<(), Fail> {
+    run_once::<R, H>(rt, alloc)?;
+    meet::<R, H>(rt, alloc)
 }
