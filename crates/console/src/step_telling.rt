@@ -65,13 +65,14 @@ impl<'a> StepTeller<'a> {
     /// Tells of a line and of what it was answered.
     pub fn tell(&mut self, number: u64, line: &[u8], answer: &[u8]) {
         // (of most lines there is nothing to tell, and a look at them shows it)
-        if may_be_refusal(answer) || may_step_be_unread(line) {
-            self.tell_of_answer(number, line, answer);
+        let may_be_unread = may_step_be_unread(line);
+        if may_be_unread || may_be_refusal(answer) {
+            self.tell_of_answer(number, line, answer, may_be_unread);
         }
     }
 
     /// Tells of a line that may be refused, or may have what nothing reads.
-    fn tell_of_answer(&mut self, number: u64, line: &[u8], answer: &[u8]) {
+    fn tell_of_answer(&mut self, number: u64, line: &[u8], answer: &[u8], may_be_unread: bool) {
         let first = first_line(answer).unwrap_or("");
         let read = match first.as_bytes() {
             [b'{', ..] => text_of_refusal(self.alloc, first),
@@ -80,7 +81,7 @@ impl<'a> StepTeller<'a> {
         let refusal = Refusal::of_answer(read.as_deref().unwrap_or(first));
         // (a line that is skipped has no answer, and nothing is told where memory is out)
         let may_be_told = !answer.is_empty() && !self.voice.is_quiet() && self.told < MOST_TOLD;
-        if may_be_told && (refusal.is_some() || may_step_be_unread(line)) {
+        if may_be_told && (refusal.is_some() || may_be_unread) {
             let _ = self.tell_of_step(number, without_end(line), refusal);
             if self.told == MOST_TOLD {
                 self.voice.say_of_line(

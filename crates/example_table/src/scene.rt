@@ -68,63 +68,83 @@ fn push_version<R: StateRepresentation>(
     Ok(())
 }
 
-/// The scene after a step.
-fn stepped<R: StateRepresentation, W: Runner>(
+/// Tells what a draft makes of the last version, which it is from then on; a refused one changes nothing.
+fn settle<R: StateRepresentation>(
+    alloc: Global,
+    scene: &mut Scene<R>,
+    draft: &Draft<R>,
+    computed: u64,
+    text: &mut String,
+) -> Result<()> {
+    scene.last = draft.numbered(scene.last.number().wrapping_add(1))?;
+    push_version(alloc, &scene.last, computed, text)
+}
+
+/// Edits the last version, and tells what came of it.
+fn edit<R: StateRepresentation, W: Runner>(
     alloc: Global,
     runner: &W,
-    scene: Scene<R>,
+    scene: &mut Scene<R>,
+    edits: Edits,
+    text: &mut String,
+) -> Result<()> {
+    let (draft, computed) = drafted(alloc, runner, scene, edits)?;
+    match draft {
+        Ok(draft) => settle(alloc, scene, &draft, computed, text),
+        Err(fault) => push_fault(alloc, &fault, text),
+    }
+}
+
+/// Answers a step: the edits that its text has, or why it has none.
+fn step<R: StateRepresentation, W: Runner>(
+    alloc: Global,
+    runner: &W,
+    scene: &mut Scene<R>,
     step: &str,
     text: &mut String,
-) -> Result<Scene<R>> {
-    let edits = match edits_of(alloc, step) {
-        Ok(edits) => edits,
+) -> Result<()> {
+    match edits_of(alloc, step) {
+        Ok(edits) => edit(alloc, runner, scene, edits, text),
         Err(fault) => {
             text.push_str(format!(in alloc; "{fault}\n")?.as_str())?;
-            return Ok(scene);
-        }
-    };
-    let (draft, computed) = drafted(alloc, runner, &scene, edits)?;
-    match draft {
-        Ok(draft) => {
-            let last = draft.numbered(scene.last.number().wrapping_add(1))?;
-            push_version(alloc, &last, computed, text)?;
-            Ok(Scene {
-                first: scene.first,
-                last,
-            })
-        }
-        Err(fault) => {
-            push_fault(alloc, &fault, text)?;
-            Ok(scene)
+            Ok(())
         }
     }
 }
 
-/// The scene after a line, whose answer is told.
-fn after<R: StateRepresentation, W: Runner>(
+/// Answers a line about a scene.
+fn answer<R: StateRepresentation, W: Runner>(
     alloc: Global,
     runner: &W,
-    scene: Option<Scene<R>>,
+    scene: &mut Scene<R>,
+    word: &str,
+    rest: &str,
+    text: &mut String,
+) -> Result<()> {
+    match word {
+        "step" => step(alloc, runner, scene, rest, text),
+        "report" => push_report(alloc, runner, scene, rest, text),
+        _ => Ok(()),
+    }
+}
+
+/// Answers a line: a recording makes a new scene, and before the first one there is nothing to tell.
+fn answer_line<R: StateRepresentation, W: Runner>(
+    alloc: Global,
+    runner: &W,
+    scene: &mut Option<Scene<R>>,
     line: &str,
     text: &mut String,
-) -> Result<Option<Scene<R>>> {
+) -> Result<()> {
     let Some((word, rest)) = line.split_once(" ") else {
-        return Ok(scene);
+        return Ok(());
     };
     if word == "recording" {
-        return opened(alloc, rest, text);
+        *scene = opened(alloc, rest, text)?;
+    } else if let Some(scene) = scene {
+        answer(alloc, runner, scene, word, rest, text)?;
     }
-    let Some(scene) = scene else {
-        return Ok(None);
-    };
-    match word {
-        "step" => Ok(Some(stepped(alloc, runner, scene, rest, text)?)),
-        "report" => {
-            push_report(alloc, runner, &scene, rest, text)?;
-            Ok(Some(scene))
-        }
-        _ => Ok(Some(scene)),
-    }
+    Ok(())
 }
 
 /// What is told of a table of examples.
@@ -138,7 +158,7 @@ pub(crate) fn told<R: StateRepresentation, W: Runner>(
     for line in table.lines() {
         text.push_str(line)?;
         text.push_str("\n")?;
-        scene = after(alloc, runner, scene, line, &mut text)?;
+        answer_line(alloc, runner, &mut scene, line, &mut text)?;
     }
     Ok(text)
 }

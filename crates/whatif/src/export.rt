@@ -14,7 +14,7 @@ use level_pool::Runner;
 use recording_text::write_recording;
 use report_json::Format;
 use serve_script::play;
-use stage_graph::{Graph, InShared};
+use stage_graph::Graph;
 use std::alloc::Global;
 use std::cell::Cell;
 use std::fs::File;
@@ -23,7 +23,7 @@ use text_io::{CountedWriter, Sink, Source};
 use version_store::{StateRepresentation, Version};
 
 /// Writes the version that the script of a file makes last of the recording of a file.
-pub(crate) fn run_export<'a, W: Runner>(
+pub(crate) fn run_export<'a, K: StateRepresentation, W: Runner>(
     rt: &'a HostRuntime,
     runner: &W,
     matches: &ArgMatches<'a>,
@@ -37,7 +37,7 @@ pub(crate) fn run_export<'a, W: Runner>(
     let voice = Voice::new(rt, matches);
     let recording = console::file(rt, voice, path)?;
     warn(rt.alloc(), voice, &recording)?;
-    match console::graph::<InShared>(rt.alloc(), voice, &recording) {
+    match console::graph::<K>(rt.alloc(), voice, &recording) {
         Ok(graph) => {
             let teller = StepTeller::new(rt.alloc(), voice, recording);
             export_of(rt, runner, voice, teller, graph, script)
@@ -47,12 +47,12 @@ pub(crate) fn run_export<'a, W: Runner>(
 }
 
 /// Plays the script of a file, tells of its refused steps, and writes the version that it made last.
-fn export_of<W: Runner>(
+fn export_of<K: StateRepresentation, W: Runner>(
     rt: &HostRuntime,
     runner: &W,
     voice: Voice<'_>,
     teller: StepTeller<'_>,
-    graph: Graph<InShared>,
+    graph: Graph<K>,
     script: &str,
 ) -> Result<(), Fault>
     requires { IsRanked graph.places }
@@ -80,13 +80,13 @@ fn unprinted<'a>(
 }
 
 /// The version that a script makes last; its refused steps are told.
-fn last_version<W: Runner>(
+fn last_version<K: StateRepresentation, W: Runner>(
     rt: &HostRuntime,
     runner: &W,
     teller: StepTeller<'_>,
-    graph: Graph<InShared>,
+    graph: Graph<K>,
     script: File,
-) -> Result<Version<InShared>, Fault>
+) -> Result<Version<K>, Fault>
     requires { IsRanked graph.places }
 {
     let watch = Watch::new(rt.alloc())?;
@@ -107,14 +107,14 @@ fn last_version<W: Runner>(
 }
 
 /// Plays a script, and gives the version that it makes last.
-fn played<W: Runner, R: Source, S: Sink>(
+fn played<K: StateRepresentation, W: Runner, R: Source, S: Sink>(
     alloc: Global,
     runner: &W,
     source: &mut R,
     sink: &mut S,
     watch: &Watch,
-    graph: Graph<InShared>,
-) -> Result<Version<InShared>, Fault>
+    graph: Graph<K>,
+) -> Result<Version<K>, Fault>
     requires ranked { IsRanked graph.places }
     requires reads { R.failures source.old ≡ 0 }
     requires writes { S.failures sink.old ≡ 0 }

@@ -34,13 +34,14 @@ use std::sync::Wait;
 use std::thread::Threads;
 use text_io::{Sink, Source};
 use trace_import::{Options, Unit, import};
+use version_store::StateRepresentation;
 
 /// The most bytes of a script that are read at once.
 pub(crate) const AT_ONCE: usize = 65_536;
 
 fn main(rt: HostRuntime) -> ExitCode {
     let format = Cell::new(Format::Text);
-    match run(&rt, rt, &OneThread::new(&rt), &format) {
+    match run::<InShared, _, _>(&rt, rt, &OneThread::new(&rt), &format) {
         Ok(code) => code,
         Err(fault) => refuse(&rt, format.get(), &fault),
     }
@@ -63,7 +64,8 @@ fn refuse(rt: &HostRuntime, format: Format, fault: &Fault) -> ExitCode {
     }
 }
 
-fn run<H: Threads + Wait + Copy + Drop + Send + Sync, W: Runner>(
+/// Answers the command line; graphs and versions keep their lists as `K` says.
+fn run<K: StateRepresentation, H: Threads + Wait + Copy + Drop + Send + Sync, W: Runner>(
     rt: &HostRuntime,
     threads: H,
     runner: &W,
@@ -73,13 +75,13 @@ fn run<H: Threads + Wait + Copy + Drop + Send + Sync, W: Runner>(
     let words = words(rt)?;
     let command = command(alloc)?;
     match command.try_get_matches_from(words.as_slice()) {
-        Ok(matches) => answer(rt, threads, runner, &matches, format),
+        Ok(matches) => answer::<K, _, _>(rt, threads, runner, &matches, format),
         Err(error) => Ok(told(rt, &error)?),
     }
 }
 
 /// Answers what the command line asks for, in the format that it asks for.
-fn answer<'a, H: Threads + Wait + Copy + Drop + Send + Sync, W: Runner>(
+fn answer<'a, K: StateRepresentation, H: Threads + Wait + Copy + Drop + Send + Sync, W: Runner>(
     rt: &'a HostRuntime,
     threads: H,
     runner: &W,
@@ -91,16 +93,16 @@ fn answer<'a, H: Threads + Wait + Copy + Drop + Send + Sync, W: Runner>(
     };
     format.set(format_of(matches));
     match name {
-        "report" => run_report(rt, matches)?,
-        "explain" => run_report_stage(rt, threads, matches, StageReport::Explanation)?,
+        "report" => run_report::<K>(rt, matches)?,
+        "explain" => run_report_stage::<K, _>(rt, threads, matches, StageReport::Explanation)?,
         "sweep" => {
             let most = matches.get_one::<usize>("top");
-            run_report_stage(rt, threads, matches, StageReport::Sweep { most })?
+            run_report_stage::<K, _>(rt, threads, matches, StageReport::Sweep { most })?
         }
-        "draw" => run_draw(rt, matches)?,
+        "draw" => run_draw::<K>(rt, matches)?,
         "check" => return run_check(rt, matches),
-        "serve" => run_serve(rt, runner, matches)?,
-        "export" => run_export(rt, runner, matches)?,
+        "serve" => run_serve::<K, _>(rt, runner, matches)?,
+        "export" => run_export::<K, _>(rt, runner, matches)?,
         "many" => run_many(rt, threads, matches)?,
         "import" => run_import(rt, matches)?,
         _ => return Err(Fault::CommandLine),
@@ -122,7 +124,10 @@ fn words(rt: &HostRuntime) -> Result<Vec<String>, Fault> {
 }
 
 /// Prints the report of all stages of a recording.
-fn run_report<'a>(rt: &'a HostRuntime, matches: &ArgMatches<'a>) -> Result<(), Fault> {
+fn run_report<'a, K: StateRepresentation>(
+    rt: &'a HostRuntime,
+    matches: &ArgMatches<'a>,
+) -> Result<(), Fault> {
     let voice = Voice::new(rt, matches);
     let path = matches.get_str("FILE");
     voice.say_what_is_read("recording", path.is_some());
@@ -130,7 +135,7 @@ fn run_report<'a>(rt: &'a HostRuntime, matches: &ArgMatches<'a>) -> Result<(), F
     warn(rt.alloc(), voice, &recording)?;
     let reason = Cell::new(None);
     let mut sink = console::output(rt, &reason)?;
-    let end = report_all::<InShared, _>(
+    let end = report_all::<K, _>(
         rt.alloc(),
         &recording,
         format_of(matches).form(None),
@@ -146,7 +151,7 @@ fn run_report<'a>(rt: &'a HostRuntime, matches: &ArgMatches<'a>) -> Result<(), F
 }
 
 /// Prints what is asked of one stage of a recording; the trials of a sweep are made on the processors that there are.
-fn run_report_stage<'a, H: Threads + Wait + Copy + Drop + Send + Sync>(
+fn run_report_stage<'a, K: StateRepresentation, H: Threads + Wait + Copy + Drop + Send + Sync>(
     rt: &'a HostRuntime,
     threads: H,
     matches: &ArgMatches<'a>,
@@ -160,7 +165,7 @@ fn run_report_stage<'a, H: Threads + Wait + Copy + Drop + Send + Sync>(
     warn(rt.alloc(), voice, &recording)?;
     let reason = Cell::new(None);
     let mut sink = console::output(rt, &reason)?;
-    let end = report_stage::<InShared, _, _>(
+    let end = report_stage::<K, _, _>(
         rt.alloc(),
         &recording,
         name,
@@ -199,7 +204,10 @@ fn asked<'a>(matches: &ArgMatches<'a>) -> Option<Asked<'a>> {
 }
 
 /// Writes a picture of a recording.
-fn run_draw<'a>(rt: &'a HostRuntime, matches: &ArgMatches<'a>) -> Result<(), Fault> {
+fn run_draw<'a, K: StateRepresentation>(
+    rt: &'a HostRuntime,
+    matches: &ArgMatches<'a>,
+) -> Result<(), Fault> {
     let Some(asked) = asked(matches) else {
         return Err(Fault::CommandLine);
     };
@@ -210,14 +218,14 @@ fn run_draw<'a>(rt: &'a HostRuntime, matches: &ArgMatches<'a>) -> Result<(), Fau
     warn(rt.alloc(), voice, &recording)?;
     let reason = Cell::new(None);
     let mut sink = console::output(rt, &reason)?;
-    let end = draw_recording::<InShared, _>(rt.alloc(), &recording, asked, &mut sink);
+    let end = draw_recording::<K, _>(rt.alloc(), &recording, asked, &mut sink);
     let end = with_reason(voice, &reason, flushed(&mut sink, reported(end)));
     let name = asked.stage.unwrap_or("");
     with_name_explained(rt.alloc(), voice, &recording, name, end)
 }
 
 /// Answers a script from standard input, about the recording of a file.
-fn run_serve<'a, W: Runner>(
+fn run_serve<'a, K: StateRepresentation, W: Runner>(
     rt: &'a HostRuntime,
     runner: &W,
     matches: &ArgMatches<'a>,
@@ -228,7 +236,7 @@ fn run_serve<'a, W: Runner>(
     let voice = Voice::new(rt, matches);
     let recording = console::file(rt, voice, path)?;
     warn(rt.alloc(), voice, &recording)?;
-    match console::graph::<InShared>(rt.alloc(), voice, &recording) {
+    match console::graph::<K>(rt.alloc(), voice, &recording) {
         Ok(graph) => {
             let teller = StepTeller::new(rt.alloc(), voice, recording);
             serve_listening(rt, runner, voice, teller, graph, format_of(matches))
@@ -238,12 +246,12 @@ fn run_serve<'a, W: Runner>(
 }
 
 /// Answers a script from standard input, and tells of its refused steps.
-fn serve_listening<W: Runner>(
+fn serve_listening<K: StateRepresentation, W: Runner>(
     rt: &HostRuntime,
     runner: &W,
     voice: Voice<'_>,
     teller: StepTeller<'_>,
-    graph: Graph<InShared>,
+    graph: Graph<K>,
     format: Format,
 ) -> Result<(), Fault>
     requires { IsRanked graph.places }
@@ -275,13 +283,13 @@ fn serve_listening<W: Runner>(
 }
 
 /// Answers a script, and passes on what was answered.
-fn answered<W: Runner, R: Source, S: Sink>(
+fn answered<K: StateRepresentation, W: Runner, R: Source, S: Sink>(
     alloc: Global,
     runner: &W,
     source: &mut R,
     sink: &mut S,
     watch: &Watch,
-    graph: Graph<InShared>,
+    graph: Graph<K>,
     format: Format,
 ) -> Result<(), Fault>
     requires ranked { IsRanked graph.places }
