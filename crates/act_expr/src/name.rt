@@ -97,8 +97,9 @@ impl ExName {
         }
     }
 
-    /// What an operator throws at a null operand.
-    pub(crate) fn null_pointer() -> ExName
+    /// `java.lang.NullPointerException`: what an operator throws at a null operand, and a compose operation whose
+    /// function gave null.
+    pub fn null_pointer() -> ExName
         ensures { result ≡ null_pointer }
     {
         ExName::known(b"java.lang.NullPointerException")

@@ -9,7 +9,7 @@ use Rattle.std.below.core.proofs.ledger.Sent.{share_send, book_send}
 use Rattle.share_tree.specs.declared.again.Again as Again
 use Rattle.share_tree.specs.declared.again.Held.{Held}
 use Rattle.share_tree.specs.declared.keeps.Keeps
-use Rattle.stage_graph.specs.declared.name.Places.{Places}
+use Rattle.stage_graph.specs.declared.places.Places.{Places}
 use Rattle.stage_graph.specs.declared.stage.Stage.{Stage}
 use Rattle.stage_graph.specs.declared.representation.Representation as Representation
 use Rattle.stage_ops.specs.declared.state.State.{State}

@@ -10,7 +10,7 @@ use Rattle.share_tree.specs.contracts.again.HeldAgain.TheImpl as held_again
 use Rattle.share_tree.specs.contracts.again.U32Again.TheImpl as u32_again
 use Rattle.share_tree.specs.contracts.again.OptionAgain.TheImpl as option_again
 use Rattle.std.specs.contracts.option.Option as option
-use Rattle.stage_graph.specs.contracts.name.Places as places
+use Rattle.stage_graph.specs.contracts.places.Places as places
 use Rattle.share_tree.specs.contracts.shared.Shared as shared
 use Rattle.act_expr.proofs.Crossing.{expr_send, expr_sync}
 use Rattle.stage_graph.proofs.Crossing.{places_send, places_sync, name_send, name_sync, outcome_send, outcome_sync, ends_send, ends_sync}

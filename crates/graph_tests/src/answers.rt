@@ -1,6 +1,6 @@
 //! Evaluation from scratch: what is asked of a graph stage by stage.
 use recording::read_recording;
-use scratch_eval::{Answers, QueryFault, chain, evaluate, users};
+use scratch_eval::{Answers, QueryFault, chain, dependents_of, evaluate};
 use stage_graph::{Graph, Representation};
 use stage_ops::{JavaOps, Meter};
 use std::alloc::Global;
@@ -20,10 +20,10 @@ fn stage_told<R: Representation>(
     place: u32,
 ) -> Result<String, Fail> {
     let rank = answers.rank(place)?;
-    let users = users(alloc, graph, place)?;
+    let its_dependents = dependents_of(alloc, graph, place)?;
     let blamed = chain(alloc, answers, place)?;
-    let (users, blamed) = (users.as_slice(), blamed.as_slice());
-    Ok(format!(in alloc; "{place} rank {rank} {users:?} blames {blamed:?};")?)
+    let (its_dependents, blamed) = (its_dependents.as_slice(), blamed.as_slice());
+    Ok(format!(in alloc; "{place} rank {rank} {its_dependents:?} blames {blamed:?};")?)
 }
 
 /// The same of each stage.
@@ -69,7 +69,10 @@ fn are_refused<R: Representation>(
     place: u32,
 ) -> bool {
     answers.rank(place).is_err()
-        && matches!(&users(alloc, graph, place), Err(QueryFault::NoStage))
+        && matches!(
+            &dependents_of(alloc, graph, place),
+            Err(QueryFault::NoStage)
+        )
         && matches!(&chain(alloc, answers, place), Err(QueryFault::NoStage))
 }
 

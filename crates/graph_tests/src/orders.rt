@@ -3,10 +3,10 @@ ghost use Rattle.std.specs.Prelude.{◌≡◌, IfOk};
 ghost use Rattle.stage_graph.specs.Walk.{IsRanked};
 ghost use Rattle.stage_graph.specs.Kept.{IsChangeBy};
 
-use rank_order::{NoStage, Order, OrderRepresentation, PatchFault};
+use rank_order::{Order, OrderRepresentation, PatchFault};
 use recording::read_recording;
 use share_tree::Held;
-use stage_graph::{Edits, Fault, Graph};
+use stage_graph::{Edits, Fault, Graph, NoStage};
 use std::alloc::{AllocError, Global};
 use std::process::Abort;
 use std::test::Fail;
@@ -34,8 +34,13 @@ fn changed<R: OrderRepresentation>(
 }
 
 /// A stage: its place, its rank and its dependents.
-fn stage_drawn(alloc: Global, place: u32, rank: u32, users: &[u32]) -> Result<String, Fail> {
-    Ok(format!(in alloc; "{place} rank {rank} {users:?};")?)
+fn stage_drawn(
+    alloc: Global,
+    place: u32,
+    rank: u32,
+    its_dependents: &[u32],
+) -> Result<String, Fail> {
+    Ok(format!(in alloc; "{place} rank {rank} {its_dependents:?};")?)
 }
 
 /// A place where neither query finds a stage.

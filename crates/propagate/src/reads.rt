@@ -4,6 +4,7 @@ ghost use Rattle.std.specs.Option.{option_to_list};
 ghost use Rattle.rank_order.specs.Lists.{is_among};
 ghost use Rattle.propagate.specs.Reach.{read_places};
 
+use rank_order::is_among;
 use stage_graph::Stage;
 use stage_ops::Reads;
 
@@ -13,13 +14,6 @@ fn is_picked(place: u32, places: &[u32], index: u32) -> bool
     ensures { result ≡ is_among place (option_to_list (slice_get places.now index)) }
 {
     (index as usize) < places.len() && place == places[index as usize]
-}
-
-/// Whether the place is among these.
-pub(crate) fn is_among(place: u32, places: &[u32]) -> bool
-    ensures { result ≡ is_among place places.now }
-{
-    places.iter().any(|other| place == *other)
 }
 
 /// Whether a stage whose state has these reads has read the place.

@@ -10,10 +10,10 @@ ghost use Rattle.propagate.specs.Reach.{is_emptied, Step, AreStates};
 
 use crate::kept::KeptState;
 use crate::representation::StateRepresentation;
-use scratch_eval::Answers;
+use scratch_eval::{Answers, Failures};
 use share_tree::{Again, Held, KeepFault, Keeps};
 use stage_graph::Graph;
-use stage_ops::{Look, Reads, State};
+use stage_ops::{Done, Look, Reads, State};
 use std::alloc::{AllocError, Global};
 use std::marker::Model;
 
@@ -40,6 +40,17 @@ impl<R: StateRepresentation> Look for States<R> {
         match self.list.get(place as usize) {
             Some(kept) => kept.state(),
             None => unreachable!(),
+        }
+    }
+}
+
+impl<R: StateRepresentation> Failures for States<R> {
+    ghost state = { λ states. state_at states };
+
+    fn failure(&self, place: u32) -> Option<Done> {
+        match self.list.get(place as usize) {
+            Some(kept) => kept.failure(),
+            None => None,
         }
     }
 }

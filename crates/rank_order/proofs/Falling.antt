@@ -48,8 +48,8 @@ falls_short ranks count places falls within =
     apart_short (λ one other. ranks other < ranks one) (λ one other less same. let equal = ap ranks same in omega arith) count places falls within
 
 module _ (places : List (Option Stage)) where
-  user_place : (user feed : ℕ) → Contains (feeds_at places user) feed → user < length places
-  user_place user feed has = place_from_live places user (live_from_feed (stage_at places user) feed has)
+  dependent_place : (dependent feed : ℕ) → Contains (feeds_at places dependent) feed → dependent < length places
+  dependent_place dependent feed has = place_from_live places dependent (live_from_feed (stage_at places dependent) feed has)
 
   module _ (ranks : ℕ → ℕ) where
     -- the places of a walk
@@ -80,7 +80,7 @@ module _ (places : List (Option Stage)) where
             on.falls,
           );
           within = λ other among. elim (among_cases other place (feed ∷ on.rest) among) [
-            | inl same ↦ subst (λ x. x < length places) (sym same) (user_place place feed has)
+            | inl same ↦ subst (λ x. x < length places) (sym same) (dependent_place place feed has)
             | inr later ↦ on.within other later
           ];
         }
@@ -96,7 +96,7 @@ module _ (places : List (Option Stage)) where
     ranks_are are place = ranks_alone places (ranked_from_ranks are) ranks are place
 
 -- ranks that the feeds of each place give are at most the number of places
-module _ (feeds : ℕ → List ℕ) (count : ℕ) (users : (user feed : ℕ) → Contains (feeds user) feed → user < count) (ranks : ℕ → ℕ) (are : AreRanks feeds ranks) where
+module _ (feeds : ℕ → List ℕ) (count : ℕ) (its_dependents : (dependent feed : ℕ) → Contains (feeds dependent) feed → dependent < count) (ranks : ℕ → ℕ) (are : AreRanks feeds ranks) where
   -- the places that a rank comes from
   record Below (rank place : ℕ) : Type 0 where
     pub chain : List ℕ
@@ -119,7 +119,7 @@ module _ (feeds : ℕ → List ℕ) (count : ℕ) (users : (user feed : ℕ) →
           | inr later ↦ let low = on.top other later in omega arith
         ];
         within = λ other among. elim (among_cases other place on.chain among) [
-          | inl same ↦ subst (λ x. x < count) (sym same) (users place feed has)
+          | inl same ↦ subst (λ x. x < count) (sym same) (its_dependents place feed has)
           | inr later ↦ on.within other later
         ];
       }

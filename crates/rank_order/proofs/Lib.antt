@@ -2,9 +2,9 @@ pub mod Setting
 pub mod Members
 pub mod Listed
 pub mod Above
-pub mod UserSteps
+pub mod DependentSteps
 pub mod Building
-pub mod UserMoves
+pub mod DependentMoves
 pub mod MarkSets
 pub mod Marking
 pub mod Falling

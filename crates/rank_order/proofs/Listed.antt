@@ -87,24 +87,24 @@ uses_among place None = refl
 uses_among place (Some stage) = refl
 
 module _ (places : List (Option Stage)) where
-  pub user_within : (user place : ℕ) → is_among place (feeds_at places user) ≡ true → user < length places
-  user_within user place among = place_from_live places user (live_from_feed (stage_at places user) place (among_contains place (feeds_at places user) among))
+  pub dependent_within : (dependent place : ℕ) → is_among place (feeds_at places dependent) ≡ true → dependent < length places
+  dependent_within dependent place among = place_from_live places dependent (live_from_feed (stage_at places dependent) place (among_contains place (feeds_at places dependent) among))
 
   -- the dependents of a place have it among their feeds
-  pub among_dependents : (place user : ℕ) → is_among user (dependents places place) ≡ is_among place (feeds_at places user)
-  among_dependents place user = same_tests (is_among user (dependents places place)) (is_among place (feeds_at places user))
-      (λ among. sym (uses_among place (stage_at places user)) ∙ (among_filter (λ other. uses place (stage_at places other)) user (all_places places) among).1)
-      (λ among. filter_among (λ other. uses place (stage_at places other)) user (all_places places)
-      (range_among user 0 (length places) (omega arith) (let within = user_within user place among in omega arith))
-      (uses_among place (stage_at places user) ∙ among))
+  pub among_dependents : (place dependent : ℕ) → is_among dependent (dependents places place) ≡ is_among place (feeds_at places dependent)
+  among_dependents place dependent = same_tests (is_among dependent (dependents places place)) (is_among place (feeds_at places dependent))
+      (λ among. sym (uses_among place (stage_at places dependent)) ∙ (among_filter (λ other. uses place (stage_at places other)) dependent (all_places places) among).1)
+      (λ among. filter_among (λ other. uses place (stage_at places other)) dependent (all_places places)
+      (range_among dependent 0 (length places) (omega arith) (let within = dependent_within dependent place among in omega arith))
+      (uses_among place (stage_at places dependent) ∙ among))
 
   pub dependents_ascend : (place : ℕ) → IsAscending (dependents places place)
-  dependents_ascend place = ascends_filter (λ x y. x < y) (λ user. uses place (stage_at places user)) (all_places places) (range_ascends 0 (length places))
+  dependents_ascend place = ascends_filter (λ x y. x < y) (λ dependent. uses place (stage_at places dependent)) (all_places places) (range_ascends 0 (length places))
 
   -- a list in order of the places that have it among their feeds
-  pub dependents_are : (place : ℕ) (users : List ℕ) → IsAscending users → ((user : ℕ) → is_among user users ≡ is_among place (feeds_at places user)) → users ≡ dependents places place
-  dependents_are place users ascending each =
-      same_members users (dependents places place) ascending (dependents_ascend place) (λ user. each user ∙ sym (among_dependents place user))
+  pub dependents_are : (place : ℕ) (its_dependents : List ℕ) → IsAscending its_dependents → ((dependent : ℕ) → is_among dependent its_dependents ≡ is_among place (feeds_at places dependent)) → its_dependents ≡ dependents places place
+  dependents_are place its_dependents ascending each =
+      same_members its_dependents (dependents places place) ascending (dependents_ascend place) (λ dependent. each dependent ∙ sym (among_dependents place dependent))
 
   pub dependents_listed : (place : ℕ) → place < length places → get_or (map (dependents places) (all_places places)) place [] ≡ dependents places place
   dependents_listed place within = get_or-map-range_with_len (dependents places) 0 (length places) place place [] within (omega arith)
@@ -125,11 +125,11 @@ module _ (order : PlainOrder) (is : IsOrder order) where
 -- ---- sound graphs
 
 module _ (graph : PlainGraph) (sound : IsSound graph) where
-  pub feed_within : (user feed : ℕ) → Contains (feeds_at graph.places user) feed → feed < length graph.places
-  feed_within user feed has = by_stage (stage_at graph.places user) refl has where
-    by_stage : (here : Option Stage) → stage_at graph.places user ≡ here → Contains (feeds_of_place here) feed → feed < length graph.places
+  pub feed_within : (dependent feed : ℕ) → Contains (feeds_at graph.places dependent) feed → feed < length graph.places
+  feed_within dependent feed has = by_stage (stage_at graph.places dependent) refl has where
+    by_stage : (here : Option Stage) → stage_at graph.places dependent ≡ here → Contains (feeds_of_place here) feed → feed < length graph.places
     by_stage None empty (k, within, at) = absurd (omega arith)
-    by_stage (Some stage) live has_feed = place_from_live graph.places feed (All-contains (IsLive graph.places) (feeds_of stage) feed (sound.stages user stage live).live_feeds has_feed)
+    by_stage (Some stage) live has_feed = place_from_live graph.places feed (All-contains (IsLive graph.places) (feeds_of stage) feed (sound.stages dependent stage live).live_feeds has_feed)
 
-  pub among_within : (feed user : ℕ) → is_among feed (feeds_at graph.places user) ≡ true → feed < length graph.places
-  among_within feed user among = feed_within user feed (among_contains feed (feeds_at graph.places user) among)
+  pub among_within : (feed dependent : ℕ) → is_among feed (feeds_at graph.places dependent) ≡ true → feed < length graph.places
+  among_within feed dependent among = feed_within dependent feed (among_contains feed (feeds_at graph.places dependent) among)

@@ -28,8 +28,8 @@ module _ (places : List (Option Stage)) where
   pub left_feed : (out : List ℕ) (place feed : ℕ) → Contains (feeds_left places out place) feed → Contains (feeds_at places place) feed
   left_feed out place feed has = subst (λ xs. Contains xs feed) (left_stays out place (left_in out place feed has)) has
 
-  pub left_user : (out : List ℕ) (user feed : ℕ) → Contains (feeds_left places out user) feed → user < length places
-  left_user out user feed has = place_from_live places user (live_from_feed (stage_at places user) feed (left_feed out user feed has))
+  pub left_dependent : (out : List ℕ) (dependent feed : ℕ) → Contains (feeds_left places out dependent) feed → dependent < length places
+  left_dependent out dependent feed has = place_from_live places dependent (live_from_feed (stage_at places dependent) feed (left_feed out dependent feed has))
 
   -- a trace in a part of the graph is one in the graph
   pub traced_in : (out moved : List ℕ) (before now : ℕ → ℕ) → AreTraced moved (feeds_left places out) before now → AreTraced moved (feeds_at places) before now

@@ -22,8 +22,8 @@ rank_set ranks place rank within other = elim (cases_eq other place) [
 ]
 
 -- the stored list of a place's dependents
-pub users_are : (places : List (Option Stage)) (lists : List (List ℕ)) (place : ℕ) (users : List ℕ) → lists ≡ map (dependents places) (all_places places) → place < length places → users ≡ get_or lists place [] → users ≡ dependents places place
-users_are places lists place users kept within is = is ∙ ap (λ (xs : List (List ℕ)). get_or xs place []) kept ∙ dependents_listed places place within
+pub dependents_are : (places : List (Option Stage)) (lists : List (List ℕ)) (place : ℕ) (its_dependents : List ℕ) → lists ≡ map (dependents places) (all_places places) → place < length places → its_dependents ≡ get_or lists place [] → its_dependents ≡ dependents places place
+dependents_are places lists place its_dependents kept within is = is ∙ ap (λ (xs : List (List ℕ)). get_or xs place []) kept ∙ dependents_listed places place within
 
 -- the places that are marked at first
 pub only_these : (was told among : Bool) → was ≡ false → told ≡ (was || (among && not false)) → told ≡ among
@@ -68,35 +68,35 @@ module _ (places : List (Option Stage)) (out moved : List ℕ) (before now : ℕ
     ];
     come = λ other has. inl (left_was other has);
     go = left_or_place;
-    users_marked = λ other none has. same;
+    dependents_marked = λ other none has. same;
   }
 
   -- the rank changes, and the dependents that are in the graph are marked
-  pub rank_changes : (count : ℕ) (now_marked : ℕ → Bool) (next : ℕ → ℕ) (users : List ℕ) → above_all now (feeds_left places out place) ≢ now place → users ≡ dependents places place
-      → ((user : ℕ) → is_among user users ≡ true → is_among user out ≡ false → is_among user moved ≡ false)
+  pub rank_changes : (count : ℕ) (now_marked : ℕ → Bool) (next : ℕ → ℕ) (its_dependents : List ℕ) → above_all now (feeds_left places out place) ≢ now place → its_dependents ≡ dependents places place
+      → ((dependent : ℕ) → is_among dependent its_dependents ≡ true → is_among dependent out ≡ false → is_among dependent moved ≡ false)
       → ((other : ℕ) → next other ≡ (if other == place then above_all now (feeds_left places out place) else now other))
-      → ((other : ℕ) → now_marked other ≡ (left other || (is_among other users && not (is_among other out))))
+      → ((other : ℕ) → now_marked other ≡ (left other || (is_among other its_dependents && not (is_among other out))))
       → IsStep (feeds_left places out) count moved before marked now_marked now next place
-  rank_changes count now_marked next users changed users_are apart hold told = record {
+  rank_changes count now_marked next its_dependents changed dependents_are apart hold told = record {
     here = first.here;
     least = first.least;
     hold = hold;
-    come = λ other has. elim (or_cases (left other) (is_among other users && not (is_among other out)) (sym (told other) ∙ has)) [
+    come = λ other has. elim (or_cases (left other) (is_among other its_dependents && not (is_among other out)) (sym (told other) ∙ has)) [
       | inl was ↦ inl (left_was other was)
-      | inr user ↦
-          let (among, kept) = and_parts (is_among other users) (not (is_among other out)) user in
+      | inr dependent ↦
+          let (among, kept) = and_parts (is_among other its_dependents) (not (is_among other out)) dependent in
           let in_graph : is_among other out ≡ false = not-true (is_among other out) kept in
-          inr (changed, user_feed other among in_graph, apart other among in_graph)
+          inr (changed, dependent_feed other among in_graph, apart other among in_graph)
     ];
-    go = λ other none. left_or_place other (or_parts (left other) (is_among other users && not (is_among other out)) (sym (told other) ∙ none)).0;
-    users_marked = λ other none has.
-        let user : (is_among other users && not (is_among other out)) ≡ true = and_from (is_among other users) (not (is_among other out)) (feed_user other has) (not_from_false (is_among other out) (left_in places out other place has)) in
-        absurd (true≢false (sym user ∙ (or_parts (left other) (is_among other users && not (is_among other out)) (sym (told other) ∙ none)).1));
+    go = λ other none. left_or_place other (or_parts (left other) (is_among other its_dependents && not (is_among other out)) (sym (told other) ∙ none)).0;
+    dependents_marked = λ other none has.
+        let dependent : (is_among other its_dependents && not (is_among other out)) ≡ true = and_from (is_among other its_dependents) (not (is_among other out)) (feed_dependent other has) (not_from_false (is_among other out) (left_in places out other place has)) in
+        absurd (true≢false (sym dependent ∙ (or_parts (left other) (is_among other its_dependents && not (is_among other out)) (sym (told other) ∙ none)).1));
   } where
-    user_feed : (other : ℕ) → is_among other users ≡ true → is_among other out ≡ false → Contains (feeds_left places out other) place
-    user_feed other among in_graph =
+    dependent_feed : (other : ℕ) → is_among other its_dependents ≡ true → is_among other out ≡ false → Contains (feeds_left places out other) place
+    dependent_feed other among in_graph =
         subst (λ xs. Contains xs place) (sym (left_stays places out other in_graph))
-        (among_contains place (feeds_at places other) (sym (among_dependents places place other) ∙ ap (is_among other) (sym users_are) ∙ among))
+        (among_contains place (feeds_at places other) (sym (among_dependents places place other) ∙ ap (is_among other) (sym dependents_are) ∙ among))
 
-    feed_user : (other : ℕ) → Contains (feeds_left places out other) place → is_among other users ≡ true
-    feed_user other has = ap (is_among other) users_are ∙ among_dependents places place other ∙ contains_among place (feeds_at places other) (left_feed places out other place has)
+    feed_dependent : (other : ℕ) → Contains (feeds_left places out other) place → is_among other its_dependents ≡ true
+    feed_dependent other has = ap (is_among other) dependents_are ∙ among_dependents places place other ∙ contains_among place (feeds_at places other) (left_feed places out other place has)

@@ -43,7 +43,7 @@ module _ (feeds : ℕ → List ℕ) (count : ℕ) (moved : List ℕ) (before : �
     pub hold : (other : ℕ) → next other ≡ (if other == place then above_all now (feeds place) else now other)
     pub come : (other : ℕ) → now_marked other ≡ true → ((marked other ≡ true) × (other ≢ place)) ⊎ ((above_all now (feeds place) ≢ now place) × Contains (feeds other) place × (is_among other moved ≡ false))
     pub go : (other : ℕ) → now_marked other ≡ false → (marked other ≡ false) ⊎ (other ≡ place)
-    pub users_marked : (other : ℕ) → now_marked other ≡ false → Contains (feeds other) place → above_all now (feeds place) ≡ now place
+    pub dependents_marked : (other : ℕ) → now_marked other ≡ false → Contains (feeds other) place → above_all now (feeds place) ≡ now place
 
   -- as many places were processed as there were turns
   pub record IsSettlingAfter (turns : ℕ) (marked : ℕ → Bool) (now : ℕ → ℕ) : Type 0 where
@@ -51,7 +51,7 @@ module _ (feeds : ℕ → List ℕ) (count : ℕ) (moved : List ℕ) (before : �
     pub count_is : length looked ≡ turns
     pub settling : IsSettling looked marked now
 
-  module _ (users : (user feed : ℕ) → Contains (feeds user) feed → user < count) (are : AreRanksBut moved feeds before) where
+  module _ (its_dependents : (dependent feed : ℕ) → Contains (feeds dependent) feed → dependent < count) (are : AreRanksBut moved feeds before) where
     old_lower : (place feed : ℕ) → is_among place moved ≡ false → Contains (feeds place) feed → before feed < before place
     old_lower place feed other has = subst (λ r. before feed < r) (sym (are place other)) (below_above before (feeds place) feed has)
 
@@ -118,7 +118,7 @@ module _ (feeds : ℕ → List ℕ) (count : ℕ) (moved : List ℕ) (before : �
       same_by_feeds : (other : ℕ) → now_marked other ≡ false → above_all now (feeds other) ≡ above_all next (feeds other)
       same_by_feeds other unmarked = same_above now next (feeds other) (λ feed has. elim (cases_eq feed place) [
         | inl same ↦
-            let stays : above_all now (feeds place) ≡ now place = step.users_marked other unmarked (subst (Contains (feeds other)) same has) in
+            let stays : above_all now (feeds place) ≡ now place = step.dependents_marked other unmarked (subst (Contains (feeds other)) same has) in
             subst (λ x. now x ≡ next x) (sym same) (sym (now_right ∙ stays))
         | inr apart ↦ sym (other_stays feed apart)
       ])
@@ -143,8 +143,8 @@ module _ (feeds : ℕ → List ℕ) (count : ℕ) (moved : List ℕ) (before : �
             | inr comes ↦ subst (λ x. ComesBefore before x other) (sym same) comes
           ]
         ]
-        | inr user ↦
-            let lower : before place < before other = old_lower other place user.2 user.1 in
+        | inr dependent ↦
+            let lower : before place < before other = old_lower other place dependent.2 dependent.1 in
             elim (among_push_cases one place looked among) [
               | inl earlier ↦ comes_lower before one place other (settling.in_order one place earlier step.here) lower
               | inr same ↦ subst (λ x. ComesBefore before x other) (sym same) (inl lower)
@@ -159,7 +159,7 @@ module _ (feeds : ℕ → List ℕ) (count : ℕ) (moved : List ℕ) (before : �
         ]
         | inr has ↦ elim (step.come other has) [
           | inl was ↦ settling.within other (inr was.0)
-          | inr user ↦ users other place user.1
+          | inr dependent ↦ its_dependents other place dependent.1
         ]
       ]
 
@@ -182,10 +182,10 @@ module _ (feeds : ℕ → List ℕ) (count : ℕ) (moved : List ℕ) (before : �
         ]
         | inr has ↦ elim (step.come other has) [
           | inl was ↦ trace_on other (settling.traces other (inr was.0) unmoved)
-          | inr user ↦ record {
+          | inr dependent ↦ record {
             feed = place;
-            is_feed = user.1;
-            changed = λ same. user.0 (sym now_right ∙ same ∙ sym (was_kept looked marked now next place settling step.here step.hold));
+            is_feed = dependent.1;
+            changed = λ same. dependent.0 (sym now_right ∙ same ∙ sym (was_kept looked marked now next place settling step.here step.hold));
             lower = λ feed has_feed. old_lower other feed unmoved has_feed;
           }
         ]

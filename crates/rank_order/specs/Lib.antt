@@ -1,6 +1,6 @@
 pub mod Lists
 pub mod Orders
-pub mod UserLists
+pub mod DependentLists
 pub mod Ranking
 pub mod Marks
 pub mod Faults

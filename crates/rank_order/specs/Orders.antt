@@ -3,7 +3,7 @@ use Rattle.std.specs.Prelude.{ℕ, ◌≡◌, List, map, Option, Some, None, Res
 use Rattle.stage_graph.specs.declared.stage.Stage.{Stage}
 use Rattle.stage_graph.specs.Plain.{PlainGraph, all_places, dependents}
 use Rattle.stage_graph.specs.Walk.{rank, IsRanked}
-use Rattle.rank_order.specs.declared.fault.NoStage.{NoStage}
+use Rattle.stage_graph.specs.declared.fault.NoStage.{NoStage}
 
 -- a graph, a rank for each of its places, and the places that depend on each
 pub record PlainOrder : Type 0 where

@@ -4,11 +4,11 @@ ghost use Rattle.stage_graph.specs.Walk.{rank, IsRanked};
 ghost use Rattle.stage_graph.specs.Plain.{all_places};
 ghost use Rattle.rank_order.specs.Orders.{order_of};
 
+use crate::dependent_lists::dependents_of;
 use crate::lists::grown;
 use crate::order::Order;
 use crate::ranks::rank_by_feeds;
 use crate::representation::OrderRepresentation;
-use crate::users::dependents_of;
 use share_tree::{Again, Held, Keeps};
 use stage_graph::{Graph, ranked_order};
 use std::alloc::{AllocError, Global};

@@ -1,24 +1,10 @@
-//! Why a query of an order is refused, and why an order is not patched.
+//! Why an order is not patched.
 ghost use Rattle.std.specs.Prelude.{◌≡◌};
 ghost use Rattle.rank_order.specs.Faults.{patch_number};
 
 use stage_graph::Places;
 use std::alloc::AllocError;
 use thiserror::Error;
-
-/// No stage stands at the place.
-#[derive(Clone, Copy, Debug, PartialEq, Eq, Error)]
-#[error("no such stage")]
-pub struct NoStage;
-
-impl NoStage {
-    /// The number of the refusal.
-    pub fn number(self) -> u32
-        ensures { result ≡ 10 }
-    {
-        10
-    }
-}
 
 /// Why an order is not patched.
 #[derive(Debug, Drop, Error)]

@@ -10,7 +10,9 @@
 //! or a whole rank at a time.
 #![tactic(auto)]
 
+mod among;
 mod build;
+mod dependent_lists;
 mod fault;
 mod lists;
 mod marks;
@@ -20,9 +22,9 @@ mod ranks;
 mod representation;
 mod rewire;
 mod settle;
-mod users;
 
-pub use fault::{NoStage, PatchFault};
+pub use among::is_among;
+pub use fault::PatchFault;
 pub use marks::Marks;
 pub use order::Order;
 pub use representation::OrderRepresentation;

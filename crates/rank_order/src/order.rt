@@ -4,12 +4,11 @@ ghost use Rattle.stage_graph.specs.Plain.{stage_at, IsLive, dependents};
 ghost use Rattle.stage_graph.specs.Walk.{rank};
 ghost use Rattle.rank_order.specs.Orders.{IsOrder, at_live};
 
-use crate::fault::NoStage;
+use crate::dependent_lists::dependents_at;
 use crate::ranks::rank_at;
 use crate::representation::OrderRepresentation;
-use crate::users::users_at;
 use share_tree::Held;
-use stage_graph::Graph;
+use stage_graph::{Graph, NoStage};
 use std::marker::Model;
 
 /// The rank of each place of a ranked graph, and the dependents of each place.
@@ -49,10 +48,10 @@ impl<R: OrderRepresentation> Order<R> {
 
     /// The dependents of the stage at a place: the places with it as a feed, in order. Allocates nothing.
     pub fn dependents(&self, place: u32) -> Result<&[u32], NoStage>
-        ensures { MatchResult result (λ users. (users.now ≡ dependents self.now.graph.places place) × IsLive self.now.graph.places place) (λ fault. stage_at self.now.graph.places place ≡ None) }
+        ensures { MatchResult result (λ its_dependents. (its_dependents.now ≡ dependents self.now.graph.places place) × IsLive self.now.graph.places place) (λ fault. stage_at self.now.graph.places place ≡ None) }
     {
         match self.graph.stage(place) {
-            Some(_) => Ok(users_at(&self.dependents, place)),
+            Some(_) => Ok(dependents_at(&self.dependents, place)),
             None => Err(NoStage),
         }
     }

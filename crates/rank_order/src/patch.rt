@@ -71,6 +71,7 @@ impl<R: OrderRepresentation> Order<R> {
     {
         let old = self.graph.deref();
         let new = changed.deref();
+        // With its length a graph says that it is sound, as every graph is.
         let _ = old.len();
         let count = new.len();
         let moved = moved_places(alloc, old, new, edits.as_slice())?;

@@ -2,12 +2,12 @@
 ghost use Rattle.std.specs.Prelude.{◌≡◌, ◌<◌, ◌≤◌, ◌∷◌, ◌++◌, true, false, ℕ, Bool, nat_lt, if◌then◌else◌, [], length, map, filter, All, slice_index_or, slice_set, IfOk, OnOk};
 ghost use Rattle.stage_graph.specs.Plain.{all_places, dependents, feeds_of, feeds_at};
 ghost use Rattle.rank_order.specs.Lists.{is_among};
-ghost use Rattle.rank_order.specs.UserLists.{AreUserLists, with_user, with_moved};
+ghost use Rattle.rank_order.specs.DependentLists.{AreDependentLists, with_dependent, with_moved};
 
+use crate::dependent_lists::dependents_at;
 use crate::lists::grown;
-use crate::users::users_at;
 use share_tree::{Held, Keeps};
-use stage_graph::{Graph, Places, Representation, Stage};
+use stage_graph::{Graph, Places, Representation};
 use std::alloc::{AllocError, Global};
 
 /// The places before one.
@@ -44,34 +44,34 @@ fn add_later(list: &mut Vec<u32>, places: &[u32], place: u32) -> Result<(), Allo
 }
 
 /// The dependents with a place among them, in order, or without it.
-fn with_user(
+fn with_dependent(
     alloc: Global,
-    users: &[u32],
+    its_dependents: &[u32],
     place: u32,
-    is_user: bool,
+    is_dependent: bool,
 ) -> Result<Vec<u32>, AllocError>
-    ensures { IfOk result (λ changed. changed.items ≡ with_user place is_user users.now) }
+    ensures { IfOk result (λ changed. changed.items ≡ with_dependent place is_dependent its_dependents.now) }
 {
-    let mut changed = earlier(alloc, users, place)?;
-    add_wanted(&mut changed, place, is_user)?;
-    add_later(&mut changed, users, place)?;
+    let mut changed = earlier(alloc, its_dependents, place)?;
+    add_wanted(&mut changed, place, is_dependent)?;
+    add_later(&mut changed, its_dependents, place)?;
     Ok(changed)
 }
 
 /// Sets the list of a feed, so that one place is among its dependents, or is not.
-fn set_user<K: Keeps<Held<Places>>>(
+fn set_dependent<K: Keeps<Held<Places>>>(
     alloc: Global,
     lists: &mut K,
     feed: u32,
     place: u32,
-    is_user: bool,
+    is_dependent: bool,
 ) -> Result<(), AllocError>
     requires { feed < length (K.items lists.old) }
-    ensures { OnOk result (K.items lists.new ≡ slice_set (K.items lists.old) feed (with_user place is_user (slice_index_or (K.items lists.old) feed []))) }
+    ensures { OnOk result (K.items lists.new ≡ slice_set (K.items lists.old) feed (with_dependent place is_dependent (slice_index_or (K.items lists.old) feed []))) }
 {
-    let users = with_user(alloc, users_at(lists, feed), place, is_user)?;
-    let users = Held::new(alloc, Places::from_vec(users))?;
-    lists.write(feed as usize, users)
+    let its_dependents = with_dependent(alloc, dependents_at(lists, feed), place, is_dependent)?;
+    let its_dependents = Held::new(alloc, Places::from_vec(its_dependents))?;
+    lists.write(feed as usize, its_dependents)
 }
 
 /// Adds the feeds of what stands at a place.
@@ -90,19 +90,12 @@ fn add_feeds<R: Representation>(
     Ok(())
 }
 
-/// Whether a place is among the feeds of a stage.
-fn uses(stage: &Stage, feed: u32) -> bool
-    ensures { result ≡ is_among feed (feeds_of stage.now) }
-{
-    stage.sources.as_slice().contains(&feed) || stage.inner.as_slice().contains(&feed)
-}
-
 /// Whether a place is among the feeds of what stands at another.
 fn has_feed<R: Representation>(graph: &Graph<R>, place: u32, feed: u32) -> bool
     ensures { result ≡ is_among feed (feeds_at graph.now.places place) }
 {
     match graph.stage(place) {
-        Some(stage) => uses(stage, feed),
+        Some(stage) => stage.has_feed(feed),
         None => false,
     }
 }
@@ -125,7 +118,7 @@ fn feeds_of_both<R: Representation>(
 }
 
 /// Moves a place from the lists of its old feeds to those of its new ones.
-fn move_user<R: Representation, K: Keeps<Held<Places>>>(
+fn move_dependent<R: Representation, K: Keeps<Held<Places>>>(
     alloc: Global,
     lists: &mut K,
     old: &Graph<R>,
@@ -135,13 +128,13 @@ fn move_user<R: Representation, K: Keeps<Held<Places>>>(
     requires longer { length old.now.places ≤ length changed.now.places }
     requires long { length (K.items lists.old) ≡ length changed.now.places }
     ensures long { OnOk result (length (K.items lists.new) ≡ length changed.now.places) }
-    ensures users { OnOk result ((uses : ℕ → ℕ → Bool) → ((feed : ℕ) → uses feed place ≡ true → is_among feed (feeds_at old.now.places place ++ feeds_at changed.now.places place) ≡ true)
-        → AreUserLists uses (length changed.now.places) (K.items lists.old) → AreUserLists (with_moved uses place (feeds_at changed.now.places place)) (length changed.now.places) (K.items lists.new)) }
+    ensures its_dependents { OnOk result ((uses : ℕ → ℕ → Bool) → ((feed : ℕ) → uses feed place ≡ true → is_among feed (feeds_at old.now.places place ++ feeds_at changed.now.places place) ≡ true)
+        → AreDependentLists uses (length changed.now.places) (K.items lists.old) → AreDependentLists (with_moved uses place (feeds_at changed.now.places place)) (length changed.now.places) (K.items lists.new)) }
 {
     let feeds = feeds_of_both(alloc, old, changed, place)?;
     for feed in &feeds {
-        let is_user = has_feed(changed, place, *feed);
-        set_user(alloc, lists, *feed, place, is_user)?;
+        let is_dependent = has_feed(changed, place, *feed);
+        set_dependent(alloc, lists, *feed, place, is_dependent)?;
     }
     Ok(())
 }
@@ -159,11 +152,12 @@ pub(crate) fn patched_dependents<R: Representation, K: Keeps<Held<Places>>>(
     requires dependents { K.items kept.now ≡ map (dependents old.now.places) (all_places old.now.places) }
     ensures { IfOk result (λ lists. K.items lists ≡ map (dependents changed.now.places) (all_places changed.now.places)) }
 {
+    // With its length a graph says that it is sound, as every graph is.
     let _ = old.len();
     let none = Held::new(alloc, Places::from_vec(Vec::new(alloc)))?;
     let mut lists = grown(kept, &none, changed.len())?;
     for place in moved {
-        move_user(alloc, &mut lists, old, changed, *place)?;
+        move_dependent(alloc, &mut lists, old, changed, *place)?;
     }
     Ok(lists)
 }

@@ -8,20 +8,14 @@ ghost use Rattle.rank_order.specs.Lists.{is_among};
 ghost use Rattle.rank_order.specs.Marks.{is_marked, AreMarks};
 ghost use Rattle.rank_order.specs.Ranking.{feeds_left, AreRanks, AreRanksBut, AreTraced, IsStop, IsStopFault, IsCycleAmong};
 
+use crate::among::is_among;
+use crate::dependent_lists::dependents_at;
 use crate::fault::PatchFault;
 use crate::marks::Marks;
 use crate::ranks::{rank_at, rank_by_feeds};
-use crate::users::users_at;
 use share_tree::{Again, Held, Keeps};
 use stage_graph::{Graph, Places, Representation};
 use std::alloc::{AllocError, Global};
-
-/// Whether a place is one of these.
-fn is_among(place: u32, places: &[u32]) -> bool
-    ensures { result ≡ is_among place places.now }
-{
-    places.iter().any(|other| place == *other)
-}
 
 /// The rank of a place by those of its feeds, where the stages at some places are removed.
 fn rank_left<R: Representation, K: Keeps<u32>>(
@@ -105,13 +99,13 @@ fn walk_back<R: Representation, K: Keeps<u32>>(
 }
 
 /// The first of the dependents that is a moved place, and is not removed.
-fn first_stop(users: &[u32], out: &[u32], moved: &[u32]) -> Option<u32>
-    ensures found { IfSome result (λ user. (is_among user users.now ≡ true) × (is_among user out.now ≡ false) × (is_among user moved.now ≡ true)) }
-    ensures none { IfNone result ((user : ℕ) → is_among user users.now ≡ true → is_among user out.now ≡ false → is_among user moved.now ≡ false) }
+fn first_stop(its_dependents: &[u32], out: &[u32], moved: &[u32]) -> Option<u32>
+    ensures found { IfSome result (λ dependent. (is_among dependent its_dependents.now ≡ true) × (is_among dependent out.now ≡ false) × (is_among dependent moved.now ≡ true)) }
+    ensures none { IfNone result ((dependent : ℕ) → is_among dependent its_dependents.now ≡ true → is_among dependent out.now ≡ false → is_among dependent moved.now ≡ false) }
 {
-    for user in users {
-        if !is_among(*user, out) && is_among(*user, moved) {
-            return Some(*user);
+    for dependent in its_dependents {
+        if !is_among(*dependent, out) && is_among(*dependent, moved) {
+            return Some(*dependent);
         }
     }
     None
@@ -168,12 +162,12 @@ fn settled<R: Representation, K: Keeps<u32>, L: Keeps<Held<Places>>>(
             continue;
         }
         ranks.write(place as usize, rank)?;
-        let users = users_at(kept, place);
-        if let Some(first) = first_stop(users, out, moved) {
+        let its_dependents = dependents_at(kept, place);
+        if let Some(first) = first_stop(its_dependents, out, moved) {
             let path = walk_back(alloc, graph, before, &ranks, moved, first, place)?;
             return Err(PatchFault::Cycle(path));
         }
-        mark_left(&mut marks, before, users, out)?;
+        mark_left(&mut marks, before, its_dependents, out)?;
     }
     Ok(ranks)
 }

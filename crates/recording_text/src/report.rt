@@ -61,6 +61,7 @@ fn report_head<R: Representation>(
 ) -> Result<String, AllocError>
     ensures { IfOk result (λ line. string_bytes line ≡ report_head number (length (specs_of graph.now) + 2)) }
 {
+    // With its length a graph says that it is sound, as every graph is.
     let _ = graph.len();
     let lines = live_count(graph) + 2;
     let mut line = String::new(alloc);

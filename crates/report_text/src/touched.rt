@@ -58,6 +58,7 @@ pub(crate) fn write_drift<R: StateRepresentation, S: Sink>(
     ensures failures { S.failures sink.new ≡ S.failures sink.old + failed_writes result }
 {
     let touched = version.touched_by_place(alloc)?;
+    // With the touched stages the version says that all others are as in its parent.
     let _ = version.touched();
     line.clear();
     push_drift_header(line, version, shift_count(version, touched.as_slice()))?;

@@ -12,7 +12,7 @@ use Rattle.stage_ops.specs.declared.state.State.{State}
 use Rattle.stage_ops.specs.States.{pending, state_at, IsBy, seen_of, Completion}
 use Rattle.stage_ops.specs.Evaluation.{at}
 use Rattle.scratch_eval.specs.declared.answers.Answer.{Answer}
-use Rattle.scratch_eval.specs.declared.fault.NoStage.{NoStage}
+use Rattle.stage_graph.specs.declared.fault.NoStage.{NoStage}
 
 -- the answer at a place; none at an empty one
 abbrev pub answer_at : List (Option Answer) → ℕ → Option Answer

@@ -27,5 +27,5 @@ abbrev pub chain_at : (Stage → (ℕ → Option Completion) → State) → List
 chain_at step places place = list_at (chain step places) place (stage_at places place)
 
 -- the stages that have the stage among their feeds, each once, in the order of their places
-abbrev pub users_at : List (Option Stage) → ℕ → Result (List ℕ) QueryFault
-users_at places place = list_at (dependents places) place (stage_at places place)
+abbrev pub dependents_at : List (Option Stage) → ℕ → Result (List ℕ) QueryFault
+dependents_at places place = list_at (dependents places) place (stage_at places place)

@@ -2,8 +2,9 @@
 ghost use Rattle.std.specs.Prelude.{◌≡◌, ◌<◌, None, Some, length, slice_set, replicate, IfOk};
 ghost use Rattle.scratch_eval.specs.Answers.{StatesFollowRanks};
 
-use crate::fault::NoStage;
+use crate::blame::Failures;
 use act_expr::Outcome;
+use stage_graph::NoStage;
 use stage_ops::{Done, Look, State};
 use std::alloc::{AllocError, Global};
 use std::marker::Model;
@@ -43,10 +44,23 @@ impl Look for Answers {
     }
 }
 
+impl Failures for Answers {
+    ghost use Rattle.stage_ops.specs.States.{state_at};
+    ghost use Rattle.scratch_eval.specs.Answers.{states_of};
+
+    ghost state = { λ answers. state_at (states_of answers) };
+
+    fn failure(&self, place: u32) -> Option<Done> {
+        let done = self.get(place)?.state.done?;
+        match done.outcome {
+            Outcome::Value(_) => None,
+            Outcome::Bare(_) | Outcome::Wrapped(_) => Some(done),
+        }
+    }
+}
+
 impl Answers {
     ghost use Rattle.scratch_eval.specs.Answers.{answer_at, rank_at, states_of, told_state, told_rank};
-    ghost use Rattle.scratch_eval.specs.Blame.{failure_of};
-    ghost use Rattle.stage_ops.specs.States.{state_at};
 
     /// This many empty places.
     pub(crate) fn empty(alloc: Global, places: usize) -> Result<Self, AllocError>
@@ -84,17 +98,6 @@ impl Answers {
         ensures { result ≡ length self.now }
     {
         self.items.len()
-    }
-
-    /// The completion at a place by an exception.
-    pub(crate) fn failure(&self, place: u32) -> Option<Done>
-        ensures { result ≡ failure_of (state_at (states_of self.now) place).done }
-    {
-        let done = self.get(place)?.state.done?;
-        match done.outcome {
-            Outcome::Value(_) => None,
-            Outcome::Bare(_) | Outcome::Wrapped(_) => Some(done),
-        }
     }
 
     /// The rank at a place, and 0 where there is no answer.

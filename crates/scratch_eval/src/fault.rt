@@ -2,22 +2,9 @@
 ghost use Rattle.std.specs.Prelude.{◌≡◌};
 ghost use Rattle.scratch_eval.specs.Queries.{query_number};
 
+use stage_graph::NoStage;
 use std::alloc::AllocError;
 use thiserror::Error;
-
-/// No live stage stands at the place.
-#[derive(Clone, Copy, Debug, PartialEq, Eq, Error)]
-#[error("10 NoStage")]
-pub struct NoStage;
-
-impl NoStage {
-    /// The number by which the refusal is printed.
-    pub fn number(self) -> u32
-        ensures { result ≡ 10 }
-    {
-        10
-    }
-}
 
 /// Why a query is not answered.
 #[derive(Clone, Copy, Debug, PartialEq, Eq, Error)]

@@ -2,16 +2,18 @@
 #![tactic(auto)]
 
 mod answers;
+mod blame;
 mod fault;
 mod laws;
 mod queries;
 mod scratch;
 
 pub use answers::{Answer, Answers};
-pub use fault::{NoStage, QueryFault};
+pub use blame::{Failures, follow_blame};
+pub use fault::QueryFault;
 pub use laws::{
     chains_follow_blame, moments_follow_ranks, moments_follow_ranks_unqueued, one_answer,
     paths_add_up,
 };
-pub use queries::{chain, users};
+pub use queries::{chain, dependents_of};
 pub use scratch::evaluate;

@@ -1,37 +1,18 @@
 //! Queries about one stage of a graph: who is to blame, and which stages depend on it.
-ghost use Rattle.std.specs.Prelude.{◌≡◌, ℕ, ◌<◌, length, Option, Some, IfOk};
+ghost use Rattle.std.specs.Prelude.{◌≡◌, ℕ, ◌<◌, Option, Some, IfOk};
 ghost use Rattle.stage_graph.specs.declared.stage.Stage.{Stage};
 ghost use Rattle.stage_graph.specs.Plain.{PlainGraph, uses, dependents, stage_at};
 ghost use Rattle.stage_graph.specs.Sound.{IsSound};
 ghost use Rattle.stage_ops.specs.declared.state.State.{State};
-ghost use Rattle.stage_ops.specs.States.{Completion, state_at};
-ghost use Rattle.scratch_eval.specs.Answers.{AreAnswers, states_of};
-ghost use Rattle.scratch_eval.specs.Blame.{followed};
-ghost use Rattle.scratch_eval.specs.Queries.{AnswersOrMemory, chain_at, users_at};
+ghost use Rattle.stage_ops.specs.States.{Completion};
+ghost use Rattle.scratch_eval.specs.Answers.{AreAnswers};
+ghost use Rattle.scratch_eval.specs.Queries.{AnswersOrMemory, chain_at, dependents_at};
 
 use crate::answers::Answers;
+use crate::blame::follow_blame;
 use crate::fault::QueryFault;
-use stage_graph::{Graph, Places, Representation, Stage};
+use stage_graph::{Graph, Places, Representation};
 use std::alloc::{AllocError, Global};
-
-/// The chain of blame from a place, by the states of the stages.
-fn follow(alloc: Global, answers: &Answers, place: u32) -> Result<Places, AllocError>
-    ensures { IfOk result (λ chain. chain ≡ followed (state_at (states_of answers.now)) (length answers.now) place) }
-{
-    let mut chain = Vec::new(alloc);
-    let mut next = place;
-    for _ in 0..answers.len() {
-        let Some(failure) = answers.failure(next) else {
-            break;
-        };
-        chain.push(next)?;
-        let Some(source) = failure.from else {
-            break;
-        };
-        next = source;
-    }
-    Ok(Places::from_vec(chain))
-}
 
 /// The chain of blame of a live stage: the stage itself where it completed by an exception, and then the chain of the
 /// source whose exception it took over. It is empty where the stage is pending or holds a value.
@@ -41,48 +22,41 @@ pub fn chain(alloc: Global, answers: &Answers, place: u32) -> Result<Places, Que
     let Some(_) = answers.get(place) else {
         return Err(QueryFault::NoStage);
     };
-    let chain = follow(alloc, answers, place)?;
+    let chain = follow_blame(alloc, answers, answers.len(), place)?;
     Ok(chain)
 }
 
-/// Whether a feed of a stage is the place.
-fn has_feed(stage: &Stage, place: u32) -> bool
-    ensures { result ≡ uses place (Some stage.now) }
-{
-    stage.sources.as_slice().contains(&place) || stage.inner.as_slice().contains(&place)
-}
-
 /// The dependents of a place: the places whose stages have it among their feeds.
-fn all_users<R: Representation>(
+fn all_dependents<R: Representation>(
     alloc: Global,
     graph: &Graph<R>,
     place: u32,
 ) -> Result<Places, AllocError>
-    ensures { IfOk result (λ users. users ≡ dependents graph.now.places place) }
+    ensures { IfOk result (λ found. found ≡ dependents graph.now.places place) }
 {
-    let mut users = Vec::new(alloc);
-    for user in 0..graph.len() {
-        let user = user as u32;
-        if let Some(stage) = graph.stage(user) {
-            if has_feed(stage, place) {
-                users.push(user)?;
+    let mut found = Vec::new(alloc);
+    for dependent in 0..graph.len() {
+        let dependent = dependent as u32;
+        if let Some(stage) = graph.stage(dependent) {
+            if stage.has_feed(place) {
+                found.push(dependent)?;
             }
         }
     }
-    Ok(Places::from_vec(users))
+    Ok(Places::from_vec(found))
 }
 
 /// The dependents of a live stage: those that have it among their feeds, each once, in the order of their places.
-pub fn users<R: Representation>(
+pub fn dependents_of<R: Representation>(
     alloc: Global,
     graph: &Graph<R>,
     place: u32,
 ) -> Result<Places, QueryFault>
-    ensures { AnswersOrMemory (users_at graph.now.places place) result }
+    ensures { AnswersOrMemory (dependents_at graph.now.places place) result }
 {
     if graph.stage(place).is_none() {
         return Err(QueryFault::NoStage);
     }
-    let users = all_users(alloc, graph, place)?;
-    Ok(users)
+    let found = all_dependents(alloc, graph, place)?;
+    Ok(found)
 }

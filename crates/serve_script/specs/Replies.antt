@@ -28,24 +28,24 @@ added_in (Add stage) = Some stage.name
 added_in others = None
 
 -- the stage at a place has the name: it is one of the base's, or an edit adds it after these
-abbrev pub name_of_user : List (Option Stage) → List Edit → ℕ → List ℕ
-name_of_user places edits place =
+abbrev pub name_of_dependent : List (Option Stage) → List Edit → ℕ → List ℕ
+name_of_dependent places edits place =
     if nat_lt place (length places) then name_of (stage_at places place) else slice_index_or (filter_map added_in edits) (place - length places) []
 
 abbrev pub name_after : Option PlainVersion → List Edit → ℕ → List ℕ
 name_after None edits place = []
-name_after (Some version) edits place = name_of_user version.graph.places edits place
+name_after (Some version) edits place = name_of_dependent version.graph.places edits place
 
 -- the name of a stage of the graph that a commit edits, or of one that it adds; the base is the version whose graph that is
-abbrev pub user_name : Option PlainVersion → Event → ℕ → List ℕ
-user_name base (Commit session number edits) place = name_after base edits place
-user_name base others place = []
+abbrev pub dependent_name : Option PlainVersion → Event → ℕ → List ℕ
+dependent_name base (Commit session number edits) place = name_after base edits place
+dependent_name base others place = []
 
 -- ---- lines
 
 -- the name of the stage that depends on a removed one
 abbrev pub dependent_text : Option PlainVersion → Event → EditRefusal → List ℕ
-dependent_text base event (InUse dependent) = codes " " ++ user_name base event dependent
+dependent_text base event (InUse dependent) = codes " " ++ dependent_name base event dependent
 dependent_text base event others = []
 
 -- the dependent of a removed stage, the session's head, or the number of another graph's version

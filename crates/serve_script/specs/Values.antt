@@ -16,7 +16,7 @@ use Rattle.session_core.specs.declared.event.Reply.TheVariants.{Opened, At, Comm
 use Rattle.session_core.specs.declared.refusal.Refusal.{Refusal}
 use Rattle.session_core.specs.declared.refusal.Refusal.TheVariants.{Edits, Cycle, SessionOpen, NoSession, NoVersion, Moved, AtBottom, Full, Foreign, BadSession, TooManySessions}
 use Rattle.report_json.specs.Json.{NamedValues, count, object, text}
-use Rattle.serve_script.specs.Replies.{user_name}
+use Rattle.serve_script.specs.Replies.{dependent_name}
 
 -- ---- refusals
 
@@ -52,7 +52,7 @@ refusal_name TooManySessions = codes "TooManySessions"
 
 -- the name of the stage that depends on a removed one
 abbrev pub dependent_members : Option PlainVersion → Event → EditRefusal → NamedValues
-dependent_members base event (InUse dependent) = (codes "dependent", text (user_name base event dependent)) ∷ []
+dependent_members base event (InUse dependent) = (codes "dependent", text (dependent_name base event dependent)) ∷ []
 dependent_members base event others = []
 
 -- the dependent of a removed stage, the session's head, or the number of another graph's version

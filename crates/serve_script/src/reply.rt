@@ -3,7 +3,7 @@ ghost use Rattle.std.specs.Prelude.{◌≡◌, ◌++◌, [], IfOk, OnOk, string_
 ghost use Rattle.std.specs.List.{filter_map};
 ghost use Rattle.recording.specs.FaultTexts.{fault_text};
 ghost use Rattle.report_text.specs.Texts.{line_end};
-ghost use Rattle.serve_script.specs.Replies.{added_in, base_in, dependent_text, detail_text, index_text, name_of_user, refused_line, reply_line, user_name};
+ghost use Rattle.serve_script.specs.Replies.{added_in, base_in, dependent_text, detail_text, index_text, name_of_dependent, refused_line, reply_line, dependent_name};
 
 use recording::Fault;
 use session_core::{Event, Refusal, Reply, Table};
@@ -113,7 +113,7 @@ fn push_dependent<R: StateRepresentation>(
 {
     match refusal {
         stage_graph::Refusal::InUse(place) => {
-            let name = user_name(base, event, place);
+            let name = dependent_name(base, event, place);
             write!(line, " {name}")
         }
         _ => Ok(()),
@@ -130,27 +130,27 @@ fn push_index(line: &mut String, listed: bool, place: Option<usize>) -> Result<(
 }
 
 /// The name of the stage that has a place in the graph of a commit's base, or after its edits.
-pub(crate) fn user_name<'a, R: StateRepresentation>(
+pub(crate) fn dependent_name<'a, R: StateRepresentation>(
     base: Option<&'a Version<R>>,
     event: &'a Event,
     place: u32,
 ) -> &'a str
-    ensures { result.now ≡ user_name (option_copied base.entry) event.now place }
+    ensures { result.now ≡ dependent_name (option_copied base.entry) event.now place }
 {
     match (base, event) {
         (Some(version), Event::Commit { edit, .. }) => {
-            name_of_user(version.graph(), edit.as_slice(), place)
+            name_of_dependent(version.graph(), edit.as_slice(), place)
         }
         _ => "",
     }
 }
 
-fn name_of_user<'a, R: StateRepresentation>(
+fn name_of_dependent<'a, R: StateRepresentation>(
     graph: &'a Graph<R>,
     edits: &'a [Edit],
     place: u32,
 ) -> &'a str
-    ensures { result.now ≡ name_of_user graph.now.places edits.now place }
+    ensures { result.now ≡ name_of_dependent graph.now.places edits.now place }
 {
     let place_index = place as usize;
     if place_index >= graph.len() {

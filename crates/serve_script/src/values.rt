@@ -6,7 +6,7 @@ ghost use Rattle.report_json.specs.Json.{count, object, text, with};
 ghost use Rattle.report_json.specs.Objects.{held};
 ghost use Rattle.serve_script.specs.Values.{at_version, dependent_members, detail_members, edit_name, fault_json, index_members, refusal_json, refusal_name, refused, reply_json};
 
-use crate::reply::user_name;
+use crate::reply::dependent_name;
 use recording::Fault;
 use report_json::Object;
 use serde_json::Value;
@@ -150,7 +150,7 @@ fn add_dependent<R: StateRepresentation>(
 {
     match refusal {
         stage_graph::Refusal::InUse(place) => {
-            object.text("dependent", user_name(base, event, place))
+            object.text("dependent", dependent_name(base, event, place))
         }
         _ => Ok(()),
     }

@@ -15,7 +15,7 @@ use Rattle.stage_graph.specs.Plain.{PlainGraph, stage_at, place_named, has_name,
 use Rattle.stage_graph.specs.Sound.{IsSound, IsSoundStage}
 use Rattle.stage_graph.specs.Checks.{checks_of}
 use Rattle.stage_graph.specs.Names.{stage_of}
-use Rattle.stage_graph.specs.Edits.{stage_edit, standing, changed_at, appended, added, unless_used, removed_at, first_user, edited}
+use Rattle.stage_graph.specs.Edits.{stage_edit, standing, changed_at, appended, added, unless_used, removed_at, first_dependent, edited}
 use Rattle.stage_graph.specs.Changes.{then_on, changed_from, changed}
 use Rattle.stage_graph.proofs.Placing.{named_at, live_from_name, sound_after_replace}
 use Rattle.stage_graph.proofs.Keeping.{stage_edit_changed, allowed_ok, known_live}
@@ -57,8 +57,8 @@ module _ (graph : PlainGraph) (sound : IsSound graph) (new : PlainGraph) where
       subst IsSound is.1 (sound_after_append graph.mode graph.places (stage_of find end spec)
       (within_places free find end spec is.0) (not_found (find spec.name) is.0.free) refl (lawful_stage free find end spec is.0) (known_live graph.places spec.sources spec.inner is.0.known) sound)
 
-  vacated : (place : ℕ) → IsLive graph.places place → (user : Option ℕ) → first_user graph.places place ≡ user → unless_used graph place user ≡ Ok new → IsSound new
-  vacated place live (Some user) is ok = cc
+  vacated : (place : ℕ) → IsLive graph.places place → (dependent : Option ℕ) → first_dependent graph.places place ≡ dependent → unless_used graph place dependent ≡ Ok new → IsSound new
+  vacated place live (Some dependent) is ok = cc
   vacated place live None is ok =
       let same : record graph { places = set graph.places place None } ≡ new = cc in
       subst IsSound same (sound_after_vacate graph.mode graph.places sound place live is)
@@ -66,7 +66,7 @@ module _ (graph : PlainGraph) (sound : IsSound graph) (new : PlainGraph) where
   by_removal : (name : List ℕ) (found : Option ℕ) → place_named graph.places name ≡ found → removed_at graph found ≡ Ok new → IsSound new
   by_removal name None is ok = cc
   by_removal name (Some place) is ok =
-      vacated place (live_from_name name (stage_at graph.places place) (named_at graph.places name place is).1) (first_user graph.places place) refl ok
+      vacated place (live_from_name name (stage_at graph.places place) (named_at graph.places name place is).1) (first_dependent graph.places place) refl ok
 
   by_edit : (edit : Edit) → edited edit graph ≡ Ok new → IsSound new
   by_edit (Add spec) ok = by_addition spec ok

@@ -13,7 +13,7 @@ use Rattle.act_expr.proofs.Crossing.{expr_send, expr_sync}
 use Rattle.act_expr.specs.contracts.outcome.Outcome as outcome
 use Rattle.stage_graph.specs.contracts.name.Name as name
 use Rattle.stage_graph.specs.contracts.name.NameList as names
-use Rattle.stage_graph.specs.contracts.name.Places as places
+use Rattle.stage_graph.specs.contracts.places.Places as places
 use Rattle.stage_graph.specs.contracts.end.Ends as ends
 use Rattle.stage_graph.specs.contracts.stage.Spec as spec
 use Rattle.stage_graph.specs.contracts.edit.Edit as edit
@@ -22,8 +22,8 @@ use Rattle.stage_graph.specs.contracts.name_tree.Entry as entry
 use Rattle.stage_graph.specs.contracts.name_tree.Part as part
 use Rattle.stage_graph.specs.contracts.name_tree.NameTree as name_tree
 use Rattle.stage_graph.proofs.name_tree.Part.TheLaws.TheKnot as knot
-use Rattle.stage_graph.specs.contracts.names.FirstPlaces as first_places
-use Rattle.stage_graph.specs.contracts.names.NameTable as name_table
+use Rattle.stage_graph.specs.contracts.name_table.FirstPlaces as first_places
+use Rattle.stage_graph.specs.contracts.name_table.NameTable as name_table
 use Rattle.stage_graph.specs.contracts.graph.Graph as graph
 
 pub name_send : IsSend name.the_row

@@ -22,7 +22,7 @@ use Rattle.stage_graph.specs.Sound.{IsSound, IsSoundStage}
 use Rattle.stage_graph.specs.Checks.{passing, checks_of, is_tick, is_pin, are_ends, are_after, action_fault}
 use Rattle.stage_graph.specs.Operations.{has_action}
 use Rattle.stage_graph.specs.Names.{stage_of}
-use Rattle.stage_graph.specs.Edits.{stage_edit, standing, changed_at, appended, added, unless_used, removed_at, first_user, edited}
+use Rattle.stage_graph.specs.Edits.{stage_edit, standing, changed_at, appended, added, unless_used, removed_at, first_dependent, edited}
 use Rattle.stage_graph.specs.Changes.{edited_name, moves, is_edited, is_moved}
 use Rattle.stage_graph.specs.Kept.{removes, is_removed, Stays, Becomes, IsChangeBy, listed, places_before_after, edited_places}
 use Rattle.stage_graph.specs.Walk.{IsRanked}
@@ -147,9 +147,9 @@ module _ (graph : PlainGraph) (sound : IsSound graph) (new : PlainGraph) where
       let same : name ≡ was.name = sym ((bytes_eq-Decides was.name name).0 called) in
       either (bytes_eq name was.name) false ((bytes_eq-Decides name was.name).1 same)
 
-  vacated : (name : List ℕ) (place : ℕ) → place_named graph.places name ≡ Some place → (user : Option ℕ) → unless_used graph place user ≡ Ok new
+  vacated : (name : List ℕ) (place : ℕ) → place_named graph.places name ≡ Some place → (dependent : Option ℕ) → unless_used graph place dependent ≡ Ok new
       → IsChangeBy (Remove name ∷ []) graph new
-  vacated name place found (Some user) ok = cc
+  vacated name place found (Some dependent) ok = cc
   vacated name place found None ok =
       let is : record graph { places = set graph.places place None } ≡ new = cc in
       let within = (named_at graph.places name place found).0 in
@@ -168,7 +168,7 @@ module _ (graph : PlainGraph) (sound : IsSound graph) (new : PlainGraph) where
 
   by_removal : (name : List ℕ) (found : Option ℕ) → place_named graph.places name ≡ found → removed_at graph found ≡ Ok new → IsChangeBy (Remove name ∷ []) graph new
   by_removal name None is ok = cc
-  by_removal name (Some place) is ok = vacated name place is (first_user graph.places place) ok
+  by_removal name (Some place) is ok = vacated name place is (first_dependent graph.places place) ok
 
   -- what one edit leaves
   pub kept_by_edit : (edit : Edit) → edited edit graph ≡ Ok new → IsChangeBy (edit ∷ []) graph new

@@ -13,4 +13,4 @@ pub mod Searching
 pub mod Turning
 pub mod Kept
 pub mod Telling
-pub mod FirstUser
+pub mod FirstDependent

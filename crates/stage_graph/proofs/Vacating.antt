@@ -12,7 +12,7 @@ use Rattle.std.proofs.lemmas.Slice.Eq.{bytes_eq-Decides}
 use Rattle.act_expr.specs.declared.outcome.Mode.{Mode}
 use Rattle.stage_graph.specs.declared.stage.Stage.{Stage}
 use Rattle.stage_graph.specs.Plain.{stage_at, has_name, place_named, feeds_of, IsLive, uses}
-use Rattle.stage_graph.specs.Edits.{first_user}
+use Rattle.stage_graph.specs.Edits.{first_dependent}
 use Rattle.stage_graph.specs.Sound.{IsSound, IsSoundStage, IsLawful}
 use Rattle.stage_graph.proofs.Lists.{set_cases}
 use Rattle.stage_graph.proofs.Positions.{position_push, position_none, none_before}
@@ -126,7 +126,7 @@ module _ (mode : Mode) (places : List (Option Stage)) (kept : IsSound (record { 
           ap (λ own. has_name own (stage_at vacant k)) (sym ((bytes_eq-Decides name other).0 is)) ∙ nobody k))
       by_name false is = sym (others other is)
 
-  module _ (place : ℕ) (live : IsLive places place) (unused : first_user places place ≡ None) where
+  module _ (place : ℕ) (live : IsLive places place) (unused : first_dependent places place ≡ None) where
     within : place < length places
     within = place_from_live places place live
 

@@ -90,16 +90,16 @@ added spec graph =
     allowed (checks_of (not (is_some (find spec.name))) find (length graph.places) spec) (appended graph (stage_of find (length graph.places) spec))
 
 -- the first dependent of the place: the first place whose stage has it as a feed
-abbrev pub first_user : List (Option Stage) → ℕ → Option ℕ
-first_user places place = position (uses place) places
+abbrev pub first_dependent : List (Option Stage) → ℕ → Option ℕ
+first_dependent places place = position (uses place) places
 
 abbrev pub unless_used : PlainGraph → ℕ → Option ℕ → Result PlainGraph Refusal
 unless_used graph place None = Ok (record graph { places = slice_set graph.places place None })
-unless_used graph place (Some user) = Err (InUse user)
+unless_used graph place (Some dependent) = Err (InUse dependent)
 
 abbrev pub removed_at : PlainGraph → Option ℕ → Result PlainGraph Refusal
 removed_at graph None = Err NoStage
-removed_at graph (Some place) = unless_used graph place (first_user graph.places place)
+removed_at graph (Some place) = unless_used graph place (first_dependent graph.places place)
 
 -- what one edit makes of the graph
 abbrev pub edited : Edit → PlainGraph → Result PlainGraph Refusal

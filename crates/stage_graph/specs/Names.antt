@@ -4,8 +4,8 @@ use Rattle.std.specs.Str.{bytes_eq}
 use Rattle.indexmap.specs.IndexMap.{get_by_text}
 use Rattle.stage_graph.specs.declared.stage.Stage.{Stage}
 use Rattle.stage_graph.specs.declared.stage.Spec.{Spec}
-use Rattle.stage_graph.specs.declared.names.FirstPlaces.{FirstPlaces}
-use Rattle.stage_graph.specs.declared.names.NameTable.{NameTable}
+use Rattle.stage_graph.specs.declared.name_table.FirstPlaces.{FirstPlaces}
+use Rattle.stage_graph.specs.declared.name_table.NameTable.{NameTable}
 use Rattle.stage_graph.specs.NameTrees.{told}
 use Rattle.stage_graph.specs.Plain.{place_named}
 

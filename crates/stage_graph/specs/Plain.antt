@@ -55,4 +55,4 @@ all_places places = range_with_len 0 (length places)
 
 -- the places whose feeds name the place
 abbrev pub dependents : List (Option Stage) → ℕ → List ℕ
-dependents places place = filter (λ user. uses place (stage_at places user)) (all_places places)
+dependents places place = filter (λ dependent. uses place (stage_at places dependent)) (all_places places)

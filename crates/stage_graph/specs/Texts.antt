@@ -41,7 +41,7 @@ refusal_text NoSource = codes "14 NoSource"
 refusal_text Limit = codes "15 Limit"
 refusal_text EndBeforeCreated = codes "16 EndBeforeCreated"
 refusal_text NoAction = codes "17 NoAction"
-refusal_text (InUse user) = codes "18 InUse"
+refusal_text (InUse dependent) = codes "18 InUse"
 refusal_text (Expr fault) = codes "20 Expr"
 
 -- the number and the name of a fault

@@ -23,6 +23,7 @@ impl<R: Representation> Graph<R> {
         ensures changed { IsChanged result (then_on at (edited edit.now self.now) Ok) }
         ensures kept { IfOk result (IsChangeBy (edit.now ∷ []) self.now) }
     {
+        // With its length a graph says that it is sound, as every graph is.
         let _ = self.len();
         match self.edit(alloc, edit, known) {
             Ok(graph) => Ok(graph),

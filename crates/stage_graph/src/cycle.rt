@@ -6,7 +6,7 @@ ghost use Rattle.stage_graph.specs.Changes.{is_moved, IsNewCycle};
 
 use crate::edit::Edits;
 use crate::graph::Graph;
-use crate::name::Places;
+use crate::places::Places;
 use crate::representation::Representation;
 use std::alloc::{AllocError, Global};
 
@@ -22,6 +22,7 @@ fn turned<R: Representation>(
     ensures closed { IfOk result (IsClosedWalk graph.now.places) }
     ensures begins { IfOk result (λ walk. slice_index walk 0 ≡ slice_index path.now begin) }
 {
+    // With its length a graph says that it is sound, as every graph is.
     let _ = graph.len();
     let mut walk = Vec::from_slice(alloc, &path[begin..])?;
     for at in 0..begin {

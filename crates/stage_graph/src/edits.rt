@@ -5,43 +5,34 @@ ghost use Rattle.stage_graph.specs.Sound.{IsSoundStage};
 ghost use Rattle.stage_graph.specs.Names.{IsTableOf, found};
 ghost use Rattle.stage_graph.specs.Changes.{edited_name};
 ghost use Rattle.stage_graph.specs.Kept.{AreDependentsOf};
-ghost use Rattle.stage_graph.specs.Edits.{IsAnswer, edited, changed_stage, added, appended, removed_at, first_user};
+ghost use Rattle.stage_graph.specs.Edits.{IsAnswer, edited, changed_stage, added, appended, removed_at, first_dependent};
 
 use crate::edit::Edit;
 use crate::fault::{EditFault, Refusal};
 use crate::graph::Graph;
 use crate::name::Name;
 use crate::representation::Representation;
-use crate::stage::{Spec, Stage};
+use crate::stage::Spec;
 use std::alloc::{AllocError, Global};
-
-impl Stage {
-    /// Whether a feed of the stage is the place.
-    fn uses(&self, place: u32) -> bool
-        ensures { result ≡ uses place (Some self.now) }
-    {
-        self.sources.as_slice().contains(&place) || self.inner.as_slice().contains(&place)
-    }
-}
 
 impl<R: Representation> Graph<R> {
     /// Whether a feed of the stage at a place is another place.
-    fn uses(&self, user: u32, place: u32) -> bool
-        ensures { result ≡ uses place (stage_at self.now.places user) }
+    fn uses(&self, dependent: u32, place: u32) -> bool
+        ensures { result ≡ uses place (stage_at self.now.places dependent) }
     {
-        match self.stage(user) {
-            Some(stage) => stage.uses(place),
+        match self.stage(dependent) {
+            Some(stage) => stage.has_feed(place),
             None => false,
         }
     }
 
     /// The first dependent of a place: the first place whose stage has it as a feed.
-    fn first_user(&self, place: u32) -> Option<u32>
-        ensures { result ≡ first_user self.now.places place }
+    fn first_dependent(&self, place: u32) -> Option<u32>
+        ensures { result ≡ first_dependent self.now.places place }
     {
-        for user in 0..self.len() {
-            if self.uses(user as u32, place) {
-                return Some(user as u32);
+        for dependent in 0..self.len() {
+            if self.uses(dependent as u32, place) {
+                return Some(dependent as u32);
             }
         }
         None
@@ -67,11 +58,11 @@ impl<R: Representation> Graph<R> {
     /// The first dependent of a place: the first of the known dependents, or else found by a search.
     fn dependent_among(&self, known: Option<&[u32]>, place: u32) -> Option<u32>
         requires { IfSome known (λ known. known.now ≡ dependents self.now.places place) }
-        ensures { result ≡ first_user self.now.places place }
+        ensures { result ≡ first_dependent self.now.places place }
     {
         match known {
             Some(dependents) => dependents.first().copied(),
-            None => self.first_user(place),
+            None => self.first_dependent(place),
         }
     }
 
@@ -88,8 +79,8 @@ impl<R: Representation> Graph<R> {
         let Some(place) = self.place_of(name) else {
             return Err(EditFault::Refused(Refusal::NoStage));
         };
-        if let Some(user) = self.dependent_among(known, place) {
-            return Err(EditFault::Refused(Refusal::InUse(user)));
+        if let Some(dependent) = self.dependent_among(known, place) {
+            return Err(EditFault::Refused(Refusal::InUse(dependent)));
         }
         Ok(self.vacate(alloc, name, place)?)
     }

@@ -3,7 +3,7 @@ ghost use Rattle.std.specs.Prelude.{◌≡◌};
 ghost use Rattle.stage_graph.specs.Numbers.{refusal_number, fault_number};
 ghost use Rattle.stage_graph.specs.Texts.{refusal_text, fault_text};
 
-use crate::name::Places;
+use crate::places::Places;
 use act_expr::ExprFault;
 use std::alloc::AllocError;
 use std::fmt;
@@ -33,6 +33,11 @@ pub enum Refusal {
     /// 20: the action is nested too deeply or has too many nodes.
     Expr(ExprFault),
 }
+
+/// No live stage stands at the place that is asked about, or has the name.
+#[derive(Clone, Copy, Debug, PartialEq, Eq, Error)]
+#[error("10 NoStage")]
+pub struct NoStage;
 
 /// 21: a list of no edits, or of more than 64.
 #[derive(Clone, Copy, Debug, PartialEq, Eq, Error)]

@@ -2,7 +2,7 @@
 ghost use Rattle.std.specs.Prelude.{◌≡◌, ◌≤◌, ◌<◌, ◌^◌, true, ℕ, List, unwrap_or, length, Some, None, All, slice_set, option_copied, IfOk, IfSome};
 ghost use Rattle.stage_graph.specs.Plain.{PlainGraph, stage_at, stage_named, place_named, has_name, feeds_of, IsLive};
 ghost use Rattle.stage_graph.specs.Sound.{IsSound, IsSoundStage, IsLawful};
-ghost use Rattle.stage_graph.specs.Edits.{appended, first_user};
+ghost use Rattle.stage_graph.specs.Edits.{appended, first_dependent};
 ghost use Rattle.stage_graph.specs.Names.{IsTableOf, found};
 ghost use Rattle.stage_graph.specs.Changes.{IsChanged};
 ghost use Rattle.stage_graph.specs.Loading.{loaded};
@@ -10,7 +10,7 @@ ghost use Rattle.stage_graph.specs.Loading.{loaded};
 use crate::fault::Fault;
 use crate::load::parts_of;
 use crate::name::Name;
-use crate::names::NameTable;
+use crate::name_table::NameTable;
 use crate::representation::Representation;
 use crate::stage::{Spec, Stage};
 use act_expr::Mode;
@@ -156,7 +156,7 @@ impl<R: Representation> Graph<R> {
         place: u32,
     ) -> Result<Graph<R>, AllocError>
         requires named { place_named self.now.places name.now ≡ Some place }
-        requires unused { first_user self.now.places place ≡ None }
+        requires unused { first_dependent self.now.places place ≡ None }
         ensures { IfOk result (λ graph. graph ≡ record self.now { places = slice_set self.now.places place None }) }
     {
         let names = self.names.with(alloc, name.as_str(), None)?;

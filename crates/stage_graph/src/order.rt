@@ -10,7 +10,7 @@ ghost use Rattle.stage_graph.specs.Walk.{IsRanked};
 ghost use Rattle.stage_graph.specs.Search.{IsSearch, StaySeen, is_ahead, changes_left, first_mark, mark_at};
 
 use crate::graph::Graph;
-use crate::name::Places;
+use crate::places::Places;
 use crate::representation::Representation;
 use crate::stage::Stage;
 use std::alloc::{AllocError, Global};
@@ -154,6 +154,7 @@ impl Search {
         ensures enters { OnOk result (mark_at self.new.marks.items place ≢ Unseen) }
         ensures fewer { OnOk result (sum_by changes_left self.new.marks.items < sum_by changes_left self.old.marks.items) }
     {
+        // With its length a graph says that it is sound, as every graph is.
         let _ = graph.len();
         let position = self.path.len();
         self.path.push(place)?;
@@ -172,6 +173,7 @@ impl Search {
         ensures seen { OnOk result (StaySeen self.old self.new) }
         ensures fewer { OnOk result (sum_by changes_left self.new.marks.items < sum_by changes_left self.old.marks.items) }
     {
+        // With its length a graph says that it is sound, as every graph is.
         let _ = graph.len();
         self.order.push(place)?;
         let _ = self.path.pop();

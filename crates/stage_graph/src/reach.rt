@@ -5,7 +5,8 @@ ghost use Rattle.stage_graph.specs.Kept.{listed, places_before_after, edited_pla
 
 use crate::edit::{Edit, Edits};
 use crate::graph::Graph;
-use crate::name::{Name, Places};
+use crate::name::Name;
+use crate::places::Places;
 use crate::representation::Representation;
 use std::alloc::{AllocError, Global};
 

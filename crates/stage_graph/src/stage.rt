@@ -1,9 +1,11 @@
 //! Stages with places, and stages with names.
-ghost use Rattle.std.specs.Prelude.{◌≡◌, [], ◌∷◌, ◌++◌, IfOk, OnOk, OnErr};
+ghost use Rattle.std.specs.Prelude.{◌≡◌, [], ◌∷◌, ◌++◌, Some, IfOk, OnOk, OnErr};
+ghost use Rattle.stage_graph.specs.Plain.{uses};
 
 use crate::end::Ends;
-use crate::name::{Name, NameList, Places};
+use crate::name::{Name, NameList};
 use crate::op::Op;
+use crate::places::Places;
 use act_expr::{Expr, Outcome};
 use std::alloc::{AllocError, Global};
 use std::marker::Model;
@@ -67,6 +69,13 @@ pub(crate) fn action_again(action: &Option<Expr>) -> Result<Option<Expr>, AllocE
 }
 
 impl Stage {
+    /// Whether the place is that of a feed: a source, or an inner stage.
+    pub fn has_feed(&self, place: u32) -> bool
+        ensures { result ≡ uses place (Some self.now) }
+    {
+        self.sources.as_slice().contains(&place) || self.inner.as_slice().contains(&place)
+    }
+
     /// A clone of the stage.
     pub fn again(&self) -> Result<Stage, AllocError>
         ensures { IfOk result (λ same. same ≡ self.now) }

@@ -17,11 +17,11 @@ ghost use Rattle.stage_ops.specs.Natural.{progress_of, finished};
 ghost use Rattle.stage_ops.specs.Waiting.{AwaitsWithin};
 
 use crate::actions::{answer_of, handed, instead, nothing, one_value, outcome_of, two_values};
-use crate::names::{index_out_of_bounds, null_pointer};
+use crate::names::index_out_of_bounds;
 use crate::ops::Look;
 use crate::sources::{Source, Waited, earliest, source_at, value_named, wait_for_all};
 use crate::state::Done;
-use act_expr::{Answer, Mode, Outcome, Value};
+use act_expr::{Answer, ExName, Mode, Outcome, Value};
 use stage_graph::{Op, Stage};
 
 /// The inner stage that a function picked, and when the function started and ended.
@@ -126,7 +126,7 @@ fn picked(mode: Mode, stage: &Stage, trigger: u64, number: Value) -> Progress
     ensures { result ≡ picked mode stage.now trigger number }
 {
     match number {
-        Value::Null => runs(mode, stage, trigger, Answer::Throws(null_pointer())),
+        Value::Null => runs(mode, stage, trigger, Answer::Throws(ExName::null_pointer())),
         Value::Num(index) => {
             if index < 0 {
                 runs(mode, stage, trigger, Answer::Throws(index_out_of_bounds()))

@@ -39,6 +39,7 @@ fn hurried_draft<R: StateRepresentation, W: Runner>(
     requires acts { IsSome stage.now.action }
     ensures { IfOk result (λ draft. draft.graph ≡ hurried version.now.graph stage.now) }
 {
+    // With its length a graph says that it is sound, as every graph is.
     let _ = version.graph().len();
     let edits = without_time(alloc, stage)?;
     let mut meter = Meter::new(OneTrial);

@@ -6,7 +6,7 @@ use Rattle.std.proofs.Common.{Option}
 use Rattle.std.proofs.Crossing.{crosses}
 use Rattle.share_tree.specs.declared.again.Held.{Held}
 use Rattle.share_tree.specs.declared.keeps.Keeps
-use Rattle.stage_graph.specs.declared.name.Places.{Places}
+use Rattle.stage_graph.specs.declared.places.Places.{Places}
 use Rattle.stage_graph.specs.declared.stage.Stage.{Stage}
 use Rattle.stage_ops.specs.declared.state.State.{State}
 use Rattle.stage_graph.proofs.Crossing.{edits_send, edits_sync, places_send, places_sync, graph_send, graph_sync}

@@ -12,7 +12,7 @@ use Rattle.stage_ops.specs.States.{IsBy, seen, seen_of}
 use Rattle.stage_ops.specs.Java.{java_step}
 use Rattle.stage_ops.specs.JavaLaws.{java_reads_decide, java_soon, java_prompt}
 use Rattle.scratch_eval.specs.Answers.{NoneQueued}
-use Rattle.scratch_eval.specs.declared.fault.NoStage.{NoStage}
+use Rattle.stage_graph.specs.declared.fault.NoStage.{NoStage}
 use Rattle.scratch_eval.proofs.Evaluating.{moments_follow_ranks, moments_follow_ranks_unqueued}
 use Rattle.version_store.specs.Queries.{state_of, told, of_stage, moment_in}
 

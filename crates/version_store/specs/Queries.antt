@@ -8,7 +8,7 @@ use Rattle.stage_ops.specs.declared.state.State.{State}
 use Rattle.stage_ops.specs.declared.state.Done.{Done}
 use Rattle.stage_ops.specs.Evaluation.{at}
 use Rattle.stage_ops.specs.Java.{java_step}
-use Rattle.scratch_eval.specs.declared.fault.NoStage.{NoStage}
+use Rattle.stage_graph.specs.declared.fault.NoStage.{NoStage}
 use Rattle.rank_order.specs.Lists.{is_among}
 use Rattle.propagate.specs.Patched.{touched_by}
 use Rattle.propagate.specs.Reach.{StaysUntouched}

@@ -4,6 +4,7 @@ ghost use Rattle.stage_graph.specs.Changes.{changed, IsNewCycle, IsSettled};
 ghost use Rattle.stage_graph.specs.Plain.{stage_at, dependents, IsLive};
 ghost use Rattle.stage_graph.specs.Walk.{IsRanked, rank};
 ghost use Rattle.stage_ops.specs.Java.{java_step};
+ghost use Rattle.scratch_eval.specs.Blame.{followed};
 ghost use Rattle.scratch_eval.specs.Path.{reason_in};
 ghost use Rattle.propagate.specs.Patched.{touched_by};
 ghost use Rattle.propagate.specs.Reach.{StaysUntouched};
@@ -15,9 +16,9 @@ use crate::before::Before;
 use level_pool::Runner;
 use propagate::{Old, StateRepresentation, States, propagate};
 use rank_order::Order;
-use scratch_eval::{NoStage, evaluate};
+use scratch_eval::{evaluate, follow_blame};
 use share_tree::Held;
-use stage_graph::{Edits, Fault, Graph, Places, Stage};
+use stage_graph::{Edits, Fault, Graph, NoStage, Places, Stage};
 use stage_ops::{Done, JavaOps, Meter, Reason, State};
 use std::alloc::{AllocError, Global};
 use std::marker::{Model, Sync};
@@ -119,6 +120,7 @@ impl<R: StateRepresentation> Evaluated<R> {
         ensures graph { result.now ≡ self.now }
         ensures ranked { IsRanked self.now.places }
     {
+        // With the field comes what its type says of it: the graph has no cycle.
         let _ = &self.states;
         self.graph.deref()
     }
@@ -143,12 +145,20 @@ impl<R: StateRepresentation> Evaluated<R> {
         }
     }
 
+    /// The chain of blame from a place, by the states of the stages.
+    pub(crate) fn follow(&self, alloc: Global, place: u32) -> Result<Places, AllocError>
+        ensures { IfOk result (λ chain. chain ≡ followed (state_of self.now) (length self.now.places) place) }
+    {
+        follow_blame(alloc, &self.states, self.graph().len(), place)
+    }
+
     /// The cause of a stage's state.
     pub(crate) fn reason_of(&self, stage: &Stage) -> Reason
         requires { stage_at self.now.places stage.now.place ≡ Some stage.now }
         ensures { result ≡ reason_in self.now stage.now }
     {
         let mode = self.graph().mode();
+        // With its length a graph says that it is sound, as every graph is.
         let _ = self.graph().len();
         JavaOps.reason(mode, stage, &self.states)
     }
@@ -166,11 +176,11 @@ impl<R: StateRepresentation> Evaluated<R> {
     /// The places whose stages have the stage at a place as a feed, in order.
     pub(crate) fn dependents(&self, place: u32) -> Result<&[u32], NoStage>
         ensures { MatchResult result
-            (λ users. (users.now ≡ dependents self.now.places place) × IsLive self.now.places place)
+            (λ its_dependents. (its_dependents.now ≡ dependents self.now.places place) × IsLive self.now.places place)
             (λ _. stage_at self.now.places place ≡ None) }
     {
         match self.order.dependents(place) {
-            Ok(users) => Ok(users),
+            Ok(its_dependents) => Ok(its_dependents),
             Err(_) => Err(NoStage),
         }
     }

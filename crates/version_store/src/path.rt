@@ -7,8 +7,7 @@ ghost use Rattle.version_store.specs.Queries.{told};
 
 use crate::evaluated::Evaluated;
 use propagate::StateRepresentation;
-use scratch_eval::NoStage;
-use stage_graph::{Places, Stage};
+use stage_graph::{NoStage, Places, Stage};
 use stage_ops::{Cause, Reason};
 use std::alloc::{AllocError, Global};
 
@@ -57,6 +56,7 @@ impl<R: StateRepresentation> Evaluated<R> {
         ensures adds_up { IfOk result (IsPath self.now place) }
     {
         let graph = self.graph();
+        // With its length a graph says that it is sound, as every graph is.
         let _ = graph.len();
         self.follow_causes(alloc, place)
     }

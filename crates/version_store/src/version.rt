@@ -17,9 +17,9 @@ use crate::origin::Origin;
 use crate::view::StageView;
 use act_expr::Outcome;
 use propagate::StateRepresentation;
-use scratch_eval::{NoStage, QueryFault};
+use scratch_eval::QueryFault;
 use share_tree::{Again, Held};
-use stage_graph::{Graph, Places};
+use stage_graph::{Graph, NoStage, Places};
 use stage_ops::{Join, Reason, State};
 use std::alloc::{AllocError, Global};
 use std::marker::Model;
@@ -174,6 +174,7 @@ impl<R: StateRepresentation> Version<R> {
         ensures bound { IfOk result (λ moment. IfSome moment (λ tick. tick ≤ 2 ^ 42 + rank self.now.graph.places place * 2 ^ 41)) }
         ensures unqueued { NoneQueued self.now.graph.places → IfOk result (λ moment. IfSome moment (λ tick. tick ≤ 2 ^ 41 + rank self.now.graph.places place * 2 ^ 40)) }
     {
+        // With its length a graph says that it is sound, as every graph is.
         let _ = self.graph().len();
         self.completed(place)
     }
@@ -210,7 +211,7 @@ impl<R: StateRepresentation> Version<R> {
     /// The places whose stages have the stage at a place among their feeds, each once, in order.
     pub fn dependents(&self, place: u32) -> Result<&[u32], NoStage>
         ensures { MatchResult result
-            (λ users. (users.now ≡ dependents self.now.graph.places place) × IsLive self.now.graph.places place)
+            (λ its_dependents. (its_dependents.now ≡ dependents self.now.graph.places place) × IsLive self.now.graph.places place)
             (λ _. stage_at self.now.graph.places place ≡ None) }
     {
         Ok(self.stage(place).ok_or(NoStage)?.dependents())

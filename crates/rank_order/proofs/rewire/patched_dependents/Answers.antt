@@ -1,8 +1,8 @@
 use Rattle.std.proofs.Common.{◌≡◌, ◌∙◌, ◌+◌, [], length, take, get_or, sym, ap, arith}
-use Rattle.rank_order.specs.UserLists.{uses_between, with_moved}
+use Rattle.rank_order.specs.DependentLists.{uses_between, with_moved}
 use Rattle.rank_order.proofs.Listed.{among_within}
-use Rattle.rank_order.proofs.UserSteps.{same_lists, lists_from_dependents}
-use Rattle.rank_order.proofs.UserMoves.{grown_lists, between_more, between_feeds, between_all}
+use Rattle.rank_order.proofs.DependentSteps.{same_lists, lists_from_dependents}
+use Rattle.rank_order.proofs.DependentMoves.{grown_lists, between_more, between_feeds, between_all}
 use Rattle.stage_graph.specs.Plain.{feeds_at}
 use Rattle.rank_order.proofs.rewire.patched_dependents.Goals as goal
 
@@ -24,9 +24,9 @@ loop-place-preserved g c =
     let moved = c.args.moved.now in
     let i = c.loop-place.place-index in
     let place = get_or moved i 0 in
-    same_lists (with_moved (uses_between old new (take i moved)) place (feeds_at new place)) (uses_between old new (take (i + 1) moved)) (length new) (g.K.Keeps.items c.move_user.new.lists)
+    same_lists (with_moved (uses_between old new (take i moved)) place (feeds_at new place)) (uses_between old new (take (i + 1) moved)) (length new) (g.K.Keeps.items c.move_dependent.new.lists)
     (between_more old new moved i c.loop-place-test.true)
-    (c.in_ok-move_user.ensures.users (uses_between old new (take i moved)) (λ feed used. between_feeds old new (take i moved) place feed used) c.loop-place.invariant)
+    (c.in_ok-move_dependent.ensures.its_dependents (uses_between old new (take i moved)) (λ feed used. between_feeds old new (take i moved) place feed used) c.loop-place.invariant)
 
 pub returns : goal.returns
 returns g c =

@@ -2,5 +2,5 @@ use Rattle.std.proofs.Common.{◌≡◌, ℕ, true, false, take}
 use Rattle.rank_order.specs.Lists.{is_among}
 use Rattle.rank_order.proofs.settle.first_stop.Given as goal
 
-abbrev pub invariant-loop-user : goal.invariant-loop-user
-invariant-loop-user l = (user : ℕ) → is_among user (take l.user-index l.users) ≡ true → is_among user l.out ≡ false → is_among user l.moved ≡ false
+abbrev pub invariant-loop-dependent : goal.invariant-loop-dependent
+invariant-loop-dependent l = (dependent : ℕ) → is_among dependent (take l.dependent-index l.its_dependents) ≡ true → is_among dependent l.out ≡ false → is_among dependent l.moved ≡ false

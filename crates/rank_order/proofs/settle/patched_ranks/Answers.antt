@@ -3,7 +3,7 @@ use Rattle.std.proofs.lemmas.List.{take_rest}
 use Rattle.rank_order.specs.Ranking.{feeds_left, AreRanks}
 use Rattle.rank_order.proofs.Listed.{ranks_listed}
 use Rattle.rank_order.proofs.Falling.{ranked_from_ranks, ranks_are, ranks_small}
-use Rattle.rank_order.proofs.PutBack.{put_next, all_back, left_user}
+use Rattle.rank_order.proofs.PutBack.{put_next, all_back, left_dependent}
 use Rattle.rank_order.proofs.settle.patched_ranks.Goals as goal
 
 pub loop-turn-preserved : goal.loop-turn-preserved
@@ -17,7 +17,7 @@ loop-turn-preserved g c =
     record {
       right = put_next places moved (turn + 1) ranks right;
       long = c.in-Ok-settled.ensures.long;
-      small = ranks_small (feeds_left places (drop (turn + 1) moved)) (length places) (left_user places (drop (turn + 1) moved)) ranks right;
+      small = ranks_small (feeds_left places (drop (turn + 1) moved)) (length places) (left_dependent places (drop (turn + 1) moved)) ranks right;
     }
 
 pub returns-clause-ranked : goal.returns-clause-ranked

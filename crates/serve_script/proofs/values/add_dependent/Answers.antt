@@ -8,4 +8,4 @@ use Rattle.serve_script.proofs.values.add_dependent.Goals as goal
 pub returns-in-InUse : goal.returns-in-InUse
 returns-in-InUse g c =
     subst (λ refusal. OnOk c.text.result (held c.text.new.self ≡ with (held c.args.object.now) (dependent_members (option_copied c.args.base) c.args.event.now refusal))) (sym c.in-InUse.is)
-    (subst (λ name. OnOk c.text.result (held c.text.new.self ≡ put (codes "dependent") (text name) (held c.args.object.now))) c.user_name.ensures c.text.ensures)
+    (subst (λ name. OnOk c.text.result (held c.text.new.self ≡ put (codes "dependent") (text name) (held c.args.object.now))) c.dependent_name.ensures c.text.ensures)

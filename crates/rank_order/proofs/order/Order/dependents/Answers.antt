@@ -7,4 +7,4 @@ pub returns-in-Some : goal.returns-in-Some
 returns-in-Some g c =
     let stage = rw c.deref.ensures at c.in-Some.ensures.stage in
     let live : IsLive c.self.inside.graph.places c.args.place = ap is_some (sym stage) in
-    rw (← c.self.view_is) (c.users_at.ensures ∙ order_dependents _ c.self.invariant c.args.place live, live)
+    rw (← c.self.view_is) (c.dependents_at.ensures ∙ order_dependents _ c.self.invariant c.args.place live, live)

@@ -2,7 +2,7 @@ use Rattle.std.proofs.Common.{rules, ◌≡◌, ◌∙◌, ℕ, List, Option, co
 use Rattle.std.specs.Str.{bytes_eq}
 use Rattle.stage_graph.specs.Plain.{PlainGraph, IsLive, place_named}
 use Rattle.stage_graph.specs.Names.{found}
-use Rattle.stage_graph.specs.Edits.{first_user}
+use Rattle.stage_graph.specs.Edits.{first_dependent}
 use Rattle.stage_graph.proofs.Vacating.{live_named, found_after_vacate, sound_after_vacate}
 use Rattle.stage_graph.proofs.graph.Graph.vacate.Goals as goal
 
@@ -13,7 +13,7 @@ invariant_of-result g c =
     let name = c.args.name.now in
     let same = ap (λ (graph : PlainGraph). graph.places) c.self.view_is in
     let named : place_named places name ≡ Some c.args.place = rw same c.requires.named in
-    let unused : first_user places c.args.place ≡ None = rw same c.requires.unused in
+    let unused : first_dependent places c.args.place ≡ None = rw same c.requires.unused in
     let live : IsLive places c.args.place = live_named mode places c.self.invariant.0 name c.args.place named in
     let told : (other : List ℕ) → found c.in_ok-names.names other ≡ cond (bytes_eq name other) None (found c.self.inside.names other) = search rules in (
       rw c.in_ok-stages.ensures (sound_after_vacate mode places c.self.invariant.0 c.args.place live unused),

@@ -1,0 +1,153 @@
+//! A table of names.
+ghost use Rattle.std.specs.Prelude.{◌≡◌, ℕ, ◌<◌, ◌^◌, List, Some, None, if◌then◌else◌, IfOk, OnOk, is_some, unwrap_or};
+ghost use Rattle.std.specs.Str.{bytes_eq};
+ghost use Rattle.stage_graph.specs.Checks.{are_known};
+ghost use Rattle.stage_graph.specs.Names.{first_place, found, places_of, stage_of};
+
+use crate::checks::{Checks, checks_of};
+use crate::name::{Name, NameList};
+use crate::name_tree::NameTree;
+use crate::places::Places;
+use crate::stage::{Spec, Stage, action_again};
+use indexmap::IndexMap;
+use share_tree::{Again, Held};
+use std::alloc::{AllocError, Global};
+
+/// The first place of each name of a list.
+#[derive(Drop)]
+pub(crate) struct FirstPlaces {
+    places: IndexMap<String, usize>,
+}
+
+impl FirstPlaces {
+    pub(crate) fn new(alloc: Global) -> FirstPlaces
+        ensures { (name : List ℕ) → first_place result name ≡ None }
+    {
+        FirstPlaces {
+            places: IndexMap::new(alloc),
+        }
+    }
+
+    /// The first place of a name.
+    fn get(&self, name: &str) -> Option<usize>
+        ensures { result ≡ first_place self.now name.now }
+    {
+        self.places.get(name).copied()
+    }
+
+    /// Sets the place of a name that has none.
+    pub(crate) fn add(&mut self, alloc: Global, name: &str, place: usize) -> Result<(), AllocError>
+        ensures { OnOk result ((other : List ℕ) → first_place self.new other
+            ≡ (if is_some (first_place self.old other) then first_place self.old other else (if bytes_eq name.now other then Some place else None))) }
+    {
+        if let None = self.get(name) {
+            self.places.insert(String::from_str(alloc, name)?, place)?;
+        }
+        Ok(())
+    }
+}
+
+/// The place of each name's stage. A new table shares with the one that it is made from what was loaded,
+/// and all but one path of the entries that were added since.
+#[derive(Drop)]
+pub(crate) struct NameTable {
+    loaded: Held<FirstPlaces>,
+    /// The entries of the names that were added or removed since loading.
+    since: NameTree,
+}
+
+impl NameTable {
+    /// The table of a list.
+    pub(crate) fn of(alloc: Global, loaded: FirstPlaces) -> Result<NameTable, AllocError>
+        ensures { IfOk result (λ table. (name : List ℕ) → found table name ≡ first_place loaded name) }
+    {
+        Ok(NameTable {
+            loaded: Held::new(alloc, loaded)?,
+            since: NameTree::new(),
+        })
+    }
+
+    /// The place of a name.
+    pub(crate) fn get(&self, name: &str) -> Option<usize>
+        ensures { result ≡ found self.now name.now }
+    {
+        match self.since.get(name) {
+            Some(place) => place,
+            None => self.loaded.get(name),
+        }
+    }
+
+    /// The table in which one name has this place, or none, and the others have theirs.
+    pub(crate) fn with(
+        &self,
+        alloc: Global,
+        name: &str,
+        place: Option<usize>,
+    ) -> Result<NameTable, AllocError>
+        ensures { IfOk result (λ table. (other : List ℕ) → found table other ≡ (if bytes_eq name.now other then place else found self.now other)) }
+    {
+        Ok(NameTable {
+            loaded: self.loaded.again()?,
+            since: self.since.with(alloc, name, place)?,
+        })
+    }
+
+    /// Whether each of the names has a place.
+    pub(crate) fn knows_all(&self, names: &[Name]) -> bool
+        ensures { result ≡ are_known (found self.now) names.now }
+    {
+        names.iter().all(|name| self.get(name.as_str()).is_some())
+    }
+
+    /// The places of names.
+    pub(crate) fn places_of(&self, alloc: Global, names: &NameList) -> Result<Places, AllocError>
+        requires { (name : List ℕ) → unwrap_or (found self.now name) 0 < 2 ^ 32 }
+        ensures { IfOk result (λ places. places ≡ places_of (found self.now) names.now) }
+    {
+        let places = names
+            .as_slice()
+            .iter()
+            .map(|name| self.get(name.as_str()).unwrap_or(0) as u32)
+            .collect(alloc)?;
+        Ok(Places::from_vec(places))
+    }
+}
+
+impl NameTable {
+    ghost use Rattle.stage_graph.specs.Checks.{checks_of};
+
+    /// The checks of a whole stage that is to stand at a place.
+    pub(crate) fn checks_of(&self, free: bool, place: usize, spec: &Spec) -> Checks
+        ensures { result ≡ checks_of free (found self.now) place spec.now }
+    {
+        let known = self.knows_all(spec.sources.as_slice())
+            && self.knows_all(spec.inner.as_slice());
+        checks_of(free, known, place, spec)
+    }
+
+    /// The stage that stands at a place, with places for names.
+    pub(crate) fn stage_of(
+        &self,
+        alloc: Global,
+        place: u32,
+        spec: &Spec,
+    ) -> Result<Stage, AllocError>
+        requires { (name : List ℕ) → unwrap_or (found self.now name) 0 < 2 ^ 32 }
+        ensures { IfOk result (λ stage. stage ≡ stage_of (found self.now) place spec.now) }
+    {
+        Ok(Stage {
+            place,
+            name: spec.name.again()?,
+            op: spec.op,
+            sources: self.places_of(alloc, &spec.sources)?,
+            inner: self.places_of(alloc, &spec.inner)?,
+            created: spec.created,
+            queued: spec.queued,
+            runs: spec.runs,
+            action: action_again(&spec.action)?,
+            pin_result: spec.pin_result,
+            pin_moment: spec.pin_moment,
+            ends: spec.ends.again()?,
+        })
+    }
+}
