@@ -65,6 +65,7 @@ fn is_exception_name(text: &str) -> bool
 }
 
 /// The text, padded with zeros.
+#[inline(always)]
 fn padded(text: &[u8]) -> [u8; 128]
     requires { length text.now ≤ 128 }
     ensures { result ≡ text.now ++ replicate (128 - length text.now) 0 }
@@ -87,6 +88,7 @@ impl ExName {
     }
 
     /// A text that is known to be an exception name.
+    #[inline(always)]
     pub(crate) fn known(text: &[u8]) -> ExName
         requires { IsTrue (is_exception_name text.now) }
         ensures { result ≡ text.now }
@@ -99,6 +101,7 @@ impl ExName {
 
     /// `java.lang.NullPointerException`: what an operator throws at a null operand, and a compose operation whose
     /// function gave null.
+    #[inline(always)]
     pub fn null_pointer() -> ExName
         ensures { result ≡ null_pointer }
     {
@@ -106,6 +109,7 @@ impl ExName {
     }
 
     /// What a division by 0 throws.
+    #[inline(always)]
     pub(crate) fn arithmetic() -> ExName
         ensures { result ≡ arithmetic }
     {
@@ -113,6 +117,7 @@ impl ExName {
     }
 
     /// The text of the name.
+    #[inline(always)]
     pub fn text(&self) -> &str
         ensures text { result.now ≡ self.now }
         ensures name { IsTrue (is_exception_name self.now) }

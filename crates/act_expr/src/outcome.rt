@@ -46,6 +46,7 @@ impl Outcome {
     /// The outcome with its exception wrapped once, as a dependent gets it. The documentation of
     /// `CompletionStage`: if a stage terminates with an exception, the dependents that require its
     /// completion complete "with a `CompletionException` holding the exception as its cause".
+    #[inline(always)]
     pub fn wrap(self) -> Outcome
         ensures { result ≡ wrap self }
     {
@@ -56,6 +57,7 @@ impl Outcome {
     }
 
     /// What a stage holds whose own computation threw the exception.
+    #[inline(always)]
     pub fn own(mode: Mode, name: ExName) -> Outcome
         ensures { result ≡ own mode name }
     {

@@ -2,6 +2,7 @@ pub mod Crossing
 pub mod SharedCrossing
 pub mod Adding
 pub mod Counting
+pub mod Ending
 pub mod Fronts
 pub mod Locking
 pub mod Logs

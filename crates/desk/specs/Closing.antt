@@ -1,9 +1,11 @@
 -- The result of closing a desk.
-use Rattle.std.specs.Prelude.{◌≡◌, ◌≢◌, ◌⊎◌, ◌==◌, ℕ, List, [], ◌∷◌, All, length}
+use Rattle.std.specs.Prelude.{◌≡◌, ◌≢◌, ◌<◌, ◌⊎◌, ◌==◌, ℕ, List, [], ◌∷◌, All, length}
 use Rattle.std.specs.List.{sum_by, count_by}
 use mathlib.Core.List.{IsPrefix}
 use Rattle.version_store.specs.Plain.{PlainVersion}
 use Rattle.session_core.specs.declared.event.Entry.{Entry}
+use Rattle.session_core.specs.Log.{opening_of}
+use Rattle.session_core.specs.Machine.{State}
 use Rattle.session_core.specs.TableView.{TableView}
 use Rattle.desk.specs.Clients.{ClientView, entries_of}
 use Rattle.desk.specs.Locked.{IsReplayed}
@@ -34,3 +36,16 @@ pub record IsClosed (log : TableView) (clients : List ClientView) : Type 0 where
   pub one : All (IsOfOne clients) log.history
   pub counted : sum_by (λ c. length c.calls) clients ≡ length log.history
   pub seen : All (GoesWith log.state.versions) clients
+
+-- there is a log that is legal from this opening on, with as many entries as the clients have calls, of which some client's
+-- calls are not what the log has of it
+pub record IsOtherLog (opening : State) (clients : List ClientView) : Type 0 where
+  pub log : TableView
+  pub replayed : IsReplayed log.history log.state
+  pub begins : opening_of log.state ≡ opening
+  pub counted : sum_by (λ c. length c.calls) clients ≡ length log.history
+  pub disagrees : All (Agrees log.history) clients → ⊥
+
+-- there are more clients than were started, or two of them have one number, or the log has other calls
+abbrev pub IsTorn : State → ℕ → List ClientView → Type 0
+IsTorn opening started clients = (started < length clients) ⊎ (HaveOwnNumbers clients → ⊥) ⊎ IsOtherLog opening clients

@@ -112,12 +112,12 @@ impl<N: Naming, R: StateRepresentation> Client<N, R> {
         self.calls.reserve(1)
     }
 
-    /// Whether the versions that the client has seen are a prefix of the front, or the front is a prefix of them.
-    pub(crate) fn goes_with(&self, front: &Front<N, R>) -> bool
-        ensures { IsTrue result ↔ GoesWith front.now self.now }
+    /// Of the versions that the client has seen and those of a front, one list is a prefix of the other, by the rule of the
+    /// archive. The call is there for the proof alone.
+    pub(crate) fn goes_with(&self, front: &Front<N, R>)
+        ensures { GoesWith front.now self.now }
     {
-        let longer = self.front.longer(front);
-        longer.len() >= self.front.len()
+        let _longer = self.front.longer(front);
     }
 
     /// Whether the calls are the log's entries of this client.

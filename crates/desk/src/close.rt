@@ -1,13 +1,14 @@
 //! What is compared when a desk is closed.
-ghost use Rattle.std.specs.Prelude.{◌≡◌, ◌↔◌, All, IsTrue, length};
-ghost use Rattle.desk.specs.Locked.{IsReplayed};
-ghost use Rattle.desk.specs.Closing.{Agrees, GoesWith, HaveOwnNumbers};
+ghost use Rattle.std.specs.Prelude.{◌≡◌, ◌≤◌, ◌↔◌, All, IsTrue, MatchBool, length};
+ghost use Rattle.desk.specs.Closing.{Agrees, GoesWith, HaveOwnNumbers, IsClosed, IsTorn};
 
 use crate::client::Client;
 use crate::front::Front;
 use crate::name::Naming;
+use crate::shared::{Shared, tally};
 use session_core::{Entry, Table};
 use std::marker::Model;
+use std::sync::Wait;
 use version_store::StateRepresentation;
 
 /// The entries of a closed desk, in order.
@@ -64,17 +65,38 @@ pub(crate) fn have_own_numbers<N: Naming, R: StateRepresentation>(clients: &[Cli
     others.iter().all(|other| other.number() != number) && have_own_numbers(others)
 }
 
-/// Whether each client's versions agree with this front, as far as both go. Always true, by the invariant of fronts.
+/// Each client's versions agree with this front, as far as both go, by the rule of the archive. The call is there for the
+/// proof alone.
 pub(crate) fn go_with<N: Naming, R: StateRepresentation>(
     clients: &[Client<N, R>],
     front: &Front<N, R>,
-) -> bool
-    ensures { IsTrue result → All (GoesWith front.now) clients.now }
+)
+    ensures { All (GoesWith front.now) clients.now }
 {
     for client in clients {
-        if !client.goes_with(front) {
-            return false;
-        }
+        client.goes_with(front);
     }
-    true
+}
+
+/// Whether clients, of whom none is missing, are those that were started, each with the calls that the log has of it.
+pub(crate) fn may_end<N: Naming, R: StateRepresentation, W: Wait + Drop>(
+    shared: &mut Shared<N, R, W>,
+    clients: &mut [Client<N, R>],
+    started: usize,
+) -> bool
+    requires started { started ≡ N.parts }
+    requires complete { started ≤ length clients.old }
+    ensures ends { MatchBool result (IsClosed shared.old clients.old) (IsTorn N.opening N.parts clients.old) }
+    ensures table { shared.new ≡ shared.old }
+    ensures clients { clients.new ≡ clients.old }
+{
+    if clients.len() > started {
+        return false;
+    }
+    if !have_own_numbers(clients) {
+        return false;
+    }
+    tally(&mut shared.entries, clients, &mut shared.rest);
+    go_with(clients, &shared.front);
+    agree(clients, shared.table.history())
 }

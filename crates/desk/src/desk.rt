@@ -7,15 +7,15 @@ ghost use Rattle.session_core.specs.declared.event.Event.TheVariants.{Open, Head
 ghost use Rattle.session_core.specs.declared.event.Reply.TheVariants.{Opened, At, Undone, Closed};
 ghost use Rattle.desk.specs.Clients.{KeepsCall, SeesOn, HasSeenIn, IsSeen};
 ghost use Rattle.desk.specs.Edits.{Edits as EditAnswers, IsOfKnown};
-ghost use Rattle.desk.specs.Closing.{IsClosed};
+ghost use Rattle.desk.specs.Closing.{IsClosed, IsTorn};
 
 use crate::client::Client;
-use crate::close::{Log, agree, go_with, have_own_numbers};
+use crate::close::{Log, may_end};
 use crate::fault::{CloseFault, EditFault};
 use crate::front::Archive;
 use crate::known::Known;
 use crate::name::Naming;
-use crate::shared::{Shared, tally};
+use crate::shared::Shared;
 use level_pool::Runner;
 use session_core::{TableFault, draft_of};
 use share_tree::{Again, Held};
@@ -34,7 +34,7 @@ pub struct Desk<N: Naming, R: StateRepresentation, W: Wait + Drop> {
 }
 
 impl<N: Naming, R: StateRepresentation, W: Wait + Drop> Desk<N, R, W> {
-    ghost use Rattle.desk.specs.declared.fault.CloseFault.TheVariants.{Missing};
+    ghost use Rattle.desk.specs.declared.fault.CloseFault.TheVariants.{Missing, Torn};
 
     pub(crate) fn new(
         archive: Archive<N, R>,
@@ -193,6 +193,7 @@ impl<N: Naming, R: StateRepresentation, W: Wait + Drop> Desk<N, R, W> {
         ensures closed { IfOk result (λ log. IsClosed log clients.items) }
         ensures opening { IfOk result (λ log. opening_of log.state ≡ N.opening) }
         ensures missing { IfErr result (λ back. back.0 ≡ Missing → vec_len clients < N.parts) }
+        ensures torn { IfErr result (λ back. back.0 ≡ Torn → IsTorn N.opening N.parts clients.items) }
         ensures back { IfErr result (λ back. back.2.items ≡ clients.items) }
     {
         let Desk {
@@ -209,22 +210,13 @@ impl<N: Naming, R: StateRepresentation, W: Wait + Drop> Desk<N, R, W> {
                 clients,
             ));
         }
-        if clients.len() > started
-            || !have_own_numbers(clients.as_slice())
-            || !agree(clients.as_slice(), shared.table.history())
-            || !go_with(clients.as_slice(), &shared.front)
-        {
+        if !may_end(&mut shared, clients.as_mut_slice(), started) {
             return Err((
                 CloseFault::Torn,
                 Desk::new(archive, shared, started),
                 clients,
             ));
         }
-        tally(
-            &mut shared.entries,
-            clients.as_mut_slice(),
-            &mut shared.rest,
-        );
         let Shared {
             table,
             front: _,

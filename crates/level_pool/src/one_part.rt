@@ -6,6 +6,7 @@ use crate::gate::Gate;
 use std::alloc::{AllocError, Global};
 
 /// The results of `f` at the pieces, one after another.
+#[inline(always)]
 pub(crate) fn one_part<T: Drop, G: Gate, F: Fn(u32) -> T>(
     alloc: Global,
     gate: &G,

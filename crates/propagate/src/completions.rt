@@ -7,6 +7,7 @@ use act_expr::{Outcome, Value};
 use stage_ops::{Done, State};
 
 /// Whether both are the same value, or the same exception in the same form.
+#[inline(always)]
 fn is_same_outcome(one: &Outcome, other: &Outcome) -> bool
     ensures { result ≡ same_outcome one.now other.now }
 {
@@ -14,6 +15,7 @@ fn is_same_outcome(one: &Outcome, other: &Outcome) -> bool
 }
 
 /// Whether both have the same outcome, moment and blamed source.
+#[inline(always)]
 fn is_same_completion(one: &Done, other: &Done) -> bool
     ensures { result ≡ same_completion (seen one.now) (seen other.now) }
 {
@@ -23,6 +25,7 @@ fn is_same_completion(one: &Done, other: &Done) -> bool
 }
 
 /// Whether a completion is one with this value at this moment, for which no source is blamed.
+#[inline(always)]
 pub(crate) fn is_returned(value: Value, moment: u64, done: &Done) -> bool
     ensures { result ≡ same_completion (returned value moment) (seen done.now) }
 {
@@ -32,6 +35,7 @@ pub(crate) fn is_returned(value: Value, moment: u64, done: &Done) -> bool
 }
 
 /// Whether exactly one state is pending, or they differ in outcome, moment or blamed source.
+#[inline(always)]
 pub(crate) fn differ(before: &State, after: &State) -> bool
     ensures { result ≡ differ (seen_of before.now) (seen_of after.now) }
 {

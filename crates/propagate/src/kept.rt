@@ -42,6 +42,7 @@ impl Model for KeptState {
 
 impl KeptState {
     /// Stores a state.
+    #[inline(always)]
     pub fn new(alloc: Global, state: State) -> Result<KeptState, AllocError>
         ensures { IfOk result (λ kept. kept ≡ state) }
     {
@@ -73,6 +74,7 @@ impl KeptState {
     }
 
     /// The stored state.
+    #[inline(always)]
     pub fn state(&self) -> State
         ensures { result ≡ self.now }
     {
@@ -100,6 +102,7 @@ impl KeptState {
     }
 
     /// What the stored state has read.
+    #[inline(always)]
     pub(crate) fn reads(&self) -> Reads
         ensures { result ≡ self.now.reads }
     {
@@ -111,6 +114,7 @@ impl KeptState {
     }
 
     /// The stored completion, if it is one by an exception.
+    #[inline(always)]
     pub(crate) fn failure(&self) -> Option<Done>
         ensures { result ≡ failure_of self.now.done }
     {
@@ -125,6 +129,7 @@ impl KeptState {
     }
 
     /// Whether dependents can distinguish the stored state from another one.
+    #[inline(always)]
     pub(crate) fn differs(&self, after: &State) -> bool
         ensures { result ≡ differ (seen_of self.now) (seen_of after.now) }
     {

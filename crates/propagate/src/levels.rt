@@ -15,6 +15,7 @@ use std::alloc::{AllocError, Global};
 use std::marker::{Send, Sync};
 
 /// One pass for each place, in the places' order.
+#[inline(always)]
 fn passes_for<N>(
     alloc: Global,
     meter: &mut Meter<N>,
@@ -33,6 +34,7 @@ fn passes_for<N>(
 }
 
 /// The pass of this place, among those of a level.
+#[inline(always)]
 fn pass_at<'a, N>(level: &[u32], passes: &'a [Pass<N>], place: u32) -> &'a Pass<N>
     requires climbs { Climbs level.now }
     requires here { Contains level.now place }
@@ -46,6 +48,7 @@ fn pass_at<'a, N>(level: &[u32], passes: &'a [Pass<N>], place: u32) -> &'a Pass<
 }
 
 /// The state of the stage at a place of a level, computed by its pass.
+#[inline(always)]
 fn compute_at<R: StateRepresentation, N, O: StageOps<N>>(
     graph: &Graph<R>,
     level: &[u32],

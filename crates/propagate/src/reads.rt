@@ -10,6 +10,7 @@ use stage_ops::Reads;
 
 /// Whether the place is the one of this index.
 #[tactic(auto, using(crate::proofs::Members::picked_within, crate::proofs::Members::picked_past))]
+#[inline(always)]
 fn is_picked(place: u32, places: &[u32], index: u32) -> bool
     ensures { result ≡ is_among place (option_to_list (slice_get places.now index)) }
 {
@@ -18,6 +19,7 @@ fn is_picked(place: u32, places: &[u32], index: u32) -> bool
 
 /// Whether a stage whose state has these reads has read the place.
 #[tactic(auto, using(crate::proofs::Members::among_append))]
+#[inline(always)]
 pub(crate) fn has_read(stage: &Stage, reads: Reads, place: u32) -> bool
     ensures { result ≡ is_among place (read_places stage.now reads) }
 {

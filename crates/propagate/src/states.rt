@@ -36,6 +36,7 @@ impl<R: StateRepresentation> Look for States<R> {
     ghost states = { λ states. states };
 
     /// Allocates nothing.
+    #[inline(always)]
     fn state(&self, place: u32) -> State {
         match self.list.get(place as usize) {
             Some(kept) => kept.state(),
@@ -47,6 +48,7 @@ impl<R: StateRepresentation> Look for States<R> {
 impl<R: StateRepresentation> Failures for States<R> {
     ghost state = { λ states. state_at states };
 
+    #[inline(always)]
     fn failure(&self, place: u32) -> Option<Done> {
         match self.list.get(place as usize) {
             Some(kept) => kept.failure(),
@@ -100,6 +102,7 @@ impl<R: StateRepresentation> States<R> {
     }
 
     /// The state at a place; none past the end. Allocates nothing.
+    #[inline(always)]
     pub fn get(&self, place: u32) -> Option<State>
         ensures { result ≡ slice_get self.now place }
     {
@@ -110,6 +113,7 @@ impl<R: StateRepresentation> States<R> {
     }
 
     /// What the stage at a place has read. Allocates nothing.
+    #[inline(always)]
     pub(crate) fn reads(&self, place: u32) -> Reads
         requires { place < length self.now }
         ensures { result ≡ (state_at self.now place).reads }
@@ -121,6 +125,7 @@ impl<R: StateRepresentation> States<R> {
     }
 
     /// Whether dependents can distinguish the state at a place from another one. Allocates nothing.
+    #[inline(always)]
     pub(crate) fn differs(&self, place: u32, after: &State) -> bool
         requires { place < length self.now }
         ensures { result ≡ differ (seen_at (state_at self.now) place) (seen_of after.now) }

@@ -36,6 +36,7 @@ impl<R: OrderRepresentation> Model for Order<R> {
 
 impl<R: OrderRepresentation> Order<R> {
     /// The rank of the stage at a place: 0 without feeds, else 1 above the greatest rank of a feed. Allocates nothing.
+    #[inline(always)]
     pub fn rank(&self, place: u32) -> Result<u32, NoStage>
         ensures rank { result ≡ at_live (stage_at self.now.graph.places place) (rank self.now.graph.places place) }
         ensures order { IsOrder self.now }
@@ -47,6 +48,7 @@ impl<R: OrderRepresentation> Order<R> {
     }
 
     /// The dependents of the stage at a place: the places with it as a feed, in order. Allocates nothing.
+    #[inline(always)]
     pub fn dependents(&self, place: u32) -> Result<&[u32], NoStage>
         ensures { MatchResult result (λ its_dependents. (its_dependents.now ≡ dependents self.now.graph.places place) × IsLive self.now.graph.places place) (λ fault. stage_at self.now.graph.places place ≡ None) }
     {

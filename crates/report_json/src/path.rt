@@ -6,7 +6,7 @@ ghost use Rattle.report_json.specs.Stages.{cause_members, kind_of_feed, step_mem
 
 use crate::object::{Object, kind_alone, of_kind};
 use propagate::StateRepresentation;
-use report_text::{end_text, name_of};
+use report_text::end_text;
 use serde_json::Value;
 use stage_graph::{Graph, Representation, Stage};
 use stage_ops::Cause;
@@ -79,6 +79,6 @@ fn kind_of_feed<R: Representation>(
     ensures { IfOk result (λ value. view value ≡ object (kind_of_feed kind.now graph.now place)) }
 {
     let mut object = of_kind(alloc, kind)?;
-    object.text("stage", name_of(graph, place))?;
+    object.text("stage", graph.name_of(place))?;
     Ok(object.into_value())
 }

@@ -12,7 +12,7 @@ use crate::one::titled;
 use crate::values::outcome_json;
 use level_pool::Runner;
 use propagate::StateRepresentation;
-use report_text::{first_of, name_of, swept, tick_of};
+use report_text::{first_of, swept, tick_of};
 use serde_json::Value;
 use std::alloc::{AllocError, Global};
 use time_sweep::Trial;
@@ -28,7 +28,7 @@ fn trial_value<R: StateRepresentation>(
     ensures { IfOk result (λ value. view value ≡ object (trial_members version.now.graph tick trial.now)) }
 {
     let mut object = Object::new(alloc);
-    object.text("stage", name_of(version.graph(), trial.place))?;
+    object.text("stage", version.graph().name_of(trial.place))?;
     object.count("sooner", tick.saturating_sub(trial.moment))?;
     object.value("outcome", outcome_json(alloc, &trial.outcome)?)?;
     object.count("moment", trial.moment)?;

@@ -4,7 +4,7 @@ use Rattle.std.specs.Option.{option_map, option_and_then}
 use Rattle.std.specs.Str.{bytes_eq}
 use Rattle.std.specs.Fmt.{decimal}
 use Rattle.stage_graph.specs.declared.stage.Stage.{Stage}
-use Rattle.stage_graph.specs.Plain.{PlainGraph, stage_at, place_named, all_places}
+use Rattle.stage_graph.specs.Plain.{PlainGraph, stage_at, name_of, place_named, all_places}
 use Rattle.stage_ops.specs.declared.state.Done.{Done}
 use Rattle.stage_ops.specs.Texts.{completion_text, state_text}
 use Rattle.propagate.specs.Completions.{same_outcome}
@@ -13,7 +13,7 @@ use Rattle.version_store.specs.Queries.{state_of, moment_in}
 use Rattle.report_text.specs.declared.comparison.Comparison.{Comparison}
 use Rattle.report_text.specs.declared.comparison.Comparison.TheVariants.{Changes, Drift}
 use Rattle.report_text.specs.declared.shift.Shift.{Shift}
-use Rattle.report_text.specs.Texts.{each_stage, line_end, name_of, shift_between, shift_line}
+use Rattle.report_text.specs.Texts.{each_stage, line_end, shift_between, shift_line}
 
 -- the completion of the stage at a place, none while it is pending; none at all where no stage stands
 abbrev pub done_at : PlainGraph → ℕ → Option (Option Done)

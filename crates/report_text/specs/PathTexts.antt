@@ -6,13 +6,13 @@ use Rattle.stage_graph.specs.declared.end.Act.{Act}
 use Rattle.stage_graph.specs.declared.end.Act.TheVariants.{Complete, CompleteExceptionally, Cancel, OrTimeout, CompleteOnTimeout}
 use Rattle.stage_graph.specs.declared.end.End.{End}
 use Rattle.stage_graph.specs.declared.stage.Stage.{Stage}
-use Rattle.stage_graph.specs.Plain.{PlainGraph, stage_at}
+use Rattle.stage_graph.specs.Plain.{PlainGraph, stage_at, name_of}
 use Rattle.stage_ops.specs.declared.reason.Cause.{Cause}
 use Rattle.stage_ops.specs.declared.reason.Cause.TheVariants.{Created, After, Inner, Pinned, Ended, Waiting, Open}
 use Rattle.stage_ops.specs.declared.reason.Reason.{Reason}
 use Rattle.scratch_eval.specs.Path.{path, reason_at}
 use Rattle.version_store.specs.Queries.{state_of, moment_in}
-use Rattle.report_text.specs.Texts.{line_end, line_of, name_of}
+use Rattle.report_text.specs.Texts.{line_end, line_of}
 
 -- the kind of an end, by its name in recordings
 abbrev pub act_text : Act → List ℕ

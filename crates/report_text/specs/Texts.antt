@@ -6,7 +6,7 @@ use Rattle.act_expr.specs.declared.outcome.Mode.{Mode}
 use Rattle.act_expr.specs.declared.outcome.Mode.TheVariants.{Computed, Literal}
 use Rattle.act_expr.specs.OutcomeText.{outcome_text}
 use Rattle.stage_graph.specs.declared.stage.Stage.{Stage}
-use Rattle.stage_graph.specs.Plain.{PlainGraph, stage_at, all_places, dependents}
+use Rattle.stage_graph.specs.Plain.{PlainGraph, stage_at, name_of, all_places, dependents}
 use Rattle.stage_graph.specs.Texts.{op_text}
 use Rattle.stage_graph.specs.Walk.{rank}
 use Rattle.stage_ops.specs.Java.{java_step}
@@ -51,10 +51,6 @@ abbrev pub live_count : List (Option Stage) → ℕ
 live_count places = count_by (λ place. is_some (stage_at places place)) (all_places places)
 
 -- ---- lists of stages
-
-abbrev pub name_of : Option Stage → List ℕ
-name_of None = []
-name_of (Some stage) = stage.name
 
 -- a space, and the name of the stage at a place
 abbrev pub spaced_name : List (Option Stage) → ℕ → List ℕ

@@ -4,7 +4,6 @@ ghost use Rattle.propagate.specs.Completions.{same_outcome};
 ghost use Rattle.report_text.specs.AgainstTexts.{change_against, changes_against_header, done_of, drift_against, drift_against_header, is_changed, is_unlike, same_blamed, same_done, shift_against, shift_from, there_text, unlike_line};
 
 use crate::shift::Shift;
-use crate::words::name_of;
 use act_expr::Outcome;
 use propagate::StateRepresentation;
 use stage_graph::{Graph, Representation};
@@ -39,7 +38,7 @@ fn same_blamed<R: Representation>(
 {
     match (from, there) {
         (None, None) => true,
-        (Some(from), Some(there)) => name_of(graph, from) == name_of(other, there),
+        (Some(from), Some(there)) => graph.name_of(from) == other.name_of(there),
         _ => false,
     }
 }

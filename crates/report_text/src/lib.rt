@@ -26,4 +26,4 @@ pub use shift::Shift;
 pub use sweep::{first_of, report_sweep, swept, tick_of};
 pub use text_io::{CountedWriter, Sink, WriteFault};
 pub use what::What;
-pub use words::{mode_text, name_of};
+pub use words::mode_text;

@@ -8,7 +8,6 @@ ghost use Rattle.report_text.specs.Reports.{failed_writes, text};
 ghost use Rattle.report_text.specs.declared.what.What.TheVariants.{Path};
 
 use crate::fault::ReportFault;
-use crate::words::name_of;
 use propagate::StateRepresentation;
 use stage_graph::{Act, Graph, Representation, Stage};
 use stage_ops::{Cause, Reason};
@@ -171,11 +170,11 @@ fn push_because<R: Representation>(
             write!(line, " queued {queued} ran {ran} created {created}")
         }
         Cause::After(place) => {
-            let source = name_of(graph, place);
+            let source = graph.name_of(place);
             write!(line, " queued {queued} ran {ran} after {source}")
         }
         Cause::Inner(place) => {
-            let inner = name_of(graph, place);
+            let inner = graph.name_of(place);
             write!(line, " took over {inner}")
         }
         Cause::Pinned => line.push_str(" pinned"),
@@ -184,7 +183,7 @@ fn push_because<R: Representation>(
             write!(line, " ended by {end}")
         }
         Cause::Waiting(place) => {
-            let feed = name_of(graph, place);
+            let feed = graph.name_of(place);
             write!(line, " waits for {feed}")
         }
         Cause::Open => line.push_str(" open"),

@@ -10,7 +10,6 @@ ghost use Rattle.report_text.specs.SweepTexts.{first_of, sweep_header, sweep_rep
 
 use crate::fault::ReportFault;
 use crate::path::push_at;
-use crate::words::name_of;
 use level_pool::Runner;
 use propagate::StateRepresentation;
 use std::alloc::{AllocError, Global};
@@ -157,7 +156,7 @@ fn push_trial<R: StateRepresentation>(
 ) -> Result<(), AllocError>
     ensures { OnOk result (string_bytes line.new ≡ string_bytes line.old ++ trial_line version.now.graph tick trial.now) }
 {
-    let name = name_of(version.graph(), trial.place);
+    let name = version.graph().name_of(trial.place);
     let sooner = tick.saturating_sub(trial.moment);
     let outcome = trial.outcome;
     let moment = trial.moment;

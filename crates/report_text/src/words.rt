@@ -1,7 +1,7 @@
 //! The parts of a line, each appended to a text.
 ghost use Rattle.std.specs.Prelude.{◌≡◌, ◌++◌, OnOk, string_bytes};
 ghost use Rattle.stage_graph.specs.Plain.{stage_at};
-ghost use Rattle.report_text.specs.Texts.{mode_text, name_of, names_line, names_text, number_or_dash};
+ghost use Rattle.report_text.specs.Texts.{mode_text, names_line, names_text, number_or_dash};
 
 use act_expr::Mode;
 use stage_graph::{Graph, Representation};
@@ -53,17 +53,7 @@ fn push_names<R: Representation>(
     }
     for place in places {
         line.push_str(" ")?;
-        line.push_str(name_of(graph, *place))?;
+        line.push_str(graph.name_of(*place))?;
     }
     Ok(())
-}
-
-/// The name of the stage at a place.
-pub fn name_of<R: Representation>(graph: &Graph<R>, place: u32) -> &str
-    ensures { result.now ≡ name_of (stage_at graph.now.places place) }
-{
-    match graph.stage(place) {
-        Some(stage) => stage.name.as_str(),
-        None => "",
-    }
 }

@@ -2,14 +2,14 @@
 use Rattle.std.specs.Prelude.{ℕ, ◌-◌, nat_lt, Bool, true, false, if◌then◌else◌, List, [], ◌++◌, length, codes, Option, Some, None, slice_get, slice_index_or}
 use Rattle.std.specs.List.{filter_map}
 use Rattle.std.specs.Fmt.{decimal}
-use Rattle.stage_graph.specs.Plain.{stage_at}
+use Rattle.stage_graph.specs.Plain.{stage_at, name_of}
 use Rattle.stage_graph.specs.declared.edit.Edit.{Edit}
 use Rattle.stage_graph.specs.declared.edit.Edit.TheVariants.{Add}
 use Rattle.stage_graph.specs.declared.fault.Refusal.{Refusal as EditRefusal}
 use Rattle.stage_graph.specs.declared.fault.Refusal.TheVariants.{InUse}
 use Rattle.stage_graph.specs.declared.stage.Stage.{Stage}
 use Rattle.version_store.specs.Plain.{PlainVersion}
-use Rattle.report_text.specs.Texts.{line_end, name_of}
+use Rattle.report_text.specs.Texts.{line_end}
 use Rattle.session_core.specs.Headline.{session_of}
 use Rattle.session_core.specs.Machine.{State}
 use Rattle.session_core.specs.declared.event.Event.{Event}

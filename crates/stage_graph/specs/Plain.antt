@@ -19,6 +19,11 @@ stage_at places place = slice_index_or places place None
 abbrev pub IsLive : List (Option Stage) → ℕ → Type 0
 IsLive places place = IsSome (stage_at places place)
 
+-- the name of the stage at a place; nothing at an empty one
+abbrev pub name_of : Option Stage → List ℕ
+name_of None = []
+name_of (Some stage) = stage.name
+
 -- the stage at a place has the name
 abbrev pub has_name : List ℕ → Option Stage → Bool
 has_name name None = false

@@ -147,6 +147,15 @@ impl fmt::Display for Refusal {
     }
 }
 
+impl NoStage {
+    /// The number by which the refusal is printed.
+    pub fn number(self) -> u32
+        ensures { result ≡ 10 }
+    {
+        Refusal::NoStage.number()
+    }
+}
+
 impl ListSize {
     /// The number by which the refusal is printed.
     pub fn number(self) -> u32

@@ -1,6 +1,6 @@
 //! Graphs of stages, and the three ways to make one from another.
 ghost use Rattle.std.specs.Prelude.{◌≡◌, ◌≤◌, ◌<◌, ◌^◌, true, ℕ, List, unwrap_or, length, Some, None, All, slice_set, option_copied, IfOk, IfSome};
-ghost use Rattle.stage_graph.specs.Plain.{PlainGraph, stage_at, stage_named, place_named, has_name, feeds_of, IsLive};
+ghost use Rattle.stage_graph.specs.Plain.{PlainGraph, stage_at, stage_named, place_named, has_name, name_of, feeds_of, IsLive};
 ghost use Rattle.stage_graph.specs.Sound.{IsSound, IsSoundStage, IsLawful};
 ghost use Rattle.stage_graph.specs.Edits.{appended, first_dependent};
 ghost use Rattle.stage_graph.specs.Names.{IsTableOf, found};
@@ -48,6 +48,7 @@ impl<R: Representation> Model for Graph<R> {
 
 impl<R: Representation> Graph<R> {
     /// How exceptions are wrapped.
+    #[inline(always)]
     pub fn mode(&self) -> Mode
         ensures { result ≡ self.now.mode }
     {
@@ -55,6 +56,7 @@ impl<R: Representation> Graph<R> {
     }
 
     /// How many places there are, the empty ones among them. Every graph is sound.
+    #[inline(always)]
     pub fn len(&self) -> usize
         ensures len { result ≡ length self.now.places }
         ensures sound { IsSound self.now }
@@ -63,6 +65,7 @@ impl<R: Representation> Graph<R> {
     }
 
     /// The live stage at a place; none at an empty place and past the end. Allocates nothing.
+    #[inline(always)]
     pub fn stage(&self, place: u32) -> Option<&Stage>
         ensures stage { option_copied result ≡ stage_at self.now.places place }
         ensures sound { IfSome result (λ stage. IsSoundStage self.now.places place stage.now) }
@@ -71,6 +74,16 @@ impl<R: Representation> Graph<R> {
             Some(Some(held)) => Some(held.deref()),
             Some(None) => None,
             None => None,
+        }
+    }
+
+    /// The name of the stage at a place; nothing at an empty place and past the end. Allocates nothing.
+    pub fn name_of(&self, place: u32) -> &str
+        ensures { result.now ≡ name_of (stage_at self.now.places place) }
+    {
+        match self.stage(place) {
+            Some(stage) => stage.name.as_str(),
+            None => "",
         }
     }
 

@@ -11,6 +11,7 @@ use act_expr::Outcome;
 use stage_graph::{Act, End, Stage};
 
 /// A completion that a pin or an end sets.
+#[inline(always)]
 fn set_to(outcome: Outcome, moment: u64) -> Done
     ensures { result ≡ set_to outcome moment }
 {
@@ -23,6 +24,7 @@ fn set_to(outcome: Outcome, moment: u64) -> Done
 }
 
 /// The completion after the pins of a stage.
+#[inline(always)]
 pub(crate) fn pinned(stage: &Stage, done: Option<Done>) -> Option<Done>
     ensures { result ≡ pinned stage.now done }
 {
@@ -33,6 +35,7 @@ pub(crate) fn pinned(stage: &Stage, done: Option<Done>) -> Option<Done>
 }
 
 /// The same, by which of both pins are set.
+#[inline(always)]
 fn with_pins(stage: &Stage, done: Option<Done>) -> Option<Done>
     ensures { result ≡ pinned stage.now done }
 {
@@ -50,6 +53,7 @@ fn with_pins(stage: &Stage, done: Option<Done>) -> Option<Done>
 }
 
 /// The completion that an end sets.
+#[inline(always)]
 pub(crate) fn set_by(end: &End) -> Done
     requires { acts_at end.now ≤ 2 ^ 41 }
     ensures { result ≡ set_by end.now }
@@ -64,6 +68,7 @@ pub(crate) fn set_by(end: &End) -> Done
 }
 
 /// The earliest so far, after one more completion.
+#[inline(always)]
 fn sooner(first: Option<Done>, other: Done) -> Done
     ensures { result ≡ sooner_of done_moment first other }
 {
@@ -74,6 +79,7 @@ fn sooner(first: Option<Done>, other: Done) -> Done
 }
 
 /// The earliest of the completion and the ends.
+#[inline(always)]
 pub(crate) fn ended(stage: &Stage, done: Option<Done>) -> Option<Done>
     requires { All IsEarlyEnd stage.now.ends }
     ensures { result ≡ ended stage.now done }
@@ -85,6 +91,7 @@ pub(crate) fn ended(stage: &Stage, done: Option<Done>) -> Option<Done>
 }
 
 /// The same, by one end after the other.
+#[inline(always)]
 fn with_ends(stage: &Stage, done: Option<Done>) -> Option<Done>
     requires { All IsEarlyEnd stage.now.ends }
     ensures { result ≡ ended stage.now done }

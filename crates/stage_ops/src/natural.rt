@@ -44,6 +44,7 @@ pub(crate) enum Progress {
 }
 
 /// No action runs: the stage completes at the trigger.
+#[inline(always)]
 fn at_trigger(trigger: u64, outcome: Outcome, from: Option<u32>) -> Progress
     ensures { result ≡ at_trigger trigger outcome from }
 {
@@ -56,6 +57,7 @@ fn at_trigger(trigger: u64, outcome: Outcome, from: Option<u32>) -> Progress
 }
 
 /// The action runs, and the stage completes when it ends.
+#[inline(always)]
 fn after_action(stage: &Stage, trigger: u64, outcome: Outcome, from: Option<u32>) -> Progress
     requires { end_of stage.now trigger < 2 ^ 64 }
     ensures { result ≡ after_action stage.now trigger outcome from }
@@ -70,6 +72,7 @@ fn after_action(stage: &Stage, trigger: u64, outcome: Outcome, from: Option<u32>
 }
 
 /// The action runs with this answer, which the stage takes over.
+#[inline(always)]
 fn runs(mode: Mode, stage: &Stage, trigger: u64, answer: Answer) -> Progress
     requires { end_of stage.now trigger < 2 ^ 64 }
     ensures { result ≡ runs mode stage.now trigger answer }
@@ -78,6 +81,7 @@ fn runs(mode: Mode, stage: &Stage, trigger: u64, answer: Answer) -> Progress
 }
 
 /// A value passes at the trigger.
+#[inline(always)]
 fn passes(trigger: u64, value: Value) -> Progress
     ensures { result ≡ passes trigger value }
 {
@@ -85,6 +89,7 @@ fn passes(trigger: u64, value: Value) -> Progress
 }
 
 /// An exceptional source is handed on at the trigger, wrapped once.
+#[inline(always)]
 fn hands_on(trigger: u64, source: &Source) -> Progress
     ensures { result ≡ hands_on trigger source.now }
 {
@@ -92,6 +97,7 @@ fn hands_on(trigger: u64, source: &Source) -> Progress
 }
 
 /// The form in which `whenComplete` hands on an exceptional source.
+#[inline(always)]
 fn watched(mode: Mode, outcome: Outcome) -> Outcome
     ensures { result ≡ watched mode outcome }
 {
@@ -102,6 +108,7 @@ fn watched(mode: Mode, outcome: Outcome) -> Outcome
 }
 
 /// The function runs, and the inner stage at this index is waited for, if there is one.
+#[inline(always)]
 fn awaits(mode: Mode, stage: &Stage, trigger: u64, index: usize) -> Progress
     requires end { end_of stage.now trigger < 2 ^ 64 }
     requires few { length stage.now.inner ≤ 1024 }
@@ -120,6 +127,7 @@ fn awaits(mode: Mode, stage: &Stage, trigger: u64, index: usize) -> Progress
 }
 
 /// The number that the function of a compose operation gave, as the index of an inner stage.
+#[inline(always)]
 fn picked(mode: Mode, stage: &Stage, trigger: u64, number: Value) -> Progress
     requires end { end_of stage.now trigger < 2 ^ 64 }
     requires few { length stage.now.inner ≤ 1024 }
@@ -138,6 +146,7 @@ fn picked(mode: Mode, stage: &Stage, trigger: u64, number: Value) -> Progress
 }
 
 /// The function of a compose operation runs, and picks an inner stage.
+#[inline(always)]
 fn picks(mode: Mode, stage: &Stage, trigger: u64, answer: Answer) -> Progress
     requires end { end_of stage.now trigger < 2 ^ 64 }
     requires few { length stage.now.inner ≤ 1024 }
@@ -150,6 +159,7 @@ fn picks(mode: Mode, stage: &Stage, trigger: u64, answer: Answer) -> Progress
 }
 
 /// How an operation continues from a normal source.
+#[inline(always)]
 fn after_value(mode: Mode, stage: &Stage, trigger: u64, value: Value) -> Progress
     requires end { end_of stage.now trigger < 2 ^ 64 }
     requires few { length stage.now.inner ≤ 1024 }
@@ -184,6 +194,7 @@ fn after_value(mode: Mode, stage: &Stage, trigger: u64, value: Value) -> Progres
 }
 
 /// How an operation continues from an exceptional source.
+#[inline(always)]
 fn after_failure(mode: Mode, stage: &Stage, trigger: u64, source: &Source) -> Progress
     requires end { end_of stage.now trigger < 2 ^ 64 }
     requires few { length stage.now.inner ≤ 1024 }
@@ -207,6 +218,7 @@ fn after_failure(mode: Mode, stage: &Stage, trigger: u64, source: &Source) -> Pr
 }
 
 /// How an operation continues from the source that decides it.
+#[inline(always)]
 fn after_outcome(mode: Mode, stage: &Stage, trigger: u64, source: &Source) -> Progress
     requires end { end_of stage.now trigger < 2 ^ 64 }
     requires few { length stage.now.inner ≤ 1024 }
@@ -219,6 +231,7 @@ fn after_outcome(mode: Mode, stage: &Stage, trigger: u64, source: &Source) -> Pr
 }
 
 /// The earliest source decides, and the stage waits until there is one.
+#[inline(always)]
 fn after_earliest<L: Look>(mode: Mode, stage: &Stage, look: &L) -> Progress
     requires limits { IsLimited (length (L.states look.now)) stage.now }
     requires moments { All (λ state. IsBy (2 ^ 62) (seen_of state)) (L.states look.now) }
@@ -232,6 +245,7 @@ fn after_earliest<L: Look>(mode: Mode, stage: &Stage, look: &L) -> Progress
 }
 
 /// How an operation continues from all of its sources, where each is normal.
+#[inline(always)]
 fn after_values(mode: Mode, stage: &Stage, trigger: u64, first: Value, second: Value) -> Progress
     requires { end_of stage.now trigger < 2 ^ 64 }
     ensures { result ≡ after_values stage.now.op mode stage.now trigger first second }
@@ -255,6 +269,7 @@ fn after_values(mode: Mode, stage: &Stage, trigger: u64, first: Value, second: V
 }
 
 /// All sources are waited for, and the earliest exceptional one is handed on.
+#[inline(always)]
 fn after_all<L: Look>(mode: Mode, stage: &Stage, look: &L) -> Progress
     requires limits { IsLimited (length (L.states look.now)) stage.now }
     requires moments { All (λ state. IsBy (2 ^ 62) (seen_of state)) (L.states look.now) }
@@ -275,6 +290,7 @@ fn after_all<L: Look>(mode: Mode, stage: &Stage, look: &L) -> Progress
 }
 
 /// The action runs once the stage is created.
+#[inline(always)]
 fn runs_from_creation(mode: Mode, stage: &Stage) -> Progress
     requires { end_of stage.now stage.now.created < 2 ^ 64 }
     ensures { result ≡ runs mode stage.now stage.now.created (answer_of stage.now nothing) }
@@ -284,6 +300,7 @@ fn runs_from_creation(mode: Mode, stage: &Stage) -> Progress
 }
 
 /// The progress of an operation, by its sources.
+#[inline(always)]
 pub(crate) fn progress_of<L: Look>(mode: Mode, stage: &Stage, look: &L) -> Progress
     requires limits { IsLimited (length (L.states look.now)) stage.now }
     requires moments { All (λ state. IsBy (2 ^ 62) (seen_of state)) (L.states look.now) }
@@ -302,6 +319,7 @@ pub(crate) fn progress_of<L: Look>(mode: Mode, stage: &Stage, look: &L) -> Progr
 }
 
 /// The completion, if a picked stage has completed too.
+#[inline(always)]
 pub(crate) fn finished<L: Look>(progress: &Progress, look: &L) -> Option<Done>
     requires within { AwaitsWithin (length (L.states look.now)) progress.now }
     requires moments { All (λ state. IsBy (2 ^ 62) (seen_of state)) (L.states look.now) }

@@ -1,14 +1,14 @@
 -- What is drawn of a version.
 use Rattle.std.specs.Prelude.{ℕ, ◌≡◌, ◌==◌, List, [], ◌++◌, Option, None, Some, codes, filter_map, length, map, nat_le, position, string_bytes, if◌then◌else◌}
 use Rattle.std.specs.Fmt.{decimal}
-use Rattle.stage_graph.specs.Plain.{PlainGraph, stage_at}
+use Rattle.stage_graph.specs.Plain.{PlainGraph, stage_at, name_of}
 use Rattle.scratch_eval.specs.Path.{path}
 use Rattle.version_store.specs.Plain.{PlainVersion}
 use Rattle.version_rows.specs.declared.candidate.Candidate.{Candidate}
 use Rattle.version_rows.specs.declared.candidate.Scope.{Scope}
 use Rattle.version_rows.specs.declared.drawing.Drawing.{Drawing}
 use Rattle.version_rows.specs.Candidates.{IsChosen, candidates}
-use Rattle.version_rows.specs.Rows.{name_of, plain, row_of}
+use Rattle.version_rows.specs.Rows.{plain, row_of}
 
 -- the path of the target; none without one
 abbrev pub path_to : PlainGraph → Option ℕ → List ℕ

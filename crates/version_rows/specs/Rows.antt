@@ -2,7 +2,7 @@
 use Rattle.std.specs.Prelude.{ℕ, Bool, false, List, [], ◌++◌, Option, None, Some, codes, string_bytes}
 use Rattle.std.specs.Fmt.{decimal}
 use Rattle.stage_graph.specs.declared.stage.Stage.{Stage}
-use Rattle.stage_graph.specs.Plain.{PlainGraph, stage_at}
+use Rattle.stage_graph.specs.Plain.{PlainGraph, stage_at, name_of}
 use Rattle.stage_graph.specs.Walk.{rank}
 use Rattle.stage_ops.specs.declared.reason.Cause.{Cause}
 use Rattle.stage_ops.specs.declared.reason.Cause.TheVariants.{Created, After, Inner, Pinned, Ended, Waiting, Open}
@@ -15,10 +15,6 @@ use Rattle.timeline_svg.specs.declared.row.Course.TheVariants.{Pending}
 use Rattle.timeline_svg.specs.declared.row.Row.{Row}
 use Rattle.version_rows.specs.declared.candidate.Candidate.{Candidate}
 use Rattle.version_rows.specs.Courses.{course_of}
-
-abbrev pub name_of : Option Stage → List ℕ
-name_of None = []
-name_of (Some stage) = stage.name
 
 abbrev pub cause_text : PlainGraph → Stage → Cause → List ℕ
 cause_text graph stage Created = codes "waited for its creation at " ++ decimal stage.created

@@ -2,7 +2,6 @@
 ghost use Rattle.std.specs.Prelude.{◌≡◌, ◌++◌, OnOk, string_bytes};
 ghost use Rattle.version_rows.specs.Rows.{about_text, cause_text, own_text};
 
-use crate::names::name_of;
 use propagate::StateRepresentation;
 use stage_graph::{Graph, Representation, Stage};
 use stage_ops::{Cause, Reason};
@@ -40,17 +39,17 @@ fn push_cause<R: Representation>(
             write!(line, "waited for its creation at {created}")
         }
         Cause::After(place) => {
-            let source = name_of(graph, place);
+            let source = graph.name_of(place);
             write!(line, "waited for {source}")
         }
         Cause::Inner(place) => {
-            let inner = name_of(graph, place);
+            let inner = graph.name_of(place);
             write!(line, "took over {inner}")
         }
         Cause::Pinned => line.push_str("its moment is pinned"),
         Cause::Ended(index) => write!(line, "completed by its end of index {index}"),
         Cause::Waiting(place) => {
-            let feed = name_of(graph, place);
+            let feed = graph.name_of(place);
             write!(line, "waits for {feed}")
         }
         Cause::Open => line.push_str("waits for no stage"),

@@ -3,7 +3,6 @@ ghost use Rattle.std.specs.Prelude.{◌≡◌, IfOk, string_bytes, ◌++◌, OnO
 ghost use Rattle.version_rows.specs.Drawings.{note_text, path_title, title_text};
 
 use crate::chosen::MOST_ROWS;
-use crate::names::name_of;
 use propagate::StateRepresentation;
 use std::alloc::{AllocError, Global};
 use std::fmt::Write;
@@ -47,7 +46,7 @@ fn push_path_title<R: StateRepresentation>(
 {
     match target {
         Some(place) => {
-            let name = name_of(version.graph(), place);
+            let name = version.graph().name_of(place);
             write!(title, ", the path of {name}")
         }
         None => Ok(()),

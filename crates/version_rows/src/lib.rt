@@ -8,7 +8,6 @@ mod course;
 mod drawing;
 mod flags;
 mod heading;
-mod names;
 mod rows;
 
 pub use candidate::Scope;
