@@ -1,63 +1,84 @@
 //! The table of cases: blocks of lines with an empty line between them.
-use crate::lists::ListRepresentation;
-use crate::planted::WRONG;
-use crate::refusals::Refused;
+use crate::refusals::{Refused, Window};
 use crate::scene::{Scene, step_count};
 use crate::sweep::Sweep;
 use crate::turn::Turn;
-use crate::{lists, planted};
+use crate::{
+    drafts, graphs, imports, lists, makers, orders, planted, reports, runs, serves, tables,
+    versions,
+};
 use anyhow::Result;
-use stage_graph::{InFlat, InShared};
+use level_pool::{OneThread, Runner};
+use share_tree::Keeps;
 use std::alloc::Global;
 use std::thread::Threads;
+use version_store::StateRepresentation;
 
-/// The most blocks of a table.
-const MOST_BLOCKS: u32 = 10_000;
+/// A case that is made on a version or a table.
+fn show_on_version<R: StateRepresentation, W: Runner>(
+    window: &mut Window,
+    scene: Scene<'_>,
+    turn: &mut Turn,
+    runner: &W,
+) -> Result<()> {
+    match scene.group {
+        "version" => versions::show::<R, W>(window, scene, turn, runner),
+        "table" => tables::show::<R, W>(window, scene, turn, runner),
+        "run" => runs::show::<R, W>(window, scene, turn, runner),
+        "serve" => serves::show::<R, W>(window, scene, turn, runner),
+        _ => reports::show::<R, W>(window, scene, turn, runner),
+    }
+}
+
+/// A case. `F` is a list of numbers in one vector, and `R` has the type of each persistent list.
+fn show<F: Keeps<u32>, R: StateRepresentation, H: Threads + Sync>(
+    rt: &H,
+    window: &mut Window,
+    scene: Scene<'_>,
+    turn: &mut Turn,
+) -> Result<()> {
+    match scene.group {
+        "flat" => lists::show::<F>(window, scene, turn),
+        "shared" => lists::show::<R::Ranks>(window, scene, turn),
+        "make" => makers::show::<R>(window, scene, turn),
+        "graph" => graphs::show::<R>(window, scene, turn),
+        "order" => orders::show::<R>(window, scene, turn),
+        "draft" => drafts::show::<R, H>(rt, window, scene, turn),
+        "import" => {
+            imports::show(window, scene, turn);
+            Ok(())
+        }
+        "wrong" => planted::show(window, scene.call, turn),
+        _ => show_on_version::<R, _>(window, scene, turn, &OneThread::new(rt)),
+    }
+}
 
 /// The turn of a case.
-pub(crate) fn turn_of<R: ListRepresentation, H: Threads + Sync>(
+pub(crate) fn turn_of<F: Keeps<u32>, R: StateRepresentation, H: Threads + Sync>(
     rt: &H,
     alloc: Global,
     scene: Scene<'_>,
     refused: Refused,
 ) -> Result<Turn> {
-    let _ = rt;
-    match scene.group {
-        "list" => lists::turn::<R>(alloc, refused, scene),
-        _ => planted::turn(alloc, refused, scene.call),
-    }
+    let mut turn = Turn::new(alloc);
+    show::<F, R, H>(rt, &mut Window::new(alloc, refused), scene, &mut turn)?;
+    Ok(turn)
 }
 
-/// The cases of each step of a table, after the steps before it.
-fn cases_of_table<R: ListRepresentation, H: Print + Threads + Sync>(
+/// The cases of a call: where it is an event on a table, one for each step of the block, after the steps before it.
+fn cases_of<F: Keeps<u32>, R: StateRepresentation, H: Print + Threads + Sync>(
     rt: &H,
     sweep: &mut Sweep,
     scene: Scene<'_>,
 ) -> Result<()> {
-    for count in 0..scene.steps {
-        let steps = count + 1;
-        sweep.case::<R, H>(rt, Scene { steps, ..scene })?;
+    let first = match scene.call {
+        "take" => 1,
+        _ => scene.steps,
+    };
+    for steps in first..=scene.steps {
+        sweep.case::<F, R, H>(rt, Scene { steps, ..scene })?;
     }
     Ok(())
-}
-
-/// The cases of a call.
-fn cases_of<R: ListRepresentation, H: Print + Threads + Sync>(
-    rt: &H,
-    sweep: &mut Sweep,
-    scene: Scene<'_>,
-) -> Result<()> {
-    match scene.group {
-        "wrong" => sweep.wrong::<R, H>(rt, scene),
-        "table" => cases_of_table::<R, H>(rt, sweep, scene),
-        _ => sweep.case::<R, H>(rt, scene),
-    }
-}
-
-/// The cases of a call, in both representations.
-fn in_each<H: Print + Threads + Sync>(rt: &H, sweep: &mut Sweep, scene: Scene<'_>) -> Result<()> {
-    cases_of::<InFlat, H>(rt, sweep, scene)?;
-    cases_of::<InShared, H>(rt, sweep, scene)
 }
 
 /// The scene of a call's words.
@@ -74,33 +95,28 @@ fn scene_of<'a>(words: &'a str, block: &'a str) -> Scene<'a> {
     }
 }
 
-/// Calls that are wrong are found.
-pub(crate) fn all_wrong<H: Print + Threads + Sync>(rt: &H, sweep: &mut Sweep) -> Result<()> {
-    for words in WRONG {
-        in_each(rt, sweep, scene_of(words, ""))?;
-    }
-    Ok(())
-}
-
 /// The cases of a block.
-fn block_of<H: Print + Threads + Sync>(rt: &H, sweep: &mut Sweep, block: &str) -> Result<()> {
+fn block_of<F: Keeps<u32>, R: StateRepresentation, H: Print + Threads + Sync>(
+    rt: &H,
+    sweep: &mut Sweep,
+    block: &str,
+) -> Result<()> {
     for line in block.lines() {
         if let Some(words) = line.strip_prefix("call ") {
-            in_each(rt, sweep, scene_of(words, block))?;
+            cases_of::<F, R, H>(rt, sweep, scene_of(words, block))?;
         }
     }
     Ok(())
 }
 
 /// All cases of a table.
-pub(crate) fn all<H: Print + Threads + Sync>(rt: &H, sweep: &mut Sweep, table: &str) -> Result<()> {
-    let mut rest = table;
-    for _block in 0..MOST_BLOCKS {
-        let Some((block, after)) = rest.split_once("\n\n") else {
-            break;
-        };
-        block_of(rt, sweep, block)?;
-        rest = after;
+pub(crate) fn all<F: Keeps<u32>, R: StateRepresentation, H: Print + Threads + Sync>(
+    rt: &H,
+    sweep: &mut Sweep,
+    table: &str,
+) -> Result<()> {
+    for block in table.split("\n\n") {
+        block_of::<F, R, H>(rt, sweep, block)?;
     }
-    block_of(rt, sweep, rest)
+    Ok(())
 }

@@ -1,43 +1,28 @@
 //! Persistent lists: one more item, or another one.
-use crate::refusals::Refused;
+use crate::refusals::Window;
 use crate::scene::Scene;
-use crate::turn::{Shown, Turn, answered, shown};
+use crate::told::Told;
+use crate::turn::{Turn, shown};
 use anyhow::Result;
-use share_tree::{Again, Flat, KeepFault, Keeps, Shared};
-use stage_graph::{InFlat, InShared};
+use share_tree::{KeepFault, Keeps};
 use std::alloc::Global;
-use std::fmt::Write;
-use version_store::StateRepresentation;
 
-/// The type of each list of a version, and of lists of numbers.
-pub(crate) trait ListRepresentation: StateRepresentation {
-    type Numbers: Keeps<u32>;
-}
-
-impl ListRepresentation for InFlat {
-    type Numbers = Flat<u32>;
-}
-
-impl ListRepresentation for InShared {
-    type Numbers = Shared<u32>;
-}
-
-/// Two lists that hold the same.
+/// Two lists that hold the same, and the call on the first.
 #[derive(Drop)]
-struct Lists<K> {
+struct Lists<'a, K> {
+    call: &'a str,
     list: K,
     other: K,
 }
 
 /// The items of a list.
-fn push_items<K: Keeps<u32>>(text: &mut String, list: &K) -> Result<()> {
+fn push_items<K: Keeps<u32>>(text: &mut Told, list: &K) {
     for place in 0..list.len() {
         if let Some(item) = list.get(place) {
-            write!(text, " {item}")?;
+            text.push_number(*item);
         }
     }
-    text.push_str("\n")?;
-    Ok(())
+    text.push("\n");
 }
 
 /// The list with another item in the middle.
@@ -59,88 +44,71 @@ fn write_middle<K: Keeps<u32>>(list: &mut K) -> Result<Option<K>, KeepFault> {
 }
 
 /// A list of so many items, which another one holds too.
-fn lists_of<K: Keeps<u32>>(alloc: Global, count: u32) -> Result<Lists<K>> {
+fn lists_of<K: Keeps<u32>>(alloc: Global, call: &str, count: u32) -> Result<Lists<'_, K>> {
     let mut list = K::empty(alloc);
     for item in 0..count {
         list.add(item)?;
     }
     let other = list.again()?;
-    Ok(Lists { list, other })
-}
-
-/// Tells both lists.
-fn push_lists<K: Keeps<u32>>(text: &mut String, lists: &Lists<K>) -> Result<()> {
-    push_items(text, &lists.list)?;
-    push_items(text, &lists.other)
-}
-
-/// The call: one more item, or another one in the middle, in the list or in a new one.
-fn change<K: Keeps<u32>>(call: &str, list: &mut K) -> Result<Option<K>, KeepFault> {
-    match call {
-        "push" => Ok(Some(list.push(99)?)),
-        "set" => set_middle(list),
-        "write" => write_middle(list),
-        _ => {
-            list.add(99)?;
-            Ok(None)
-        }
-    }
+    Ok(Lists { call, list, other })
 }
 
 /// Tells an answer.
-fn push_answer<K: Keeps<u32>>(
-    answer: &Result<Option<K>, KeepFault>,
-    text: &mut String,
-) -> Result<bool> {
+fn push_list<K: Keeps<u32>>(text: &mut Told, answer: &Result<Option<K>, KeepFault>) -> bool {
     match answer {
-        Ok(Some(list)) => push_items(text, list)?,
+        Ok(Some(list)) => push_items(text, list),
         Ok(None) => {}
-        Err(KeepFault::Full) => text.push_str("refused 30 Full")?,
-        Err(KeepFault::Memory) => return Ok(true),
+        Err(KeepFault::Full) => text.push("refused 30 Full"),
+        Err(KeepFault::Memory) => return true,
     }
-    Ok(false)
+    false
 }
 
-/// The answer of the call.
-fn answer<K: Keeps<u32>>(
-    alloc: Global,
-    refused: Refused,
-    scene: Scene<'_>,
-    list: &mut K,
-    shown: &mut Shown,
-) -> Result<bool> {
-    answered!(
-        alloc,
-        refused,
-        shown,
-        change(scene.call, list),
-        |answer, text| push_answer(&answer, text)?
-    )
+impl<K: Keeps<u32>> Lists<'_, K> {
+    /// One more item, or another one in the middle, in the list or in a new one.
+    fn change(&mut self) -> Result<Option<K>, KeepFault> {
+        match self.call {
+            "push" => Ok(Some(self.list.push(99)?)),
+            "set" => set_middle(&self.list),
+            "write" => write_middle(&mut self.list),
+            _ => {
+                self.list.add(99)?;
+                Ok(None)
+            }
+        }
+    }
+
+    /// Tells both lists.
+    fn push_value(&self, text: &mut Told) {
+        push_items(text, &self.list);
+        push_items(text, &self.other);
+    }
+
+    /// The call.
+    fn push_answer(&mut self, window: &mut Window, text: &mut Told) -> bool {
+        window.begin();
+        let answer = self.change();
+        window.end();
+        push_list(text, &answer)
+    }
+
+    fn show(&mut self, window: &mut Window, turn: &mut Turn) {
+        shown!(
+            turn,
+            window,
+            |text| self.push_value(text),
+            |window, text| self.push_answer(window, text)
+        )
+    }
 }
 
-/// The turn of the call on lists.
-fn show<K: Keeps<u32>>(
-    alloc: Global,
-    refused: Refused,
+/// A change of a list.
+pub(crate) fn show<K: Keeps<u32>>(
+    window: &mut Window,
     scene: Scene<'_>,
-    lists: &mut Lists<K>,
     turn: &mut Turn,
 ) -> Result<()> {
-    shown!(
-        turn,
-        |text| push_lists(text, lists)?,
-        |refused, shown| answer(alloc, refused, scene, &mut lists.list, shown)?
-    )
-}
-
-/// The turn of a change of a list.
-pub(crate) fn turn<R: ListRepresentation>(
-    alloc: Global,
-    refused: Refused,
-    scene: Scene<'_>,
-) -> Result<Turn> {
-    let mut turn = Turn::new(alloc);
-    let mut lists: Lists<R::Numbers> = lists_of(alloc, scene.number)?;
-    show(alloc, refused, scene, &mut lists, &mut turn)?;
-    Ok(turn)
+    let mut lists: Lists<'_, K> = lists_of(window.alloc, scene.call, scene.number)?;
+    lists.show(window, turn);
+    Ok(())
 }

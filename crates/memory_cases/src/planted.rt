@@ -1,28 +1,20 @@
 //! Calls that are wrong, each of which has to be found.
-use crate::refusals::Refused;
-use crate::turn::{Shown, Turn, answered, shown};
+use crate::refusals::Window;
+use crate::told::Told;
+use crate::turn::{Turn, shown};
 use anyhow::Result;
-use std::alloc::{AllocError, Global};
-use std::fmt::Write;
-
-/// The calls that are wrong.
-pub(crate) const WRONG: [&str; 6] = [
-    "wrong trace",
-    "wrong other-refusal",
-    "wrong passed-over",
-    "wrong for-ever",
-    "wrong unfounded",
-    "wrong other-text",
-];
+use std::alloc::AllocError;
 
 /// Numbers, to which a call adds two, and whether an addition was refused.
 #[derive(Drop)]
-struct Numbers {
+struct Numbers<'a> {
+    /// What the call does wrong.
+    wrong: &'a str,
     items: Vec<u32>,
     was_refused: bool,
 }
 
-impl Numbers {
+impl Numbers<'_> {
     /// Adds one number, and then another: out of memory, it leaves a trace.
     fn add_each(&mut self) -> Result<(), AllocError> {
         self.items.push(1)?;
@@ -47,8 +39,8 @@ impl Numbers {
     }
 
     /// The call that does this wrong.
-    fn add(&mut self, wrong: &str) -> Result<(), AllocError> {
-        match wrong {
+    fn add(&mut self) -> Result<(), AllocError> {
+        match self.wrong {
             "trace" => self.add_each(),
             "for-ever" => self.add_unless_refused(),
             "unfounded" => Err(AllocError),
@@ -60,66 +52,38 @@ impl Numbers {
         }
     }
 
-    /// Tells the numbers.
-    fn push(&self, text: &mut String) -> Result<()> {
-        for number in &self.items {
-            write!(text, "{number} ")?;
-        }
-        Ok(())
+    /// The call.
+    fn push_answer(&mut self, window: &mut Window, text: &mut Told) -> bool {
+        window.begin();
+        let answer = self.add();
+        window.end();
+        let (word, out_of_memory) = match (answer.is_ok(), self.wrong) {
+            (true, _) => ("added", false),
+            (false, "other-refusal") => ("refused 30 Full", false),
+            (false, "other-text") => ("other", true),
+            (false, _) => ("", true),
+        };
+        text.push(word);
+        out_of_memory
+    }
+
+    fn show(&mut self, window: &mut Window, turn: &mut Turn) {
+        shown!(
+            turn,
+            window,
+            |text| text.push_numbers(self.items.as_slice()),
+            |window, text| self.push_answer(window, text)
+        )
     }
 }
 
-/// Tells an answer.
-fn push_answer(answer: Result<(), AllocError>, wrong: &str, text: &mut String) -> Result<bool> {
-    let (word, out_of_memory) = match (answer.is_ok(), wrong) {
-        (true, _) => ("added", false),
-        (false, "other-refusal") => ("refused 30 Full", false),
-        (false, "other-text") => ("other", true),
-        (false, _) => ("", true),
-    };
-    text.push_str(word)?;
-    Ok(out_of_memory)
-}
-
-/// The call.
-fn answer(
-    alloc: Global,
-    refused: Refused,
-    wrong: &str,
-    numbers: &mut Numbers,
-    shown: &mut Shown,
-) -> Result<bool> {
-    answered!(
-        alloc,
-        refused,
-        shown,
-        numbers.add(wrong),
-        |answer, text| push_answer(answer, wrong, text)?
-    )
-}
-
-/// The turn of a call on numbers.
-fn show(
-    alloc: Global,
-    refused: Refused,
-    wrong: &str,
-    numbers: &mut Numbers,
-    turn: &mut Turn,
-) -> Result<()> {
-    shown!(
-        turn,
-        |text| numbers.push(text)?,
-        |refused, shown| answer(alloc, refused, wrong, numbers, shown)?
-    )
-}
-
-/// The turn of a call that does this wrong, or nothing.
-pub(crate) fn turn(alloc: Global, refused: Refused, wrong: &str) -> Result<Turn> {
-    let mut turn = Turn::new(alloc);
+/// A call that does this wrong, or nothing.
+pub(crate) fn show(window: &mut Window, wrong: &str, turn: &mut Turn) -> Result<()> {
     let mut numbers = Numbers {
-        items: Vec::with_capacity(alloc, 1)?,
+        wrong,
+        items: Vec::with_capacity(window.alloc, 1)?,
         was_refused: false,
     };
-    show(alloc, refused, wrong, &mut numbers, &mut turn)?;
-    Ok(turn)
+    numbers.show(window, turn);
+    Ok(())
 }

@@ -26,6 +26,15 @@ pub(crate) enum Refused {
     From(u32),
 }
 
+/// The time of a call in which requests are refused.
+#[derive(Drop)]
+pub(crate) struct Window {
+    pub(crate) alloc: Global,
+    refused: Refused,
+    /// Whether one was refused.
+    pub(crate) met: bool,
+}
+
 /// Whether a request of so many bytes is granted.
 fn is_granted(alloc: Global, bytes: usize) -> bool {
     let room: Result<Vec<u8>, _> = Vec::with_capacity(alloc, bytes);
@@ -37,21 +46,35 @@ pub(crate) fn can_refuse(alloc: Global) -> bool {
     is_granted(alloc, WORD + QUESTION)
 }
 
-impl Refused {
+impl Window {
+    /// The time of a call in which these are to be refused.
+    pub(crate) fn new(alloc: Global, refused: Refused) -> Window {
+        Window {
+            alloc,
+            refused,
+            met: false,
+        }
+    }
+
+    /// The time of a call in which none is refused.
+    pub(crate) fn with_memory(&self) -> Window {
+        Window::new(self.alloc, Refused::None)
+    }
+
     /// From now on requests are counted, and refused.
-    pub(crate) fn begin(self, alloc: Global) {
-        let _ = match self {
+    pub(crate) fn begin(&self) {
+        let _ = match self.refused {
             Refused::None => false,
-            Refused::Nth(nth) => is_granted(alloc, WORD + nth as usize),
-            Refused::From(nth) => is_granted(alloc, WORD + ALL_AFTER + nth as usize),
+            Refused::Nth(nth) => is_granted(self.alloc, WORD + nth as usize),
+            Refused::From(nth) => is_granted(self.alloc, WORD + ALL_AFTER + nth as usize),
         };
     }
 
-    /// From now on no request is refused; the answer is whether one was.
-    pub(crate) fn end(self, alloc: Global) -> bool {
-        match self {
+    /// From now on no request is refused.
+    pub(crate) fn end(&mut self) {
+        self.met = match self.refused {
             Refused::None => false,
-            Refused::Nth(_) | Refused::From(_) => !is_granted(alloc, WORD + END),
-        }
+            Refused::Nth(_) | Refused::From(_) => !is_granted(self.alloc, WORD + END),
+        };
     }
 }

@@ -10,7 +10,7 @@ pub(crate) struct Scene<'a> {
     pub(crate) call: &'a str,
     /// The number behind it; 0 where there is none.
     pub(crate) number: u32,
-    /// The lines that begin with `recording` or `step`, and the calls.
+    /// The lines that begin with `recording`, `trace`, `stages` or `step`, and the calls.
     pub(crate) block: &'a str,
     /// How many of the steps belong to the case.
     pub(crate) steps: usize,
@@ -28,14 +28,29 @@ pub(crate) fn step_count(block: &str) -> usize {
 }
 
 impl<'a> Scene<'a> {
-    /// The recording of the block, or no text.
-    pub(crate) fn recording(self) -> &'a str {
+    /// What the block has behind a word, or no text.
+    fn behind(self, word: &str) -> &'a str {
         for line in self.block.lines() {
-            if let Some(recording) = line.strip_prefix("recording ") {
-                return recording;
+            if let Some(rest) = line.strip_prefix(word) {
+                return rest;
             }
         }
         ""
+    }
+
+    /// The recording of the block, or no text.
+    pub(crate) fn recording(self) -> &'a str {
+        self.behind("recording ")
+    }
+
+    /// The trace of the block, or no text.
+    pub(crate) fn trace(self) -> &'a str {
+        self.behind("trace ")
+    }
+
+    /// The stages of the block, or no text.
+    pub(crate) fn stages(self) -> &'a str {
+        self.behind("stages ")
     }
 
     /// The step of the block with this index, or no text.

@@ -1,12 +1,13 @@
 //! Cases with each of their requests for memory refused in turn.
 use crate::cases::turn_of;
-use crate::lists::ListRepresentation;
 use crate::refusals::{Refused, can_refuse};
 use crate::scene::Scene;
 use crate::turn::Turn;
 use anyhow::Result;
+use share_tree::Keeps;
 use std::alloc::Global;
 use std::thread::Threads;
+use version_store::StateRepresentation;
 
 /// The most requests that a call is taken to make.
 const MOST: u32 = 20_000;
@@ -30,19 +31,19 @@ fn refused_from(nth: u32, all_after: bool) -> Refused {
 }
 
 /// Whether a request was refused in a turn of a case, and what is wrong with the turn.
-fn tried<R: ListRepresentation, H: Threads + Sync>(
+fn tried<F: Keeps<u32>, R: StateRepresentation, H: Threads + Sync>(
     rt: &H,
     alloc: Global,
     scene: Scene<'_>,
     refused: Refused,
     ordinary: &Turn,
 ) -> Result<(bool, Option<&'static str>)> {
-    let turn = turn_of::<R, H>(rt, alloc, scene, refused)?;
+    let turn = turn_of::<F, R, H>(rt, alloc, scene, refused)?;
     Ok((turn.met, turn.fault(ordinary)))
 }
 
 /// How many requests of a case were refused, and what is wrong at the last of these.
-fn tried_each<R: ListRepresentation, H: Threads + Sync>(
+fn tried_each<F: Keeps<u32>, R: StateRepresentation, H: Threads + Sync>(
     rt: &H,
     alloc: Global,
     scene: Scene<'_>,
@@ -51,7 +52,7 @@ fn tried_each<R: ListRepresentation, H: Threads + Sync>(
 ) -> Result<(u32, Option<&'static str>)> {
     for nth in 1..MOST {
         let refused = refused_from(nth, all_after);
-        let (met, wrong) = tried::<R, H>(rt, alloc, scene, refused, ordinary)?;
+        let (met, wrong) = tried::<F, R, H>(rt, alloc, scene, refused, ordinary)?;
         if wrong.is_some() {
             return Ok((nth, wrong));
         }
@@ -98,71 +99,62 @@ impl Sweep {
     }
 
     /// Each request of a case refused: alone, or with all after it.
-    fn each<R: ListRepresentation, H: Print + Threads + Sync>(
+    fn each<F: Keeps<u32>, R: StateRepresentation, H: Print + Threads + Sync>(
         &mut self,
         rt: &H,
         scene: Scene<'_>,
         ordinary: &Turn,
         all_after: bool,
     ) -> Result<()> {
-        let (nth, wrong) = tried_each::<R, H>(rt, self.alloc, scene, ordinary, all_after)?;
+        let (nth, wrong) = tried_each::<F, R, H>(rt, self.alloc, scene, ordinary, all_after)?;
         self.count(rt, scene.name, nth, wrong)
     }
 
     /// A case with memory, and then, if requests can be refused, two tests of it: each request refused alone, and each
     /// with all after it.
-    pub(crate) fn case<R: ListRepresentation, H: Print + Threads + Sync>(
+    pub(crate) fn case<F: Keeps<u32>, R: StateRepresentation, H: Print + Threads + Sync>(
         &mut self,
         rt: &H,
         scene: Scene<'_>,
     ) -> Result<()> {
-        let ordinary = turn_of::<R, H>(rt, self.alloc, scene, Refused::None)?;
-        self.case_as::<R, H>(rt, scene, &ordinary)
+        let ordinary = turn_of::<F, R, H>(rt, self.alloc, scene, Refused::None)?;
+        self.case_as::<F, R, H>(rt, scene, &ordinary)
     }
 
     /// The tests of a case, by what it shows with memory.
-    fn case_as<R: ListRepresentation, H: Print + Threads + Sync>(
+    fn case_as<F: Keeps<u32>, R: StateRepresentation, H: Print + Threads + Sync>(
         &mut self,
         rt: &H,
         scene: Scene<'_>,
         ordinary: &Turn,
     ) -> Result<()> {
         self.cases = self.cases.saturating_add(1);
+        if !self.can_refuse {
+            return Ok(());
+        }
+        if scene.group == "wrong" {
+            return self.wrong::<F, R, H>(rt, scene, ordinary);
+        }
         if ordinary.first.out_of_memory {
             return self.count(rt, scene.name, 0, Some("out of memory, with memory"));
         }
-        if self.can_refuse {
-            self.each::<R, H>(rt, scene, ordinary, false)?;
-            self.each::<R, H>(rt, scene, ordinary, true)?;
-        }
-        Ok(())
+        self.each::<F, R, H>(rt, scene, ordinary, false)?;
+        self.each::<F, R, H>(rt, scene, ordinary, true)
     }
 
-    /// A call that is wrong, which has to be found, if requests can be refused.
-    pub(crate) fn wrong<R: ListRepresentation, H: Print + Threads + Sync>(
-        &mut self,
-        rt: &H,
-        scene: Scene<'_>,
-    ) -> Result<()> {
-        let ordinary = turn_of::<R, H>(rt, self.alloc, scene, Refused::None)?;
-        self.wrong_as::<R, H>(rt, scene, &ordinary)
-    }
-
-    /// The test of a wrong call, by what it shows with memory.
-    fn wrong_as<R: ListRepresentation, H: Print + Threads + Sync>(
+    /// The test of a wrong call, which has to be found.
+    fn wrong<F: Keeps<u32>, R: StateRepresentation, H: Print + Threads + Sync>(
         &mut self,
         rt: &H,
         scene: Scene<'_>,
         ordinary: &Turn,
     ) -> Result<()> {
-        let (_, wrong) = tried::<R, H>(rt, self.alloc, scene, Refused::Nth(1), ordinary)?;
-        if wrong.is_none() && self.can_refuse {
-            return self.count(rt, scene.name, 1, Some("a wrong call isn't found"));
+        let refused = Refused::Nth(1);
+        let (_, wrong) = tried::<F, R, H>(rt, self.alloc, scene, refused, ordinary)?;
+        match wrong {
+            Some(_) => self.count(rt, scene.name, 1, None),
+            None => self.count(rt, scene.name, 1, Some("a wrong call isn't found")),
         }
-        if self.can_refuse {
-            self.pass();
-        }
-        Ok(())
     }
 
     /// Tells how many tests passed and failed, or how many cases there are, and whether none failed.

@@ -1,4 +1,5 @@
 //! One call with requests refused, and what has to hold of it.
+use crate::told::Told;
 use std::alloc::Global;
 
 /// What a call showed.
@@ -6,18 +7,60 @@ use std::alloc::Global;
 pub(crate) struct Shown {
     pub(crate) out_of_memory: bool,
     /// Its answer; what it had written, if it was out of memory.
-    pub(crate) answer: String,
+    pub(crate) answer: Told,
     /// What it was made on, after it.
-    pub(crate) after: String,
+    pub(crate) after: Told,
 }
+
+/// What one turn of a call showed.
+#[derive(Drop)]
+pub(crate) struct Turn {
+    /// Whether a request was refused in the call.
+    pub(crate) met: bool,
+    /// What the call was made on, before it.
+    pub(crate) before: Told,
+    /// The call.
+    pub(crate) first: Shown,
+    /// The same call once more with memory, if it was out of memory.
+    pub(crate) again: Shown,
+    /// What further calls answer at the end.
+    pub(crate) end: Told,
+}
+
+/// The turn of a call: what it is made on is told before it and after it, and the call is made again with memory if it was
+/// out of memory. The call answers whether it was.
+macro_rules! shown {
+    ($turn:expr, $window:expr, |$text:ident| $told:expr, |$call:ident, $answer:ident| $made:expr) => {{
+        let $text = &mut $turn.before;
+        $told;
+        let ($call, $answer) = (&mut *$window, &mut $turn.first.answer);
+        $turn.first.out_of_memory = $made;
+        $turn.met = $window.met;
+        let $text = &mut $turn.first.after;
+        $told;
+        if $turn.first.out_of_memory {
+            let ($call, $answer) = (&mut $window.with_memory(), &mut $turn.again.answer);
+            $turn.again.out_of_memory = $made;
+            let $text = &mut $turn.again.after;
+            $told;
+        }
+    }};
+}
+
+pub(crate) use shown;
 
 impl Shown {
     fn new(alloc: Global) -> Shown {
         Shown {
             out_of_memory: false,
-            answer: String::new(alloc),
-            after: String::new(alloc),
+            answer: Told::new(alloc),
+            after: Told::new(alloc),
         }
+    }
+
+    /// Whether a piece of a text was left out.
+    fn is_lost(&self) -> bool {
+        self.answer.is_lost() || self.after.is_lost()
     }
 
     /// Whether it answered and left the same.
@@ -27,70 +70,28 @@ impl Shown {
     }
 }
 
-/// What one turn of a call showed.
-#[derive(Drop)]
-pub(crate) struct Turn {
-    /// Whether a request was refused in the call.
-    pub(crate) met: bool,
-    /// What the call was made on, before it.
-    pub(crate) before: String,
-    /// The call.
-    pub(crate) first: Shown,
-    /// The same call once more with memory, if it was out of memory.
-    pub(crate) again: Shown,
-    /// What further calls answer at the end.
-    pub(crate) end: String,
-}
-
-/// A call in which requests are refused: its answer is told, and whether a request was refused.
-macro_rules! answered {
-    ($alloc:expr, $refused:expr, $shown:expr, $call:expr, |$answer:ident, $text:ident| $push:expr) => {{
-        $refused.begin($alloc);
-        let $answer = $call;
-        let met = $refused.end($alloc);
-        let $text = &mut $shown.answer;
-        $shown.out_of_memory = $push;
-        Ok(met)
-    }};
-}
-
-/// The turn of a call: what it is made on is told before and after it, and the call is made again if it was out of memory.
-macro_rules! shown {
-    ($turn:expr, |$text:ident| $push:expr, |$refused:ident, $shown:ident| $answered:expr) => {{
-        let $text = &mut $turn.before;
-        $push;
-        let $shown = &mut $turn.first;
-        $turn.met = $answered;
-        let $text = &mut $turn.first.after;
-        $push;
-        if $turn.first.out_of_memory {
-            let $refused = $crate::refusals::Refused::None;
-            let $shown = &mut $turn.again;
-            $answered;
-            let $text = &mut $turn.again.after;
-            $push;
-        }
-        Ok(())
-    }};
-}
-
-pub(crate) use answered;
-pub(crate) use shown;
-
 impl Turn {
     /// A turn that showed nothing yet.
     pub(crate) fn new(alloc: Global) -> Turn {
         Turn {
             met: false,
-            before: String::new(alloc),
+            before: Told::new(alloc),
             first: Shown::new(alloc),
             again: Shown::new(alloc),
-            end: String::new(alloc),
+            end: Told::new(alloc),
         }
+    }
+
+    /// Whether a piece of a text was left out.
+    fn is_lost(&self) -> bool {
+        self.before.is_lost() || self.first.is_lost() || self.again.is_lost() || self.end.is_lost()
     }
 
     /// What is wrong with the turn, by what the call showed with memory.
     pub(crate) fn fault(&self, ordinary: &Turn) -> Option<&'static str> {
+        if self.is_lost() || ordinary.is_lost() {
+            return Some("a text is lost");
+        }
         if self.before.as_str() != ordinary.before.as_str() {
             return Some("the value isn't the same at the start");
         }
