@@ -5,6 +5,7 @@
 ghost use Rattle.std.specs.Prelude.{◌≡◌, ◌≤◌, length, None};
 
 use crate::step_telling::StepTeller;
+use memchr::memchr;
 use std::alloc::{AllocError, Global};
 use std::cell::Cell;
 use std::io::Read;
@@ -174,7 +175,7 @@ impl<'a, 't, R: Read> ListeningSource<'a, 't, R> {
             .as_slice()
             .get(self.taken..self.filled)
             .unwrap_or(&[]);
-        let end = match waiting.iter().position(|byte| *byte == b'\n') {
+        let end = match memchr(b'\n', waiting) {
             Some(index) => index + 1,
             None => waiting.len(),
         };

@@ -20,6 +20,7 @@ use Rattle.session_core.proofs.Crossing.{entry_send, table_send}
 use Rattle.logbook.proofs.tokens.Seen.TheSendSync as seen
 use Rattle.logbook.proofs.word.Word.TheSendSync as word
 use Rattle.boxcar.proofs.table.Table.TheSendSync as slots
+use Rattle.boxcar.proofs.table.Placed.TheSendSync as placed
 use Rattle.left_right.proofs.handles.ReadHandle.TheSendSync as read_handle
 use Rattle.left_right.proofs.handles.WriteHandle.TheSendSync as write_handle
 use Rattle.desk.specs.declared.name.Naming as Naming
@@ -91,7 +92,10 @@ module _ (T T' T'' T3 T4 T5 : RattleType) (gn : Naming.Ghosts T.Denot) (gl : Led
                 search (sendable, share_send),
                 (
                   search (sendable, crosses, slots.the_send, slots.the_sync) depth 60 fits 100000,
-                  (search (sendable, crosses, write_handle.the_send) depth 60 fits 100000, tt),
+                  (
+                    search (sendable, placed.the_send) depth 60 fits 100000,
+                    (search (sendable, crosses, write_handle.the_send) depth 60 fits 100000, tt),
+                  ),
                 ),
               ),
             ),

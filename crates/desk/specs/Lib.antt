@@ -7,3 +7,4 @@ pub mod Faults
 pub mod Locked
 pub mod Publishing
 pub mod Recognizing
+pub mod Shelving

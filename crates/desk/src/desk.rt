@@ -223,6 +223,7 @@ impl<N: Naming, R: StateRepresentation, W: Wait + Drop> Desk<N, R, W> {
             entries: _,
             rest: _,
             shelf: _,
+            last: _,
             published,
         } = shared;
         drop(published);

@@ -15,7 +15,7 @@ use crate::client::Client;
 use crate::front::{Archive, Front};
 use crate::known::Known;
 use crate::name::Naming;
-use crate::shelf::{Count, Shelf, append, put, show};
+use crate::shelf::{Count, Shelf, Shelved, append, put, show};
 use left_right::WriteHandle;
 use session_core::{Entry, Event, Reply, Table, TableFault};
 use share_tree::{Again, Held};
@@ -26,8 +26,8 @@ use std::sync::ledger::{Book, Share};
 use std::sync::{Arc, Wait};
 use version_store::{Draft, StateRepresentation, Version};
 
-/// The table, with the front of its versions, what is published of them, the book that counts the table's entries,
-/// and a share with no part.
+/// The table, with the front of its versions, what is published of them, what shows that the last of these lies on the
+/// shelf, the book that counts the table's entries, and a share with no part.
 #[derive(Drop)]
 pub(crate) struct Shared<N: Naming, R: StateRepresentation, W: Wait + Drop> {
     pub(crate) table: Table<R>,
@@ -35,16 +35,19 @@ pub(crate) struct Shared<N: Naming, R: StateRepresentation, W: Wait + Drop> {
     pub(crate) entries: Book<N>,
     pub(crate) rest: Share<N>,
     pub(crate) shelf: Arc<Shelf<N, R>>,
+    pub(crate) last: Shelved<N, R>,
     pub(crate) published: WriteHandle<Count, u64, W>,
 }
 
 impl<N: Naming, R: StateRepresentation, W: Wait + Drop> Model for Shared<N, R, W> {
     ghost use Rattle.std.specs.Prelude.{◌≡◌};
+    ghost use Rattle.std.specs.Arc.{arc_value};
     ghost use Rattle.std.specs.Coded.{codes};
     ghost use Rattle.act_expr.specs.ExpressionCode.{coded_expression};
     ghost use Rattle.left_right.specs.Handles.{published as shown};
     ghost use Rattle.session_core.specs.TableView.{TableView};
     ghost use Rattle.desk.specs.Locked.{IsLocked};
+    ghost use Rattle.desk.specs.Shelving.{IsLastShelved};
 
     ghost Value = { TableView };
 
@@ -52,7 +55,7 @@ impl<N: Naming, R: StateRepresentation, W: Wait + Drop> Model for Shared<N, R, W
 
     ghost view = { λ s. s.table };
 
-    ghost invariant = { λ s. IsLocked N.opening s.table s.front (shown s.published).0 s.entries.total × (s.rest.parts ≡ 0) × (s.rest.amount ≡ 0) };
+    ghost invariant = { λ s. IsLocked N.opening s.table s.front (shown s.published).0 s.entries.total × (s.rest.parts ≡ 0) × (s.rest.amount ≡ 0) × IsLastShelved (arc_value s.shelf) s.last s.front };
 }
 
 /// The client keeps the call, counts it, and learns the versions of the front.
@@ -226,8 +229,14 @@ impl<N: Naming, R: StateRepresentation, W: Wait + Drop> Shared<N, R, W> {
         if !front.add(archive, &version) {
             return Err(TableFault::Memory);
         }
-        put(rt, &self.shelf, Known::new(version, &front));
+        // The slot was reserved, and nobody else writes it, so the version lies there now. Were it given back, the archive
+        // would have a version that the table has not, and the table would take no commit from then on; what is published
+        // would still lie on the shelf.
+        let Ok(last) = put(rt, &self.shelf, Known::new(version, &front)) else {
+            return Err(TableFault::Memory);
+        };
         show(&mut self.published, front.len());
+        self.last = last;
         let number = self.table.finish(ready);
         self.front = front;
         let event = Event::Commit {

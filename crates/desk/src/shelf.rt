@@ -1,14 +1,16 @@
 //! Where readers find the published versions, without a lock.
-ghost use Rattle.std.specs.Prelude.{◌≡◌, Some, IfSome, IfOk, OnOk, slice_get};
+ghost use Rattle.std.specs.Prelude.{◌≡◌, ◌≤◌, Some, IfSome, IfOk, OnOk, IsTrue, length, slice_get};
 ghost use Rattle.left_right.specs.Handles.{published as shown, pending};
+ghost use Rattle.std.specs.Arc.{arc_value};
 ghost use Rattle.desk.specs.Publishing.{WillShow};
+ghost use Rattle.desk.specs.Shelving.{IsShelved};
 ghost use mathlib.Core.List.{IsPrefix};
 
 use crate::front::Front;
 use crate::known::Known;
 use crate::name::Naming;
 use boxcar::Keeps;
-use boxcar::table::Table as Slots;
+use boxcar::table::{Placed, Table as Slots};
 use boxcar::tag::Tag;
 use left_right::{Absorb, ReadHandle, WriteHandle};
 use std::alloc::{AllocError, Global};
@@ -44,29 +46,36 @@ impl<N: Naming, R: StateRepresentation> Keeps<Known<N, R>> for ByNumber {
 /// Versions by their numbers, each set once. Threads share it.
 pub(crate) type Shelf<N, R> = Slots<Known<N, R>, ByNumber, Global>;
 
-/// A shelf with the first version.
+/// What shows that a version lies on the shelf, for as long as the shelf lasts.
+pub(crate) type Shelved<N, R> = Placed<Known<N, R>, ByNumber, Global>;
+
+/// A shelf with the first version, and what shows that it lies there.
 pub(crate) fn first_shelf<N: Naming, R: StateRepresentation, X: Wait>(
     rt: &X,
     alloc: Global,
     first: Known<N, R>,
-) -> Result<Arc<Shelf<N, R>>, AllocError>
+) -> Result<(Arc<Shelf<N, R>>, Shelved<N, R>), AllocError>
     requires { first.number ≡ 0 }
+    ensures { IfOk result (λ made. IsShelved (arc_value made.0) made.1 first) }
 {
     let shelf = Arc::new(alloc, Slots::new(alloc, Tag::empty())?)?;
     match shelf.set_placed(rt, 0, first) {
-        Ok(_) => Ok(shelf),
+        Ok(shelved) => Ok((shelf, shelved)),
         Err(_) => Err(AllocError),
     }
 }
 
-/// Puts the version on the shelf, where a slot was reserved for it. Allocates nothing.
+/// Puts the version on the shelf, where a slot was reserved for it, and gives what shows that it lies there. Allocates
+/// nothing, and gives the version back only if no slot was reserved or the slot is taken.
 pub(crate) fn put<N: Naming, R: StateRepresentation, X: Wait>(
     rt: &X,
     shelf: &Shelf<N, R>,
     known: Known<N, R>,
-) {
+) -> Result<Shelved<N, R>, Known<N, R>>
+    ensures { IfOk result (λ shelved. IsShelved shelf.now shelved known) }
+{
     let number = known.number() as usize;
-    let _ = shelf.set_placed(rt, number, known);
+    shelf.set_placed(rt, number, known)
 }
 
 /// The number that the next publication shows. If out of memory, nothing is appended.
@@ -111,7 +120,9 @@ impl<N: Naming, R: StateRepresentation> Reader<N, R> {
         let Some(published) = self.published() else {
             return Err(AllocError);
         };
-        self.learn(published, front);
+        if !self.learn(published, front) {
+            return Err(AllocError);
+        }
         if u64::from(number) >= front.len() {
             return Ok(None);
         }
@@ -128,15 +139,18 @@ impl<N: Naming, R: StateRepresentation> Reader<N, R> {
         Some(count.0)
     }
 
-    /// Extends the front to this many versions.
-    fn learn(&self, published: u64, front: &mut Front<N, R>)
-        ensures { IsPrefix front.old front.new }
+    /// Extends the front to this many versions, and says whether it did. It did unless the last of them is not found.
+    fn learn(&self, published: u64, front: &mut Front<N, R>) -> bool
+        ensures later { IsPrefix front.old front.new }
+        ensures learned { IsTrue result → published ≤ length front.new }
     {
         if published <= front.len() {
-            return;
+            return true;
         }
-        if let Some(last) = self.shelf.get((published - 1) as usize) {
-            last.show(front);
-        }
+        let Some(last) = self.shelf.get((published - 1) as usize) else {
+            return false;
+        };
+        last.show(front);
+        true
     }
 }

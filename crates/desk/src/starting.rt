@@ -43,7 +43,7 @@ pub fn start<N: Naming, R: StateRepresentation, W: Wait + Drop>(
     if !front.add(&archive, &first) {
         return Err(AllocError);
     }
-    let shelf = first_shelf(&rt, alloc, Known::new(first.again()?, &front))?;
+    let (shelf, last) = first_shelf(&rt, alloc, Known::new(first.again()?, &front))?;
     let table = Table::new(alloc, first, most)?;
     let published = WriteHandle::new(alloc, rt, Count(1), Count(1), clients as usize)?;
     let started = make_clients(alloc, &mut rest, &front, &shelf, &published, clients)?;
@@ -53,6 +53,7 @@ pub fn start<N: Naming, R: StateRepresentation, W: Wait + Drop>(
         entries,
         rest,
         shelf,
+        last,
         published,
     };
     Ok((Desk::new(archive, shared, clients as usize), started))

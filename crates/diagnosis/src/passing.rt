@@ -10,8 +10,13 @@ pub(crate) trait Passing<'a> {
     fn pass(&mut self, byte: u8) -> bool;
 }
 
-/// Where the quote stands that closes a text, whose opening quote stands before these bytes.
-fn closing_quote(bytes: &[u8]) -> Option<usize> {
+/// Where the first byte stands that ends a text or escapes the byte after it.
+fn quote_or_escape(bytes: &[u8]) -> Option<usize> {
+    bytes.iter().position(|byte| matches!(*byte, b'"' | b'\\'))
+}
+
+/// Where the quote stands that closes a text, whose opening quote stands before these bytes and which has escapes.
+fn closing_quote_among_escapes(bytes: &[u8]) -> Option<usize> {
     let mut is_escaped = false;
     for (index, byte) in bytes.iter().enumerate() {
         match *byte {
@@ -22,6 +27,15 @@ fn closing_quote(bytes: &[u8]) -> Option<usize> {
         }
     }
     None
+}
+
+/// Where the quote stands that closes a text, whose opening quote stands before these bytes.
+fn closing_quote(bytes: &[u8]) -> Option<usize> {
+    let first = quote_or_escape(bytes)?;
+    match *bytes.get(first)? {
+        b'"' => Some(first),
+        _ => closing_quote_among_escapes(bytes),
+    }
 }
 
 /// The text whose opening quote stands before these bytes, and what comes after its closing quote, if it has one.

@@ -16,7 +16,7 @@ use crate::access::Access;
 use crate::answering::answer_step;
 use desk::{Client, Naming};
 use level_pool::Runner;
-use recording::{Fault, read_step};
+use recording::{Fault, StepReader};
 use report_json::Form;
 use script_lines::Line;
 use serve_script::{AnswerFault, tell_fault};
@@ -41,6 +41,7 @@ fn refuse<S: Sink>(alloc: Global, fault: Fault, form: Form, sink: &mut S) -> Res
 fn answer_bytes<N: Naming, K: StateRepresentation, H: Wait + Drop, W: Runner, S: Sink>(
     access: &Access<'_, N, K, H, W>,
     client: &mut Client<N, K>,
+    steps: &mut StepReader,
     bytes: &[u8],
     sink: &mut S,
 ) -> Result<(), AnswerFault>
@@ -49,7 +50,7 @@ fn answer_bytes<N: Naming, K: StateRepresentation, H: Wait + Drop, W: Runner, S:
     ensures ok { OnOk result (Answers (λ known earlier. IsNamed access.now.form client.old.number known earlier (step_of bytes.now)) client.old client.new (S.held sink.old) (S.held sink.new)) }
     ensures failures { S.failures sink.new ≡ S.failures sink.old + failed_writes result }
 {
-    match read_step(access.alloc, bytes) {
+    match steps.read(bytes) {
         Ok(step) => answer_step(access, client, step, sink),
         Err(fault) => refuse(access.alloc, fault, access.form, sink),
     }
@@ -59,6 +60,7 @@ fn answer_bytes<N: Naming, K: StateRepresentation, H: Wait + Drop, W: Runner, S:
 fn answer_line<N: Naming, K: StateRepresentation, H: Wait + Drop, W: Runner, S: Sink>(
     access: &Access<'_, N, K, H, W>,
     client: &mut Client<N, K>,
+    steps: &mut StepReader,
     line: Line<'_>,
     sink: &mut S,
 ) -> Result<(), AnswerFault>
@@ -68,7 +70,7 @@ fn answer_line<N: Naming, K: StateRepresentation, H: Wait + Drop, W: Runner, S: 
     ensures failures { S.failures sink.new ≡ S.failures sink.old + failed_writes result }
 {
     match line {
-        Line::Kept(bytes) => answer_bytes(access, client, bytes, sink),
+        Line::Kept(bytes) => answer_bytes(access, client, steps, bytes, sink),
         Line::TooLong => tell_fault(access.alloc, &Fault::TooLong, access.form, sink),
     }
 }
@@ -78,6 +80,7 @@ pub(crate) fn answer_any<N: Naming, K: StateRepresentation, H: Wait + Drop, W: R
     access: &Access<'_, N, K, H, W>,
     form: Form,
     client: &mut Client<N, K>,
+    steps: &mut StepReader,
     line: Option<Line<'_>>,
     sink: &mut S,
 ) -> Result<(), AnswerFault>
@@ -87,7 +90,7 @@ pub(crate) fn answer_any<N: Naming, K: StateRepresentation, H: Wait + Drop, W: R
     ensures failures { S.failures sink.new ≡ S.failures sink.old + failed_writes result }
 {
     match line {
-        Some(line) => answer_line(&access.in_form(form), client, line, sink),
+        Some(line) => answer_line(&access.in_form(form), client, steps, line, sink),
         None => Ok(()),
     }
 }

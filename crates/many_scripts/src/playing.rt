@@ -8,6 +8,7 @@ use crate::access::Access;
 use crate::lines::answer_any;
 use desk::{Client, Naming};
 use level_pool::Runner;
+use recording::StepReader;
 use report_json::Format;
 use script_lines::LineReader;
 use serve_script::ServeFault;
@@ -42,12 +43,14 @@ pub(crate) fn play<
         (R.failures source.old) (R.failures source.new)) }
     ensures failures { S.failures sink.new ≡ S.failures sink.old + failed_writes_of_serve result }
 {
+    let mut steps = StepReader::new(access.alloc);
     let mut number = 1;
     while reader.advance(source)? {
         answer_any(
             access,
             format.form(Some(number)),
             client,
+            &mut steps,
             reader.line(),
             sink,
         )?;
@@ -57,6 +60,7 @@ pub(crate) fn play<
         access,
         format.form(Some(number)),
         client,
+        &mut steps,
         reader.line(),
         sink,
     )?;

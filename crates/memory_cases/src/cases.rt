@@ -4,7 +4,7 @@ use crate::scene::{Scene, step_count};
 use crate::sweep::Sweep;
 use crate::turn::Turn;
 use crate::{
-    drafts, graphs, imports, lists, makers, orders, planted, reports, runs, serves, tables,
+    drafts, graphs, imports, lists, makers, orders, planted, recorded, runs, serves, tables,
     versions,
 };
 use anyhow::Result;
@@ -14,19 +14,22 @@ use std::alloc::Global;
 use std::thread::Threads;
 use version_store::StateRepresentation;
 
-/// A case that is made on a version or a table.
-fn show_on_version<R: StateRepresentation, W: Runner>(
+/// A case that is made by a runner.
+fn show_by<R: StateRepresentation, W: Runner>(
     window: &mut Window,
     scene: Scene<'_>,
     turn: &mut Turn,
     runner: &W,
 ) -> Result<()> {
     match scene.group {
-        "version" => versions::show::<R, W>(window, scene, turn, runner),
         "table" => tables::show::<R, W>(window, scene, turn, runner),
         "run" => runs::show::<R, W>(window, scene, turn, runner),
         "serve" => serves::show::<R, W>(window, scene, turn, runner),
-        _ => reports::show::<R, W>(window, scene, turn, runner),
+        "recorded" => {
+            recorded::show::<R, W>(window, scene, turn, runner);
+            Ok(())
+        }
+        _ => versions::show::<R, W>(window, scene, turn, runner),
     }
 }
 
@@ -49,7 +52,7 @@ fn show<F: Keeps<u32>, R: StateRepresentation, H: Threads + Sync>(
             Ok(())
         }
         "wrong" => planted::show(window, scene.call, turn),
-        _ => show_on_version::<R, _>(window, scene, turn, &OneThread::new(rt)),
+        _ => show_by::<R, _>(window, scene, turn, &OneThread::new(rt)),
     }
 }
 
@@ -72,7 +75,7 @@ fn cases_of<F: Keeps<u32>, R: StateRepresentation, H: Print + Threads + Sync>(
     scene: Scene<'_>,
 ) -> Result<()> {
     let first = match scene.call {
-        "take" => 1,
+        "take" | "client" => 1,
         _ => scene.steps,
     };
     for steps in first..=scene.steps {

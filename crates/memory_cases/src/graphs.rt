@@ -3,7 +3,7 @@ ghost use Rattle.stage_graph.specs.Walk.{IsRanked};
 
 use crate::refusals::Window;
 use crate::scene::Scene;
-use crate::sources::{edits_of, graph_of};
+use crate::sources::{edits_of, held_graph_of};
 use crate::texts::{push_answers, push_graph, push_made, push_order, push_places};
 use crate::told::Told;
 use crate::turn::{Turn, shown};
@@ -43,7 +43,7 @@ fn evaluated<R: OrderRepresentation>(
 /// The graph of the recording, and the edits of the step.
 fn asked_by<R: OrderRepresentation>(alloc: Global, scene: Scene<'_>) -> Result<Asked<'_, R>> {
     let edits = edits_of(alloc, scene.step())?;
-    let graph = Held::new(alloc, graph_of(alloc, scene.recording())?)?;
+    let graph = held_graph_of(alloc, scene.recording())?;
     let answers = evaluated(alloc, &graph)?;
     Ok(Asked {
         scene,

@@ -24,8 +24,7 @@ fn push_answer(window: &mut Window, text: &mut Told, trace: &str) -> bool {
         unit: Unit::Microsecond,
     };
     let Ok(mut sink) = room(window.alloc) else {
-        text.keep(false);
-        return false;
+        return text.lose();
     };
     window.begin();
     let answer = import(window.alloc, trace.as_bytes(), options, &mut sink);

@@ -16,6 +16,7 @@ mod lists;
 mod makers;
 mod orders;
 mod planted;
+mod recorded;
 mod refusals;
 mod reports;
 mod runs;

@@ -130,8 +130,7 @@ impl<R: StateRepresentation> Making<'_, R> {
     fn push_opened(&self, window: &mut Window, text: &mut Told) -> bool {
         let alloc = window.alloc;
         let Ok(graph) = graph_of::<R>(alloc, self.scene.recording()) else {
-            text.keep(false);
-            return false;
+            return text.lose();
         };
         window.begin();
         let version = Version::load(alloc, graph);
@@ -159,8 +158,7 @@ impl<R: StateRepresentation> Making<'_, R> {
     /// A list of so many edits.
     fn push_edits(&self, window: &mut Window, text: &mut Told) -> bool {
         let Ok(items) = edits(window.alloc, self.scene.number) else {
-            text.keep(false);
-            return false;
+            return text.lose();
         };
         window.begin();
         let list = Edits::new(items);

@@ -5,7 +5,7 @@ ghost use Rattle.stage_graph.specs.Walk.{IsRanked};
 
 use crate::refusals::Window;
 use crate::scene::Scene;
-use crate::sources::{edits_of, graph_of};
+use crate::sources::{edits_of, held_graph_of};
 use crate::texts::push_order;
 use crate::told::Told;
 use crate::turn::{Turn, shown};
@@ -98,9 +98,6 @@ pub(crate) fn show<R: OrderRepresentation>(
     turn: &mut Turn,
 ) -> Result<()> {
     let edits = edits_of(window.alloc, scene.step())?;
-    let graph: Held<Graph<R>> = Held::new(
-        window.alloc,
-        graph_of(window.alloc, scene.recording())?,
-    )?;
+    let graph: Held<Graph<R>> = held_graph_of(window.alloc, scene.recording())?;
     show_of(window, turn, &graph, &edits)
 }

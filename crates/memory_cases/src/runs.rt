@@ -11,9 +11,23 @@ use session_core::{Event, Reply, Table, run};
 use std::alloc::{AllocError, Global};
 use version_store::StateRepresentation;
 
+/// A table, events that are run on it, and the replies.
+#[derive(Drop)]
+struct Running<'a, R: StateRepresentation, W> {
+    runner: &'a W,
+    events: Vec<Event>,
+    replies: Vec<Reply>,
+    table: Table<R>,
+}
+
 /// Whether an event was not processed because memory ran out.
 fn is_out_of_memory(reply: &Reply) -> bool {
     *reply == Reply::Memory
+}
+
+/// Adds the event of a step.
+fn add_event(alloc: Global, events: &mut Vec<Event>, step: &str) -> Result<()> {
+    Ok(events.push(event_of(alloc, step)?)?)
 }
 
 /// The events of the steps, but those with replies that say that they were not processed.
@@ -22,10 +36,26 @@ fn events_of(alloc: Global, scene: Scene<'_>, replies: &[Reply]) -> Result<Vec<E
     for index in 0..scene.steps {
         let is_left_out = replies.get(index).is_some_and(is_out_of_memory);
         if !is_left_out {
-            events.push(event_of(alloc, scene.step_at(index))?)?;
+            add_event(alloc, &mut events, scene.step_at(index))?;
         }
     }
     Ok(events)
+}
+
+/// A run of the events of the steps on a new table, but those with replies that say that they were not processed.
+fn run_of<'a, R: StateRepresentation, W: Runner>(
+    alloc: Global,
+    scene: Scene<'_>,
+    left_out: &[Reply],
+    runner: &'a W,
+) -> Result<Running<'a, R, W>> {
+    let events = events_of(alloc, scene, left_out)?;
+    Ok(Running {
+        runner,
+        events,
+        replies: Vec::new(alloc),
+        table: table_of(alloc, scene.recording(), false)?,
+    })
 }
 
 /// Each of so many events has the reply that it was not processed.
@@ -34,24 +64,6 @@ fn refuse_all(replies: &mut Vec<Reply>, events: usize) -> Result<(), AllocError>
         replies.push(Reply::Memory)?;
     }
     Ok(())
-}
-
-/// Runs the events in the window, and gives the replies. Where all were refused, each has the reply that it was not
-/// processed.
-fn replies_of<R: StateRepresentation, W: Runner>(
-    window: &mut Window,
-    table: &mut Table<R>,
-    events: &[Event],
-    runner: &W,
-) -> Result<Vec<Reply>, AllocError> {
-    let mut replies = Vec::new(window.alloc);
-    window.begin();
-    let ran = run(window.alloc, table, events, runner, &mut replies);
-    window.end();
-    if ran.is_err() {
-        refuse_all(&mut replies, events.len())?;
-    }
-    Ok(replies)
 }
 
 /// Tells replies, but those that say that an event was not processed.
@@ -63,56 +75,48 @@ fn push_replies(text: &mut Told, replies: &[Reply]) {
     }
 }
 
-/// A table on which the events are run in the window: what it shows, and the replies.
-fn run_on<R: StateRepresentation, W: Runner>(
-    window: &mut Window,
-    table: &mut Table<R>,
-    events: &[Event],
-    runner: &W,
-    turn: &mut Turn,
-) -> Result<Vec<Reply>, AllocError> {
-    push_table(window.alloc, &mut turn.before, table);
-    let replies = replies_of(window, table, events, runner)?;
-    turn.met = window.met;
-    push_replies(&mut turn.first.answer, replies.as_slice());
-    push_table(window.alloc, &mut turn.first.after, table);
-    push_sessions(window.alloc, &mut turn.end, table, runner);
-    Ok(replies)
+impl<R: StateRepresentation, W: Runner> Running<'_, R, W> {
+    /// Runs the events in the window. Where all were refused, each has the reply that it was not processed; false where
+    /// memory runs out for these replies.
+    fn run(&mut self, window: &mut Window) -> bool {
+        let (alloc, events) = (window.alloc, self.events.as_slice());
+        window.begin();
+        let ran = run(
+            alloc,
+            &mut self.table,
+            events,
+            self.runner,
+            &mut self.replies,
+        );
+        window.end();
+        match ran {
+            Ok(()) => true,
+            Err(_) => refuse_all(&mut self.replies, self.events.len()).is_ok(),
+        }
+    }
+
+    /// Runs the events in the window, and tells the replies and the table.
+    fn show(&mut self, window: &mut Window, turn: &mut Turn) {
+        push_table(window.alloc, &mut turn.before, &self.table);
+        let has_replies = self.run(window);
+        turn.met = window.met;
+        turn.first.answer.keep(has_replies);
+        push_replies(&mut turn.first.answer, self.replies.as_slice());
+        push_table(window.alloc, &mut turn.first.after, &self.table);
+        push_sessions(window.alloc, &mut turn.end, &mut self.table, self.runner);
+    }
 }
 
-/// A run of events on a new table: what it shows, and the replies.
-fn ran_on<R: StateRepresentation, W: Runner>(
-    window: &mut Window,
-    scene: Scene<'_>,
-    events: &[Event],
-    runner: &W,
-    turn: &mut Turn,
-) -> Result<Vec<Reply>> {
-    let mut table: Table<R> = table_of(window.alloc, scene.recording(), false)?;
-    Ok(run_on(window, &mut table, events, runner, turn)?)
-}
-
-/// A run of the events, but those with replies that say that they were not processed: what it shows, and the replies.
-fn ran<R: StateRepresentation, W: Runner>(
-    window: &mut Window,
-    scene: Scene<'_>,
-    left_out: &[Reply],
-    runner: &W,
-    turn: &mut Turn,
-) -> Result<Vec<Reply>> {
-    let events = events_of(window.alloc, scene, left_out)?;
-    ran_on::<R, W>(window, scene, events.as_slice(), runner, turn)
-}
-
-/// A run with memory, of the events but those with replies that say that they were not processed.
+/// What a run with memory shows, of the events but those with replies that say that they were not processed.
 fn ran_without<R: StateRepresentation, W: Runner>(
     mut window: Window,
     scene: Scene<'_>,
     left_out: &[Reply],
     runner: &W,
 ) -> Result<Turn> {
+    let mut running: Running<'_, R, W> = run_of(window.alloc, scene, left_out, runner)?;
     let mut turn = Turn::new(window.alloc);
-    let _ = ran::<R, W>(&mut window, scene, left_out, runner, &mut turn)?;
+    running.show(&mut window, &mut turn);
     Ok(turn)
 }
 
@@ -128,6 +132,20 @@ fn compare(turn: &mut Turn, others: &Turn, whole: Turn) {
     turn.end = whole.end;
 }
 
+/// Compares a run in which events were not processed with one without these events.
+fn show_others<R: StateRepresentation, W: Runner>(
+    window: &Window,
+    scene: Scene<'_>,
+    turn: &mut Turn,
+    left_out: &[Reply],
+    runner: &W,
+) -> Result<()> {
+    let others = ran_without::<R, W>(window.with_memory(), scene, left_out, runner)?;
+    let whole = ran_without::<R, W>(window.with_memory(), scene, &[], runner)?;
+    compare(turn, &others, whole);
+    Ok(())
+}
+
 /// A run.
 pub(crate) fn show<R: StateRepresentation, W: Runner>(
     window: &mut Window,
@@ -135,13 +153,10 @@ pub(crate) fn show<R: StateRepresentation, W: Runner>(
     turn: &mut Turn,
     runner: &W,
 ) -> Result<()> {
-    let replies = ran::<R, W>(window, scene, &[], runner, turn)?;
-    if !replies.iter().any(is_out_of_memory) {
+    let mut running: Running<'_, R, W> = run_of(window.alloc, scene, &[], runner)?;
+    running.show(window, turn);
+    if !running.replies.iter().any(is_out_of_memory) {
         return Ok(());
     }
-    let left_out = replies.as_slice();
-    let others = ran_without::<R, W>(window.with_memory(), scene, left_out, runner)?;
-    let whole = ran_without::<R, W>(window.with_memory(), scene, &[], runner)?;
-    compare(turn, &others, whole);
-    Ok(())
+    show_others::<R, W>(window, scene, turn, running.replies.as_slice(), runner)
 }

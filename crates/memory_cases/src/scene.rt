@@ -48,7 +48,7 @@ impl<'a> Scene<'a> {
         self.behind("trace ")
     }
 
-    /// The stages of the block, or no text.
+    /// The stages of the block, or the one that is asked for; or no text.
     pub(crate) fn stages(self) -> &'a str {
         self.behind("stages ")
     }

@@ -75,13 +75,11 @@ impl<R: StateRepresentation, W: Runner> Serving<'_, R, W> {
     /// The call.
     fn push_answer(&self, window: &mut Window, text: &mut Told) -> bool {
         let alloc = window.alloc;
-        let Ok(graph) = graph_of::<R>(alloc, self.scene.recording()) else {
-            text.keep(false);
-            return false;
-        };
         let Ok(mut sink) = room(alloc) else {
-            text.keep(false);
-            return false;
+            return text.lose();
+        };
+        let Ok(graph) = graph_of::<R>(alloc, self.scene.recording()) else {
+            return text.lose();
         };
         window.begin();
         let answer = self.answer(alloc, graph, &mut sink);

@@ -19,6 +19,17 @@ pub(crate) fn graph_of<R: Representation>(alloc: Global, recording: &str) -> Res
     }
 }
 
+/// The same graph, held.
+pub(crate) fn held_graph_of<R: Representation>(
+    alloc: Global,
+    recording: &str,
+) -> Result<Held<Graph<R>>>
+    ensures { IfOk result (λ graph. IsRanked graph.places) }
+{
+    let graph = graph_of(alloc, recording)?;
+    Ok(Held::new(alloc, graph)?)
+}
+
 /// The step of a text that is not refused.
 fn step_of(alloc: Global, step: &str) -> Result<Step> {
     match read_step(alloc, step.as_bytes()) {

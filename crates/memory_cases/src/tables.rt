@@ -1,4 +1,7 @@
 //! Events on a table, and commits of drafts.
+ghost use Rattle.std.specs.Prelude.{IfOk};
+ghost use Rattle.session_core.specs.Adding.{IsOfState};
+
 use crate::drafts::loaded;
 use crate::refusals::Window;
 use crate::scene::Scene;
@@ -8,13 +11,13 @@ use crate::told::Told;
 use crate::turn::{Turn, shown};
 use anyhow::Result;
 use level_pool::Runner;
-use session_core::{Entry, Event, Reply, Table, TableFault, draft_of};
+use session_core::{Entry, Event, Ready, Reply, Table, TableFault, draft_of};
 use share_tree::Held;
 use stage_graph::Edits;
 use std::alloc::Global;
 use version_store::{Draft, StateRepresentation, Version};
 
-/// The client whose commits are refused.
+/// The client whose calls are made where a call takes one.
 const CLIENT: u32 = 3;
 
 /// A recording of another graph than those of the cases.
@@ -93,31 +96,8 @@ pub(crate) fn push_sessions<R: StateRepresentation, W: Runner>(
     }
 }
 
-/// Tells a version that was committed, or why it wasn't.
-fn push_committed<R: StateRepresentation>(
-    alloc: Global,
-    text: &mut Told,
-    answer: &Result<Version<R>, TableFault>,
-) -> bool {
-    match answer {
-        Ok(version) => push_version(alloc, text, version),
-        Err(TableFault::Memory) => return true,
-        Err(TableFault::Refused(refusal)) => text.push(refusal.text()),
-    }
-    false
-}
-
-/// An event.
-fn push_event<R: StateRepresentation, W: Runner>(
-    window: &mut Window,
-    text: &mut Told,
-    runner: &W,
-    table: &mut Table<R>,
-    event: &Event,
-) -> bool {
-    window.begin();
-    let reply = table.take(window.alloc, event, runner);
-    window.end();
+/// Tells a reply, unless memory ran out.
+fn push_reply(text: &mut Told, reply: Reply) -> bool {
     if reply == Reply::Memory {
         return true;
     }
@@ -125,53 +105,208 @@ fn push_event<R: StateRepresentation, W: Runner>(
     false
 }
 
-/// A commit.
-fn push_commit<R: StateRepresentation>(
-    window: &mut Window,
+/// Tells a version that was committed, or why it wasn't.
+fn push_committed<R: StateRepresentation>(
+    alloc: Global,
     text: &mut Told,
-    table: &mut Table<R>,
-    session: u32,
-    draft: &Draft<R>,
+    answer: Result<Version<R>, TableFault>,
 ) -> bool {
-    window.begin();
-    let version = table.commit(CLIENT, session, draft);
-    window.end();
-    push_committed(window.alloc, text, &version)
+    match answer {
+        Ok(version) => push_version(alloc, text, &version),
+        Err(fault) => return push_reply(text, fault.reply()),
+    }
+    false
+}
+
+/// Tells the version of a commit that is prepared, or why there is none.
+fn push_ready<R: StateRepresentation>(
+    alloc: Global,
+    text: &mut Told,
+    answer: Result<Ready<R>, TableFault>,
+) -> bool {
+    match answer {
+        Ok(ready) => push_version(alloc, text, ready.version()),
+        Err(fault) => return push_reply(text, fault.reply()),
+    }
+    false
+}
+
+/// Tells the number of a version that was committed, or why it wasn't.
+fn push_finished(text: &mut Told, answer: Result<u32, TableFault>) -> bool {
+    match answer {
+        Ok(number) => text.push_number(number),
+        Err(fault) => return push_reply(text, fault.reply()),
+    }
+    false
+}
+
+/// The reply to an event as a call of the client; a commit is client 0's.
+fn reply_by_client<R: StateRepresentation, W: Runner>(
+    alloc: Global,
+    table: &mut Table<R>,
+    runner: &W,
+    event: &Event,
+) -> Reply {
+    match event {
+        Event::Open { session, version } => match table.open(CLIENT, *session, *version) {
+            Ok(()) => Reply::Opened(*version),
+            Err(fault) => fault.reply(),
+        },
+        Event::Head { session } => match table.head(CLIENT, *session) {
+            Ok(version) => Reply::At(version.number()),
+            Err(fault) => fault.reply(),
+        },
+        Event::Undo { session } => match table.undo(CLIENT, *session) {
+            Ok(number) => Reply::Undone(number),
+            Err(fault) => fault.reply(),
+        },
+        Event::Close { session } => match table.close(CLIENT, *session) {
+            Ok(()) => Reply::Closed,
+            Err(fault) => fault.reply(),
+        },
+        Event::Commit { .. } => table.take(alloc, event, runner),
+    }
 }
 
 /// An event on a table.
-fn show_event_on<R: StateRepresentation, W: Runner>(
-    window: &mut Window,
-    turn: &mut Turn,
-    runner: &W,
-    table: &mut Table<R>,
-    event: &Event,
-) {
-    shown!(
-        turn,
-        window,
-        |text| push_table(window.alloc, text, table),
-        |window, text| push_event(window, text, runner, table, event)
-    );
-    push_sessions(window.alloc, &mut turn.end, table, runner);
+#[derive(Drop)]
+struct Taking<'a, R: StateRepresentation, W> {
+    runner: &'a W,
+    is_by_client: bool,
+    event: Event,
+    table: Table<R>,
 }
 
-/// A commit on a table.
-fn show_commit_on<R: StateRepresentation, W: Runner>(
-    window: &mut Window,
-    turn: &mut Turn,
-    runner: &W,
-    table: &mut Table<R>,
+impl<R: StateRepresentation, W: Runner> Taking<'_, R, W> {
+    /// The call.
+    fn push_answer(&mut self, window: &mut Window, text: &mut Told) -> bool {
+        let (alloc, runner) = (window.alloc, self.runner);
+        window.begin();
+        let reply = match self.is_by_client {
+            true => reply_by_client(alloc, &mut self.table, runner, &self.event),
+            false => self.table.take(alloc, &self.event, runner),
+        };
+        window.end();
+        push_reply(text, reply)
+    }
+
+    fn show(&mut self, window: &mut Window, turn: &mut Turn) {
+        shown!(
+            turn,
+            window,
+            |text| push_table(window.alloc, text, &self.table),
+            |window, text| self.push_answer(window, text)
+        );
+        push_sessions(window.alloc, &mut turn.end, &mut self.table, self.runner);
+    }
+}
+
+/// A commit of edits on a table.
+#[derive(Drop)]
+struct Committing<'a, R: StateRepresentation, W> {
+    runner: &'a W,
+    scene: Scene<'a>,
     session: u32,
-    draft: &Draft<R>,
-) {
-    shown!(
-        turn,
-        window,
-        |text| push_table(window.alloc, text, table),
-        |window, text| push_commit(window, text, table, session, draft)
-    );
-    push_sessions(window.alloc, &mut turn.end, table, runner);
+    base: u32,
+    edits: Held<Edits>,
+    table: Table<R>,
+}
+
+/// The draft that edits make of a version of another graph.
+fn foreign_draft<R: StateRepresentation, W: Runner>(
+    alloc: Global,
+    edits: &Held<Edits>,
+    runner: &W,
+) -> Result<Draft<R>> {
+    let other = loaded(alloc, OTHER)?;
+    Ok(draft_of(alloc, &other, edits, runner)?)
+}
+
+impl<R: StateRepresentation, W: Runner> Committing<'_, R, W> {
+    /// The draft that the edits make of the table's version.
+    fn own_draft(&self, alloc: Global) -> Result<Draft<R>, TableFault>
+        ensures { IfOk result (λ draft. IsOfState self.now.table.state self.now.session draft) }
+    {
+        let version = self.table.version(self.base)?;
+        match draft_of(alloc, version, &self.edits, self.runner) {
+            Ok(draft) => Ok(draft),
+            Err(fault) => Err(fault),
+        }
+    }
+
+    /// The commit of a draft.
+    fn push_commit(&mut self, window: &mut Window, text: &mut Told, draft: &Draft<R>) -> bool {
+        window.begin();
+        let version = self.table.commit(CLIENT, self.session, draft);
+        window.end();
+        push_committed(window.alloc, text, version)
+    }
+
+    /// A commit that is prepared, and given up.
+    fn push_prepared(&mut self, window: &mut Window, text: &mut Told, draft: &Draft<R>) -> bool
+        requires { IsOfState self.old.table.state self.old.session draft.now }
+    {
+        window.begin();
+        let ready = self.table.prepare(CLIENT, self.session, draft);
+        window.end();
+        push_ready(window.alloc, text, ready)
+    }
+
+    /// Prepares a commit, and finishes it.
+    fn finish(&mut self, draft: &Draft<R>) -> Result<u32, TableFault>
+        requires { IsOfState self.old.table.state self.old.session draft.now }
+    {
+        let ready = self.table.prepare(CLIENT, self.session, draft)?;
+        Ok(self.table.finish(ready))
+    }
+
+    /// A commit that is prepared, and finished.
+    fn push_finished(&mut self, window: &mut Window, text: &mut Told, draft: &Draft<R>) -> bool
+        requires { IsOfState self.old.table.state self.old.session draft.now }
+    {
+        window.begin();
+        let number = self.finish(draft);
+        window.end();
+        push_finished(text, number)
+    }
+
+    /// The commit of a draft of another graph's version.
+    fn push_foreign(&mut self, window: &mut Window, text: &mut Told) -> bool {
+        match foreign_draft(window.alloc, &self.edits, self.runner) {
+            Ok(draft) => self.push_commit(window, text, &draft),
+            Err(_) => text.lose(),
+        }
+    }
+
+    /// The commit of a draft of the table's own version.
+    fn push_own(&mut self, window: &mut Window, text: &mut Told) -> bool {
+        let Ok(draft) = self.own_draft(window.alloc) else {
+            return text.lose();
+        };
+        match self.scene.call {
+            "prepare" => self.push_prepared(window, text, &draft),
+            "finish" => self.push_finished(window, text, &draft),
+            _ => self.push_commit(window, text, &draft),
+        }
+    }
+
+    /// The call.
+    fn push_answer(&mut self, window: &mut Window, text: &mut Told) -> bool {
+        match self.scene.call {
+            "foreign" => self.push_foreign(window, text),
+            _ => self.push_own(window, text),
+        }
+    }
+
+    fn show(&mut self, window: &mut Window, turn: &mut Turn) {
+        shown!(
+            turn,
+            window,
+            |text| push_table(window.alloc, text, &self.table),
+            |window, text| self.push_answer(window, text)
+        );
+        push_sessions(window.alloc, &mut turn.end, &mut self.table, self.runner);
+    }
 }
 
 /// Takes the events of the steps before the last.
@@ -212,65 +347,23 @@ fn table_before<R: StateRepresentation, W: Runner>(
     Ok(table)
 }
 
-/// The draft that edits make of a version of another graph.
-fn foreign_draft<R: StateRepresentation, W: Runner>(
-    alloc: Global,
-    edits: &Held<Edits>,
-    runner: &W,
-) -> Result<Draft<R>> {
-    let other = loaded(alloc, OTHER)?;
-    Ok(draft_of(alloc, &other, edits, runner)?)
-}
-
-/// The draft that edits make of a table's version.
-fn own_draft<R: StateRepresentation, W: Runner>(
-    alloc: Global,
-    table: &Table<R>,
-    base: u32,
-    edits: &Held<Edits>,
-    runner: &W,
-) -> Result<Draft<R>> {
-    Ok(draft_of(alloc, table.version(base)?, edits, runner)?)
-}
-
-/// A commit of a draft, of another graph's version if the call is so named.
-fn show_draft_on<R: StateRepresentation, W: Runner>(
+/// A commit, after the steps before it.
+fn show_commit<'a, R: StateRepresentation, W: Runner>(
     window: &mut Window,
-    scene: Scene<'_>,
+    scene: Scene<'a>,
     turn: &mut Turn,
-    runner: &W,
-    table: &mut Table<R>,
+    runner: &'a W,
 ) -> Result<()> {
     let (session, base, edits) = commit_of(window.alloc, scene.step())?;
-    let draft = match scene.call {
-        "foreign" => foreign_draft(window.alloc, &edits, runner),
-        _ => own_draft(window.alloc, table, base, &edits, runner),
+    let mut committing = Committing::<R, W> {
+        runner,
+        scene,
+        session,
+        base,
+        edits,
+        table: table_before(window.alloc, scene, runner)?,
     };
-    show_commit_on(window, turn, runner, table, session, &draft?);
-    Ok(())
-}
-
-/// A commit, after the steps before it.
-fn show_commit<R: StateRepresentation, W: Runner>(
-    window: &mut Window,
-    scene: Scene<'_>,
-    turn: &mut Turn,
-    runner: &W,
-) -> Result<()> {
-    let mut table: Table<R> = table_before(window.alloc, scene, runner)?;
-    show_draft_on(window, scene, turn, runner, &mut table)
-}
-
-/// The last step's event.
-fn show_step_on<R: StateRepresentation, W: Runner>(
-    window: &mut Window,
-    scene: Scene<'_>,
-    turn: &mut Turn,
-    runner: &W,
-    table: &mut Table<R>,
-) -> Result<()> {
-    let event = event_of(window.alloc, scene.step())?;
-    show_event_on(window, turn, runner, table, &event);
+    committing.show(window, turn);
     Ok(())
 }
 
@@ -281,8 +374,14 @@ fn show_event<R: StateRepresentation, W: Runner>(
     turn: &mut Turn,
     runner: &W,
 ) -> Result<()> {
-    let mut table: Table<R> = table_before(window.alloc, scene, runner)?;
-    show_step_on(window, scene, turn, runner, &mut table)
+    let mut taking = Taking::<R, W> {
+        runner,
+        is_by_client: scene.call == "client",
+        event: event_of(window.alloc, scene.step())?,
+        table: table_before(window.alloc, scene, runner)?,
+    };
+    taking.show(window, turn);
+    Ok(())
 }
 
 /// An event on a table, or a commit.
@@ -293,7 +392,7 @@ pub(crate) fn show<R: StateRepresentation, W: Runner>(
     runner: &W,
 ) -> Result<()> {
     match scene.call {
-        "take" => show_event::<R, W>(window, scene, turn, runner),
+        "take" | "client" => show_event::<R, W>(window, scene, turn, runner),
         _ => show_commit::<R, W>(window, scene, turn, runner),
     }
 }

@@ -46,6 +46,12 @@ impl Told {
         self.is_lost = self.is_lost || !is_told;
     }
 
+    /// A piece is left out. No call was made in its place, so none was out of memory.
+    pub(crate) fn lose(&mut self) -> bool {
+        self.is_lost = true;
+        false
+    }
+
     /// Adds a piece.
     pub(crate) fn push(&mut self, piece: &str) {
         let is_told = self.text.push_str(piece).is_ok();

@@ -1,6 +1,7 @@
-//! What is asked of a version.
+//! What is asked of a version, and reports of it.
 use crate::drafts::{drafted, loaded};
 use crate::refusals::Window;
+use crate::reports::push_report;
 use crate::scene::Scene;
 use crate::texts::{push_places, push_version};
 use crate::told::Told;
@@ -8,27 +9,15 @@ use crate::turn::{Turn, shown};
 use anyhow::Result;
 use level_pool::Runner;
 use std::alloc::{AllocError, Global};
-use version_store::{StateRepresentation, Version};
+use version_store::{Draft, StateRepresentation, Version};
 
-/// The version that a step makes of another one, as version 1.
-pub(crate) fn next_of<R: StateRepresentation, W: Runner>(
-    alloc: Global,
-    runner: &W,
-    first: &Version<R>,
-    step: &str,
-) -> Result<Version<R>> {
-    let draft = drafted(alloc, runner, first, step)?;
-    Ok(draft.numbered(1)?)
-}
-
-/// The version that the step makes of version 0 of the recording.
-pub(crate) fn made_by<R: StateRepresentation, W: Runner>(
-    alloc: Global,
-    runner: &W,
-    scene: Scene<'_>,
-) -> Result<Version<R>> {
-    let first = loaded(alloc, scene.recording())?;
-    next_of(alloc, runner, &first, scene.step())
+/// Version 0 of a recording, the version that a step makes of it, and what is asked of that one.
+#[derive(Drop)]
+pub(crate) struct Asked<'a, R: StateRepresentation, W> {
+    pub(crate) runner: &'a W,
+    pub(crate) scene: Scene<'a>,
+    pub(crate) first: &'a Version<R>,
+    pub(crate) last: Version<R>,
 }
 
 /// Tells places that were touched, unless memory ran out.
@@ -40,70 +29,84 @@ fn push_sorted(text: &mut Told, answer: &Result<Vec<u32>, AllocError>) -> bool {
     false
 }
 
-/// A chain of blame, or a path.
-fn push_asked<R: StateRepresentation>(
-    window: &mut Window,
-    text: &mut Told,
-    scene: Scene<'_>,
-    version: &Version<R>,
-) -> bool {
-    window.begin();
-    let places = match scene.call {
-        "blame" => version.blame(window.alloc, scene.number),
-        _ => version.path(window.alloc, scene.number),
-    };
-    window.end();
-    push_places(text, &places)
-}
+impl<R: StateRepresentation, W: Runner> Asked<'_, R, W> {
+    /// A chain of blame, or a path.
+    fn push_places(&self, window: &mut Window, text: &mut Told) -> bool {
+        let (alloc, place) = (window.alloc, self.scene.number);
+        window.begin();
+        let places = match self.scene.call {
+            "blame" => self.last.blame(alloc, place),
+            _ => self.last.path(alloc, place),
+        };
+        window.end();
+        push_places(text, &places)
+    }
 
-/// What the edits touched.
-fn push_touched<R: StateRepresentation>(
-    window: &mut Window,
-    text: &mut Told,
-    version: &Version<R>,
-) -> bool {
-    window.begin();
-    let touched = version.touched_by_place(window.alloc);
-    window.end();
-    push_sorted(text, &touched)
-}
+    /// What the edits touched.
+    fn push_touched(&self, window: &mut Window, text: &mut Told) -> bool {
+        window.begin();
+        let touched = self.last.touched_by_place(window.alloc);
+        window.end();
+        push_sorted(text, &touched)
+    }
 
-/// The call.
-fn push_answer<R: StateRepresentation>(
-    window: &mut Window,
-    text: &mut Told,
-    scene: Scene<'_>,
-    version: &Version<R>,
-) -> bool {
-    match scene.call {
-        "touched" => push_touched(window, text, version),
-        _ => push_asked(window, text, scene, version),
+    /// The call.
+    fn push_answer(&self, window: &mut Window, text: &mut Told) -> bool {
+        match (self.scene.group, self.scene.call) {
+            ("version", "touched") => self.push_touched(window, text),
+            ("version", _) => self.push_places(window, text),
+            _ => push_report(window, text, self),
+        }
+    }
+
+    fn show(&self, window: &mut Window, turn: &mut Turn) {
+        shown!(
+            turn,
+            window,
+            |text| push_version(window.alloc, text, &self.last),
+            |window, text| self.push_answer(window, text)
+        )
     }
 }
 
-/// What is asked of a version.
-fn show_on<R: StateRepresentation>(
+/// What is asked of a draft as version 1.
+fn show_drafted<'a, R: StateRepresentation, W: Runner>(
+    window: &mut Window,
+    scene: Scene<'a>,
+    turn: &mut Turn,
+    runner: &'a W,
+    first: &'a Version<R>,
+    draft: &Draft<R>,
+) -> Result<()> {
+    let asked = Asked {
+        runner,
+        scene,
+        first,
+        last: draft.numbered(1)?,
+    };
+    asked.show(window, turn);
+    Ok(())
+}
+
+/// What is asked of the version that the step makes of another one.
+fn show_after<R: StateRepresentation, W: Runner>(
     window: &mut Window,
     scene: Scene<'_>,
     turn: &mut Turn,
-    version: &Version<R>,
-) {
-    shown!(
-        turn,
-        window,
-        |text| push_version(window.alloc, text, version),
-        |window, text| push_answer(window, text, scene, version)
-    )
+    runner: &W,
+    first: &Version<R>,
+) -> Result<()> {
+    let draft = drafted(window.alloc, runner, first, scene.step())?;
+    show_drafted(window, scene, turn, runner, first, &draft)
 }
 
-/// What is asked of the version that the step makes.
+/// What is asked of the version that the step makes of version 0 of the recording.
 pub(crate) fn show<R: StateRepresentation, W: Runner>(
     window: &mut Window,
     scene: Scene<'_>,
     turn: &mut Turn,
     runner: &W,
 ) -> Result<()> {
-    let version = made_by::<R, W>(window.alloc, runner, scene)?;
-    show_on(window, scene, turn, &version);
-    Ok(())
+    let first: Version<R> = loaded(window.alloc, scene.recording())?;
+    show_after(window, scene, turn, runner, &first)
 }

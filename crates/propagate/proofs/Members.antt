@@ -44,6 +44,13 @@ among_append_left s xs ys h = among_append s xs ys ∙ or_left (is_among s xs) (
 pub among_append_right : (s : ℕ) (xs ys : List ℕ) → is_among s ys ≡ true → is_among s (xs ++ ys) ≡ true
 among_append_right s xs ys h = among_append s xs ys ∙ or_right (is_among s xs) (is_among s ys) h
 
+-- all feeds of a stage without inner stages are its sources
+pub feed_is_source : (feed : ℕ) (sources inner : List ℕ) → inner ≡ [] → is_among feed (sources ++ inner) ≡ true → is_among feed sources ≡ true
+feed_is_source feed sources inner none among =
+    ⊎_elim (λ here. here) (λ there. absurd (nowhere (ap (is_among feed) (sym none) ∙ there))) (among_append_cases feed sources inner among) where
+      nowhere : false ≡ true → ⊥
+      nowhere e = cc
+
 pub among_here : (x : ℕ) (xs : List ℕ) → is_among x (x ∷ xs) ≡ true
 among_here x xs = or_left (x == x) (is_among x xs) (eq-eqb x x refl)
 

@@ -4,6 +4,7 @@ use Rattle.std.specs.Prelude.{◌==◌, ◌&&◌, ◌||◌, Option, Some, None, 
 use Rattle.std.proofs.lemmas.Option.{get_or_from_slice_get}
 use Rattle.std.specs.List.{list_any}
 use Rattle.std.proofs.lemmas.Bool.{eqb-true, eq-eqb, and_parts, and_from, true≢false, false≢true}
+use Rattle.std.proofs.lemmas.List.Elements.{Contains-get_or}
 use Rattle.std.proofs.lemmas.List.Folds.{list_any_more}
 use Rattle.stage_graph.specs.declared.stage.Stage.{Stage}
 use Rattle.stage_graph.specs.Plain.{stage_at, feeds_of_place, feeds_at, uses}
@@ -98,6 +99,13 @@ readers_same reads_it dependents i s was within r =
 uses_among : (place : ℕ) (here : Option Stage) → uses place here ≡ is_among place (feeds_of_place here)
 uses_among place None = refl
 uses_among place (Some stage) = refl
+
+-- a dependent of a place has it as a feed
+pub dependent_uses : (stages : Stages) (u i : ℕ) → i < length (dependents stages u) → is_among u (feeds_at stages (get_or (dependents stages u) i 0)) ≡ true
+dependent_uses stages u i within =
+    let dependent = get_or (dependents stages u) i 0 in
+    let (there, f) = among_filter (λ dependent. uses u (stage_at stages dependent)) dependent (all_places stages) (contains_among dependent (dependents stages u) (Contains-get_or (dependents stages u) i 0 within)) in
+    sym (uses_among u (stage_at stages dependent)) ∙ f
 
 -- the dependents of a place that have read it, in terms of the place's feeds
 pub among_readers_all : (stages : Stages) (reads_it : ℕ → Bool) (u s : ℕ) → among_readers reads_it (dependents stages u) s ≡ (is_among u (feeds_at stages s) && reads_it s)

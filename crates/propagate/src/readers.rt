@@ -1,5 +1,5 @@
 //! Marks of the places that have to be computed: the edited stages, and those that read a stage which changed.
-ghost use Rattle.std.specs.Prelude.{◌≡◌, ◌<◌, ◌&&◌, ◌||◌, ◌==◌, ℕ, List, IfOk, OnOk, All, is_some, length, map};
+ghost use Rattle.std.specs.Prelude.{◌≡◌, ◌<◌, ◌&&◌, ◌||◌, ◌==◌, ℕ, List, IfOk, OnOk, All, is_some, length, map, true};
 ghost use Rattle.std.specs.List.{list_any};
 ghost use Rattle.stage_graph.specs.Plain.{stage_at, feeds_at, IsLive};
 ghost use Rattle.stage_graph.specs.Walk.{rank};
@@ -62,14 +62,15 @@ pub(crate) fn first_marks<R: OrderRepresentation>(
     Ok(marks)
 }
 
-/// Whether the stage at a place has read a feed.
+/// Whether the stage at a place has read one of its feeds.
 fn is_reader<R: StateRepresentation>(
     graph: &Graph<R>,
     states: &States<R>,
     feed: u32,
     place: u32,
 ) -> bool
-    requires { length states.now ≡ length graph.now.places }
+    requires count { length states.now ≡ length graph.now.places }
+    requires feed { is_among feed (feeds_at graph.now.places place) ≡ true }
     ensures { result ≡ has_read graph.now.places (state_at states.now) feed place }
 {
     match graph.stage(place) {

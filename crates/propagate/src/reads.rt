@@ -1,6 +1,7 @@
 //! Which feeds a stage has read.
-ghost use Rattle.std.specs.Prelude.{◌≡◌, slice_get};
+ghost use Rattle.std.specs.Prelude.{◌≡◌, slice_get, true};
 ghost use Rattle.std.specs.Option.{option_to_list};
+ghost use Rattle.stage_graph.specs.Plain.{feeds_of};
 ghost use Rattle.rank_order.specs.Lists.{is_among};
 ghost use Rattle.propagate.specs.Reach.{read_places};
 
@@ -17,18 +18,28 @@ fn is_picked(place: u32, places: &[u32], index: u32) -> bool
     (index as usize) < places.len() && place == places[index as usize]
 }
 
-/// Whether a stage whose state has these reads has read the place.
+/// Whether a feed of a stage is a source of it. All feeds of a stage without inner stages are, so its sources are not searched then.
+#[tactic(auto, using(crate::proofs::Members::feed_is_source))]
+#[inline(always)]
+fn is_source(stage: &Stage, feed: u32) -> bool
+    requires { is_among feed (feeds_of stage.now) ≡ true }
+    ensures { result ≡ is_among feed stage.now.sources }
+{
+    stage.inner.as_slice().is_empty() || is_among(feed, stage.sources.as_slice())
+}
+
+/// Whether a stage whose state has these reads has read one of its feeds.
 #[tactic(auto, using(crate::proofs::Members::among_append))]
 #[inline(always)]
-pub(crate) fn has_read(stage: &Stage, reads: Reads, place: u32) -> bool
-    ensures { result ≡ is_among place (read_places stage.now reads) }
+pub(crate) fn has_read(stage: &Stage, reads: Reads, feed: u32) -> bool
+    requires { is_among feed (feeds_of stage.now) ≡ true }
+    ensures { result ≡ is_among feed (read_places stage.now reads) }
 {
     match reads {
         Reads::Nothing => false,
-        Reads::Sources => is_among(place, stage.sources.as_slice()),
+        Reads::Sources => is_source(stage, feed),
         Reads::Picked(index) => {
-            is_among(place, stage.sources.as_slice())
-                || is_picked(place, stage.inner.as_slice(), index)
+            is_source(stage, feed) || is_picked(feed, stage.inner.as_slice(), index)
         }
     }
 }

@@ -1,3 +1,4 @@
+pub mod Converting
 pub mod JsonReading
 pub mod Operands
 pub mod ReadBack

@@ -1,6 +1,7 @@
 pub mod ExpressionOf
 pub mod FaultTexts
 pub mod Forms
+pub mod JsonTrees
 pub mod Members
 pub mod MemberTexts
 pub mod Reads

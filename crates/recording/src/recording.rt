@@ -7,8 +7,8 @@ ghost use Rattle.recording.specs.RecordingOf.{form_in, mode_in, stage_of, stages
 ghost use Rattle.recording.specs.Reads.{IsRead, IsNamed};
 
 use crate::from_json::FromJson;
-use crate::json::read_json;
 use crate::object::optional;
+use crate::parse::read_json;
 use crate::stage::{FormNumber, read_spec};
 use crate::unread::Unread;
 use crate::{Fault, Member};

@@ -7,10 +7,11 @@ ghost use Rattle.recording.specs.StepOf.{step_name_of, step_name_in, report_name
 
 use crate::edits::{EditName, read_edit, read_edits};
 use crate::from_json::FromJson;
-use crate::json::read_json;
 use crate::object::{if_present, required};
+use crate::parse::read_json_in;
 use crate::unread::Unread;
 use crate::{Fault, Member};
+use json::Scratch;
 use serde_json::Value;
 use stage_graph::{Edits, Name};
 use std::alloc::Global;
@@ -258,11 +259,35 @@ fn read_value(alloc: Global, value: &Value) -> Result<Step, Fault>
     }
 }
 
-/// The step in the bytes of a line, or the first fault in them: no JSON, the first member that doesn't have its form,
-/// or last of all a list of no edits or of more than 64.
+/// Reads steps, in room that is kept from one step to the next: to make it anew takes longer than to read a step.
+#[derive(Drop)]
+pub struct StepReader {
+    alloc: Global,
+    room: Scratch,
+}
+
+impl StepReader {
+    /// A reader of steps. It asks for memory only as it reads.
+    pub fn new(alloc: Global) -> StepReader {
+        StepReader {
+            alloc,
+            room: Scratch::new(alloc),
+        }
+    }
+
+    /// The step in the bytes of a line, or the first fault in them: no JSON, the first member that doesn't have its
+    /// form, or last of all a list of no edits or of more than 64.
+    pub fn read(&mut self, bytes: &[u8]) -> Result<Step, Fault>
+        ensures { IsRead result (step_of bytes.now) }
+    {
+        let value = read_json_in(self.alloc, bytes, &mut self.room)?;
+        read_value(self.alloc, &value)
+    }
+}
+
+/// The one step in these bytes, or the first fault in them, as `StepReader` reads it.
 pub fn read_step(alloc: Global, bytes: &[u8]) -> Result<Step, Fault>
     ensures { IsRead result (step_of bytes.now) }
 {
-    let value = read_json(alloc, bytes)?;
-    read_value(alloc, &value)
+    StepReader::new(alloc).read(bytes)
 }

@@ -1,7 +1,7 @@
 //! Why a value was not read from JSON.
 ghost use Rattle.std.specs.Prelude.{Some, Ok, Err};
 
-use std::alloc::AllocError;
+use std::alloc::{AllocError, AllocFailed};
 use thiserror::Error;
 
 /// Why a value was not read from JSON.
@@ -20,6 +20,17 @@ impl From<AllocError> for Unread {
     ghost from_gives = { λ _ fault. fault ≡ Memory };
 
     fn from(_: AllocError) -> Unread {
+        Unread::Memory
+    }
+}
+
+impl<T: Drop> From<AllocFailed<T>> for Unread {
+    ghost use Rattle.std.specs.Prelude.{◌≡◌};
+    ghost use Rattle.recording.specs.declared.unread.Unread.TheVariants.{Memory};
+
+    ghost from_gives = { λ _ fault. fault ≡ Memory };
+
+    fn from(_: AllocFailed<T>) -> Unread {
         Unread::Memory
     }
 }

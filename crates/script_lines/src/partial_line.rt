@@ -5,6 +5,7 @@ ghost use Rattle.script_lines.specs.Lines.{IsBegun, IsUnbroken, comes_after, lin
 ghost use Rattle.script_lines.specs.Seen.{seen};
 
 use crate::line::{Line, is_blank};
+use memchr::memchr;
 use std::alloc::{AllocError, Global};
 use std::marker::Model;
 
@@ -85,6 +86,6 @@ pub fn split_line(text: &[u8]) -> Option<(&[u8], &[u8])>
     ensures some { IfSome result (λ parts. IsUnbroken parts.0.now × (text.now ≡ parts.0.now ++ 10 ∷ parts.1.now)) }
     ensures none { IsNone result → IsUnbroken text.now }
 {
-    let end = text.iter().position(|byte| *byte == b'\n')?;
+    let end = memchr(b'\n', text)?;
     Some((&text[..end], &text[end + 1..]))
 }

@@ -19,7 +19,7 @@ use crate::fault::AnswerFault;
 use crate::reply::base_of;
 use crate::telling::{tell_fault, tell_reply};
 use level_pool::Runner;
-use recording::{Asked, Fault, Step, Subject, read_step};
+use recording::{Asked, Fault, Step, StepReader, Subject};
 use report_json::Form;
 use script_lines::Line;
 use session_core::{Event, Reply, Table};
@@ -39,6 +39,7 @@ pub(crate) struct Server<'a, R: StateRepresentation, W> {
     alloc: Global,
     runner: &'a W,
     table: Table<R>,
+    steps: StepReader,
 }
 
 impl<'a, R: StateRepresentation, W> Model for Server<'a, R, W> {
@@ -68,6 +69,7 @@ impl<'a, R: StateRepresentation, W: Runner> Server<'a, R, W> {
             alloc,
             runner,
             table: Table::new(alloc, version, MOST_VERSIONS)?,
+            steps: StepReader::new(alloc),
         })
     }
 
@@ -287,7 +289,7 @@ impl<'a, R: StateRepresentation, W: Runner> Server<'a, R, W> {
         ensures err { OnErr result (AppendsPrefix (S.held sink.old) (S.held sink.new) (answer_named form self.old (step_of bytes.now)).0) }
         ensures failures { S.failures sink.new ≡ S.failures sink.old + failed_writes result }
     {
-        match read_step(self.alloc, bytes) {
+        match self.steps.read(bytes) {
             Ok(step) => self.answer_step(step, form, sink),
             Err(fault) => self.refuse(fault, form, sink),
         }

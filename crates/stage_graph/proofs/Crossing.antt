@@ -22,6 +22,7 @@ use Rattle.stage_graph.specs.contracts.name_tree.Entry as entry
 use Rattle.stage_graph.specs.contracts.name_tree.Part as part
 use Rattle.stage_graph.specs.contracts.name_tree.NameTree as name_tree
 use Rattle.stage_graph.proofs.name_tree.Part.TheLaws.TheKnot as knot
+use Rattle.stage_graph.specs.contracts.list_hasher.ListHasher as list_hasher
 use Rattle.stage_graph.specs.contracts.name_table.FirstPlaces as first_places
 use Rattle.stage_graph.specs.contracts.name_table.NameTable as name_table
 use Rattle.stage_graph.specs.contracts.graph.Graph as graph
@@ -74,11 +75,17 @@ edits_send = search (sendable, crosses, edit_send) depth 60 fits 100000
 pub edits_sync : IsSync edits.the_row
 edits_sync = search (sendable, crosses, edit_sync) depth 60 fits 100000
 
+list_hasher_send : IsSend list_hasher.the_row
+list_hasher_send = search (sendable, crosses) depth 60 fits 100000
+
+list_hasher_sync : IsSync list_hasher.the_row
+list_hasher_sync = search (sendable, crosses) depth 60 fits 100000
+
 pub first_places_send : IsSend first_places.the_row
-first_places_send = search (sendable, crosses, maps_cross) depth 60 fits 100000
+first_places_send = search (sendable, crosses, maps_cross, list_hasher_send) depth 60 fits 100000
 
 pub first_places_sync : IsSync first_places.the_row
-first_places_sync = search (sendable, crosses, maps_cross) depth 60 fits 100000
+first_places_sync = search (sendable, crosses, maps_cross, list_hasher_sync) depth 60 fits 100000
 
 entry_send : IsSend entry.the_row
 entry_send = search (sendable, crosses, name_send) depth 60 fits 100000

@@ -6,6 +6,7 @@ pub mod Numbers
 pub mod Texts
 pub mod NameTrees
 pub mod Names
+pub mod Hashers
 pub mod Sound
 pub mod Edits
 pub mod Walk

@@ -15,6 +15,7 @@ mod edits;
 mod end;
 mod fault;
 mod graph;
+mod list_hasher;
 mod load;
 mod name;
 mod name_table;

@@ -2,9 +2,12 @@
 ghost use Rattle.std.specs.Prelude.{◌≡◌, ℕ, ◌<◌, ◌^◌, List, Some, None, if◌then◌else◌, IfOk, OnOk, is_some, unwrap_or};
 ghost use Rattle.std.specs.Str.{bytes_eq};
 ghost use Rattle.stage_graph.specs.Checks.{are_known};
+ghost use Rattle.indexmap.specs.IndexMap.{hasher_of};
+ghost use Rattle.stage_graph.specs.Hashers.{after_names};
 ghost use Rattle.stage_graph.specs.Names.{first_place, found, places_of, stage_of};
 
-use crate::checks::{Checks, checks_of};
+use crate::checks::{Checks, MOST_PLACES, checks_of};
+use crate::list_hasher::ListHasher;
 use crate::name::{Name, NameList};
 use crate::name_tree::NameTree;
 use crate::places::Places;
@@ -16,16 +19,20 @@ use std::alloc::{AllocError, Global};
 /// The first place of each name of a list.
 #[derive(Drop)]
 pub(crate) struct FirstPlaces {
-    places: IndexMap<String, usize>,
+    places: IndexMap<String, usize, ListHasher>,
 }
 
 impl FirstPlaces {
-    pub(crate) fn new(alloc: Global) -> FirstPlaces
-        ensures { (name : List ℕ) → first_place result name ≡ None }
+    /// No places, with room for those of the names of a list, as far as a graph may have as many.
+    pub(crate) fn new(alloc: Global, specs: &[Spec]) -> Result<FirstPlaces, AllocError>
+        ensures empty { IfOk result (λ first. (name : List ℕ) → first_place first name ≡ None) }
+        ensures hashed { IfOk result (λ first. (hasher_of first.places).start ≡ after_names specs.now) }
     {
-        FirstPlaces {
-            places: IndexMap::new(alloc),
-        }
+        let places = specs.len().min(MOST_PLACES);
+        let hasher = ListHasher::of(specs);
+        Ok(FirstPlaces {
+            places: IndexMap::with_capacity_and_hasher(alloc, places, hasher)?,
+        })
     }
 
     /// The first place of a name.

@@ -1,14 +1,23 @@
-use Rattle.std.proofs.Common.{◌≡◌, ℕ, List, true, ◌||◌, ◌&&◌, ◌==◌, sym, ap, ◌∙◌, subst, arith, get_or, take, take_all}
+use Rattle.std.proofs.Common.{◌≡◌, ◌<◌, ℕ, List, length, true, ◌||◌, ◌&&◌, ◌==◌, sym, ap, ◌∙◌, subst, arith, get_or, take, take_all}
 use Rattle.std.specs.Prelude.{is_some}
 use Rattle.stage_graph.specs.Plain.{PlainGraph, stage_at}
 use Rattle.stage_graph.specs.Walk.{rank}
 use Rattle.stage_ops.specs.States.{state_at}
-use Rattle.stage_graph.specs.Plain.{dependents}
+use Rattle.stage_graph.specs.Plain.{dependents, feeds_at}
+use Rattle.rank_order.specs.Lists.{is_among}
 use Rattle.rank_order.specs.Marks.{is_marked, AreMarks}
 use Rattle.propagate.specs.Reach.{has_read}
-use Rattle.propagate.proofs.Reading.{readers_more, readers_same, reader_live, among_readers, among_readers_all}
+use Rattle.propagate.proofs.Reading.{dependent_uses, readers_more, readers_same, reader_live, among_readers, among_readers_all}
 use Rattle.propagate.proofs.readers.mark_readers.Goals as goal
 use Rattle.propagate.proofs.readers.mark_readers.Goals.{then-is_reader+in_ok-mark, else-is_reader}
+
+pub is_reader-requires-clause-feed : goal.is_reader-requires-clause-feed
+is_reader-requires-clause-feed g c κs within =
+    let stages = c.args.graph.now.places in
+    let feed = c.args.feed in
+    let listed : c.dependents_of-dependents.result.now ≡ dependents stages feed = c.dependents_of-dependents.ensures ∙ ap (λ (graph : PlainGraph). dependents graph.places feed) c.requires.order in
+    let i = c.loop-dependent.dependent-index in
+    subst (λ (places : List ℕ). is_among feed (feeds_at stages (get_or places i 0)) ≡ true) (sym listed) (dependent_uses stages feed i (subst (λ (places : List ℕ). i < length places) listed (omega arith)))
 
 pub loop-dependent-preserved : goal.loop-dependent-preserved
 loop-dependent-preserved g c =

@@ -14,7 +14,7 @@ invariant_of-self g c =
     let u = c.head.new.self in
     let reply = At c.in-Ok.version.number in
     let booked : Books t c.client.inside.number (Head c.args.session) reply u = search rules in
-    (stays _ t u _ _ _ _ c.client.inside.number (Head c.args.session) reply c.self.invariant.0 booked c.head.ensures.versions c.keep.ensures.entries, c.self.invariant.1, c.self.invariant.2)
+    (stays _ t u _ _ _ _ c.client.inside.number (Head c.args.session) reply c.self.invariant.0 booked c.head.ensures.versions c.keep.ensures.entries, c.self.invariant.1, c.self.invariant.2, c.self.invariant.3)
 
 pub invariant_of-self-in-Err-Refused : goal.invariant_of-self-in-Err-Refused
 invariant_of-self-in-Err-Refused g c =
@@ -22,7 +22,7 @@ invariant_of-self-in-Err-Refused g c =
     let u = c.head.new.self in
     let reply = Refused c.in-Err-Refused.refusal in
     let booked : Books t c.client.inside.number (Head c.args.session) reply u = search rules in
-    (stays _ t u _ _ _ _ c.client.inside.number (Head c.args.session) reply c.self.invariant.0 booked c.head.ensures.versions c.keep-in-Err-Refused.ensures.entries, c.self.invariant.1, c.self.invariant.2)
+    (stays _ t u _ _ _ _ c.client.inside.number (Head c.args.session) reply c.self.invariant.0 booked c.head.ensures.versions c.keep-in-Err-Refused.ensures.entries, c.self.invariant.1, c.self.invariant.2, c.self.invariant.3)
 
 pub returns-in-Ok-clause-named : goal.returns-in-Ok-clause-named
 returns-in-Ok-clause-named g c =

@@ -10,4 +10,4 @@ invariant_of-self-2 g c =
     let t = c.self.inside.table in
     let u = c.open-answer.new.self in
     let booked : Books t c.client.inside.number (Open c.args.session c.args.version) c.match-answer.reply u = search rules in
-    (stays _ t u _ _ _ _ c.client.inside.number (Open c.args.session c.args.version) c.match-answer.reply c.self.invariant.0 booked c.open-answer.ensures.versions c.keep.ensures.entries, c.self.invariant.1, c.self.invariant.2)
+    (stays _ t u _ _ _ _ c.client.inside.number (Open c.args.session c.args.version) c.match-answer.reply c.self.invariant.0 booked c.open-answer.ensures.versions c.keep.ensures.entries, c.self.invariant.1, c.self.invariant.2, c.self.invariant.3)

@@ -10,7 +10,7 @@ invariant_of-self-2 g c =
     let t = c.self.inside.table in
     let u = c.undo-answer.new.self in
     let booked : Books t c.client.inside.number (Undo c.args.session) c.match-answer.reply u = search rules in
-    (stays _ t u _ _ _ _ c.client.inside.number (Undo c.args.session) c.match-answer.reply c.self.invariant.0 booked c.undo-answer.ensures.versions c.keep.ensures.entries, c.self.invariant.1, c.self.invariant.2)
+    (stays _ t u _ _ _ _ c.client.inside.number (Undo c.args.session) c.match-answer.reply c.self.invariant.0 booked c.undo-answer.ensures.versions c.keep.ensures.entries, c.self.invariant.1, c.self.invariant.2, c.self.invariant.3)
 
 pub returns-clause-named : goal.returns-clause-named
 returns-clause-named g c =
