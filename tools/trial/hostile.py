@@ -291,7 +291,8 @@ def asked(child, line, answer, count):
 def growth(program, path, line, answer, few, count):
     child = subprocess.Popen([program, "serve", path], stdin=subprocess.PIPE, stdout=subprocess.PIPE, stderr=subprocess.DEVNULL)
     try:
-        said = asked(child, line, answer, few)
+        # (the second time the first mark is explained, and what is made but once has been made)
+        said = asked(child, line, answer, few) or asked(child, line, answer, few)
         before = peak(child)
         said = said or asked(child, line, answer, count)
         more = peak(child) - before
@@ -308,8 +309,8 @@ def memory_kept(program, is_long):
         with open(path, "w", encoding="utf-8") as file:
             file.write(R)
         for name, line, answer in KEPT_NOTHING_OF:
-            few, more, most = (10, 20, 2000) if len(line) >= MOST_LINE else (1000, 30_000, 1_000_000)
-            yield f"hostile: nothing is kept of {name}", growth(program, path, line, answer, few, most if is_long else more), set()
+            few, most = (20, 2000) if len(line) >= MOST_LINE else (30_000, 1_000_000)
+            yield f"hostile: nothing is kept of {name}", growth(program, path, line, answer, few, most if is_long else few), set()
         if is_long:
             _, line, answer = KEPT_NOTHING_OF[0]
-            yield "hostile: nothing is kept of 10 million refused lines", growth(program, path, line, answer, 1000, 10_000_000), set()
+            yield "hostile: nothing is kept of 10 million refused lines", growth(program, path, line, answer, 30_000, 10_000_000), set()
