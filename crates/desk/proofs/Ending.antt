@@ -1,5 +1,5 @@
 -- What the comparison of clients with the log comes to, when the desk is to be closed.
-use Rattle.std.proofs.Common.{◌≡◌, ◌↔◌, ℕ, Bool, true, false, List, length, refl, inl, inr}
+use Rattle.std.proofs.Common.{◌≡◌, ◌↔◌, ℕ, Bool, true, false, List, length, refl, inr}
 use Rattle.std.specs.Prelude.{All, IsTrue, MatchBool}
 use Rattle.std.specs.List.{sum_by}
 use Rattle.session_core.specs.Log.{opening_of}

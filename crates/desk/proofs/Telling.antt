@@ -1,5 +1,5 @@
 -- How one event of the machine changes the versions, and which version its reply names.
-use Rattle.std.proofs.Common.{◌≡◌, ◌≢◌, ℕ, ◌+◌, ◌<◌, ◌≤◌, ◌==◌, ◌^◌, Bool, true, false, not, ◌&&◌, nat_le, nat_lt, ◌⊎◌, inl, inr, if◌then◌else◌, List, [], ◌∷◌, ◌++◌, length, Option, Some, None, IfSome, is_some, slice_get, Ok, Err, refl, ap, sym, subst, ◌∙◌, arith, true≢false, eq-eqb, length-append}
+use Rattle.std.proofs.Common.{◌≡◌, ◌≢◌, ℕ, ◌<◌, ◌==◌, ◌^◌, Bool, true, false, not, ◌&&◌, nat_le, nat_lt, inl, inr, if◌then◌else◌, List, [], ◌∷◌, length, Option, Some, None, IfSome, is_some, slice_get, Ok, Err, refl, sym, subst, ◌∙◌, arith, true≢false, eq-eqb, length-append}
 use Rattle.std.proofs.lemmas.Bool.Decides.{nat_tests}
 use Rattle.std.specs.Prelude.{Result, All}
 use mathlib.Core.List.{IsPrefix}
@@ -14,7 +14,7 @@ use Rattle.session_core.specs.declared.refusal.Refusal.{Refusal}
 use Rattle.session_core.specs.Applied.{applied}
 use Rattle.session_core.specs.Kept.{StandAtVersions}
 use Rattle.session_core.specs.declared.refusal.Refusal.TheVariants.{BadSession, SessionOpen, TooManySessions, NoSession, NoVersion, Moved, AtBottom, Full}
-use Rattle.session_core.specs.Machine.{State, Numbers, Booked, numbers_at, alone, put, refuse, in_session, at_version, without_head, from_base, next, added, commit_applied, commit_at, book_open, book_head, book_commit, book_undo, book_close, book}
+use Rattle.session_core.specs.Machine.{State, Numbers, Booked, numbers_at, alone, put, refuse, in_session, at_version, without_head, from_base, next, commit_applied, commit_at, book_open, book_head, book_commit, book_undo, book_close, book}
 use Rattle.desk.specs.Clients.{head_in, named}
 use Rattle.desk.specs.Committing.{RefusesCommit}
 use Rattle.desk.proofs.Fronts.{prefix_self}

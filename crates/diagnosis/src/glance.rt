@@ -3,7 +3,7 @@
 //! It reads no JSON, keeps nothing, and goes over the bytes once. Where it sees nothing, nothing is told of a recording
 //! that is taken; where it sees something, the recording is read to find what.
 use crate::members::{has_delay, has_exception, has_value};
-use crate::passing::{Passing, all_pass};
+use crate::passing::{Passing, all_pass, split_text};
 use json_names::is_label;
 
 /// The depth of the members of the recording, of a stage, of an outcome and of an end.
@@ -15,20 +15,32 @@ const OF_OUTCOME: usize = 4;
 
 const OF_END: usize = 5;
 
-/// What the next value decides.
-#[derive(Clone, Copy, PartialEq, Eq)]
-enum Awaited {
-    Nothing,
-    /// The form of the recording.
-    Form,
-    /// The operation of a stage, or what an end does.
-    Kind,
+/// Whether a byte begins or ends a text, an array or an object, or ends the name of a member.
+fn is_mark(byte: u8) -> bool {
+    matches!(byte, b'"' | b':' | b'{' | b'[' | b'}' | b']')
+}
+
+/// What comes after the quote that opens the next text, if no colon and no bracket stands before it.
+fn next_text(bytes: &[u8]) -> Option<&[u8]> {
+    let place = bytes.iter().position(|byte| is_mark(*byte))?;
+    match bytes.get(place..)? {
+        [b'"', text @ ..] => Some(text),
+        _ => None,
+    }
+}
+
+/// The next digit, if no text, colon and bracket stands before it.
+fn next_digit(bytes: &[u8]) -> Option<u8> {
+    let is_last = |byte: &&u8| byte.is_ascii_digit() || is_mark(**byte);
+    let byte = *bytes.iter().find(is_last)?;
+    byte.is_ascii_digit().then_some(byte)
 }
 
 /// What is seen of the members of a stage or of an end.
 #[derive(Clone, Copy)]
 struct Seen<'a> {
-    kind: &'a [u8],
+    /// What comes after the quote that opens the text of the kind: a stage's operation, or what an end does.
+    from_kind: &'a [u8],
     has_value: bool,
     has_exception: bool,
     has_delay: bool,
@@ -38,22 +50,33 @@ impl<'a> Seen<'a> {
     /// Nothing.
     fn new() -> Seen<'a> {
         Seen {
-            kind: b"",
+            from_kind: b"",
             has_value: false,
             has_exception: false,
             has_delay: false,
         }
     }
 
+    /// The text of the kind.
+    fn kind(self) -> &'a [u8] {
+        match split_text(self.from_kind) {
+            Some((kind, _)) => kind,
+            None => b"",
+        }
+    }
+
     /// Whether a stage of the operation reads all of them.
     fn is_read_in_stage(self) -> bool {
-        (!self.has_value || matches!(self.kind, b"completed"))
-            && (!self.has_exception || matches!(self.kind, b"failed"))
+        (!self.has_value || matches!(self.kind(), b"completed"))
+            && (!self.has_exception || matches!(self.kind(), b"failed"))
     }
 
     /// Whether an end of the kind reads all of them.
     fn is_read_in_end(self) -> bool {
-        let kind = str::from_utf8(self.kind).unwrap_or("");
+        if !self.has_value && !self.has_exception && !self.has_delay {
+            return true;
+        }
+        let kind = str::from_utf8(self.kind()).unwrap_or("");
         (!self.has_value || has_value(kind))
             && (!self.has_exception || has_exception(kind))
             && (!self.has_delay || has_delay(kind))
@@ -67,7 +90,6 @@ struct Glance<'a> {
     depth: usize,
     /// The last text.
     text: &'a [u8],
-    awaited: Awaited,
     stage: Seen<'a>,
     end: Seen<'a>,
     is_form_two: bool,
@@ -75,42 +97,12 @@ struct Glance<'a> {
 }
 
 impl<'a> Glance<'a> {
-    /// Goes out of an array or an object.
-    fn leave(&mut self) -> bool {
-        let depth = self.depth;
-        self.depth = depth.saturating_sub(1);
-        self.awaited = Awaited::Nothing;
-        match depth {
-            OF_STAGE => {
-                let is_read = self.stage.is_read_in_stage();
-                self.stage = Seen::new();
-                is_read
-            }
-            OF_END => {
-                let is_read = self.end.is_read_in_end();
-                self.end = Seen::new();
-                is_read
-            }
-            _ => true,
-        }
-    }
-
-    /// Takes the last text for the name of a member.
-    fn name(&mut self) -> bool {
-        self.awaited = Awaited::Nothing;
-        match self.depth {
-            OF_RECORDING => self.name_of_recording(),
-            OF_STAGE => self.name_of_stage(),
-            OF_OUTCOME => matches!(self.text, b"value" | b"bare" | b"wrapped"),
-            OF_END => self.name_of_end(),
-            _ => false,
-        }
-    }
-
-    fn name_of_recording(&mut self) -> bool {
+    fn name_of_recording(&mut self, value: &'a [u8]) -> bool {
         match self.text {
             b"form" => {
-                self.awaited = Awaited::Form;
+                if let Some(digit) = next_digit(value) {
+                    self.is_form_two = digit == b'2';
+                }
                 true
             }
             // (the last three are labels, which an imported recording has)
@@ -119,9 +111,9 @@ impl<'a> Glance<'a> {
         }
     }
 
-    fn name_of_stage(&mut self) -> bool {
+    fn name_of_stage(&mut self, value: &'a [u8]) -> bool {
         match self.text {
-            b"op" => self.awaited = Awaited::Kind,
+            b"op" => self.stage.from_kind = next_text(value).unwrap_or(self.stage.from_kind),
             b"value" => self.stage.has_value = true,
             b"throws" => self.stage.has_exception = true,
             b"queued" | b"runs" => self.has_times_of_form_two = true,
@@ -140,9 +132,9 @@ impl<'a> Glance<'a> {
         true
     }
 
-    fn name_of_end(&mut self) -> bool {
+    fn name_of_end(&mut self, value: &'a [u8]) -> bool {
         match self.text {
-            b"do" => self.awaited = Awaited::Kind,
+            b"do" => self.end.from_kind = next_text(value).unwrap_or(self.end.from_kind),
             b"value" => self.end.has_value = true,
             b"throws" => self.end.has_exception = true,
             b"delay" => self.end.has_delay = true,
@@ -156,41 +148,47 @@ impl<'a> Glance<'a> {
 impl<'a> Passing<'a> for Glance<'a> {
     fn take(&mut self, text: &'a [u8]) {
         self.text = text;
-        if self.awaited == Awaited::Kind {
-            match self.depth {
-                OF_STAGE => self.stage.kind = text,
-                OF_END => self.end.kind = text,
-                _ => {}
-            }
-        }
-        self.awaited = Awaited::Nothing;
     }
 
-    fn pass(&mut self, byte: u8) -> bool {
-        match byte {
-            b'{' | b'[' => {
-                self.depth = self.depth.saturating_add(1);
-                self.awaited = Awaited::Nothing;
-                true
+    fn enter(&mut self) {
+        self.depth = self.depth.saturating_add(1);
+    }
+
+    fn leave(&mut self) -> bool {
+        let depth = self.depth;
+        self.depth = depth.saturating_sub(1);
+        match depth {
+            OF_STAGE => {
+                let is_read = self.stage.is_read_in_stage();
+                self.stage = Seen::new();
+                is_read
             }
-            b'}' | b']' => self.leave(),
-            b':' => self.name(),
-            b'0'..=b'9' if self.awaited == Awaited::Form => {
-                self.is_form_two = byte == b'2';
-                self.awaited = Awaited::Nothing;
-                true
+            OF_END => {
+                let is_read = self.end.is_read_in_end();
+                self.end = Seen::new();
+                is_read
             }
             _ => true,
+        }
+    }
+
+    fn name(&mut self, value: &'a [u8]) -> bool {
+        match self.depth {
+            OF_RECORDING => self.name_of_recording(value),
+            OF_STAGE => self.name_of_stage(value),
+            OF_OUTCOME => matches!(self.text, b"value" | b"bare" | b"wrapped"),
+            OF_END => self.name_of_end(value),
+            _ => false,
         }
     }
 }
 
 /// Whether a recording could have a member that nothing reads.
+#[inline(never)]
 pub fn may_be_unread(recording: &[u8]) -> bool {
     let mut glance = Glance {
         depth: 0,
         text: b"",
-        awaited: Awaited::Nothing,
         stage: Seen::new(),
         end: Seen::new(),
         is_form_two: false,

@@ -1,52 +1,108 @@
 //! Going once over the bytes of a JSON text, which is not read.
 ghost use Rattle.std.specs.Prelude.{◌≤◌, IfSome, length};
 
-/// What looks at the texts of a JSON text and at the bytes between them.
+use memchr::memchr2_iter;
+use std::simd::prelude::*;
+
+/// What looks at the texts of a JSON text, and at the colons and brackets between them.
 pub(crate) trait Passing<'a> {
     /// Takes a text, without its quotes and with its escapes as they are.
     fn take(&mut self, text: &'a [u8]);
 
-    /// Goes past a byte outside of texts. The answer is whether what it ends is read.
-    fn pass(&mut self, byte: u8) -> bool;
+    /// Goes into an array or an object.
+    fn enter(&mut self);
+
+    /// Goes out of an array or an object. The answer is whether what is gone out of is read.
+    fn leave(&mut self) -> bool;
+
+    /// Takes the last text for the name of a member, whose value comes next. The answer is whether it is read.
+    fn name(&mut self, value: &'a [u8]) -> bool;
 }
 
-/// Where the first byte stands that ends a text or escapes the byte after it.
-fn quote_or_escape(bytes: &[u8]) -> Option<usize> {
-    bytes.iter().position(|byte| matches!(*byte, b'"' | b'\\'))
+/// How many bytes of a text are looked at first, all at once. Most texts are shorter.
+const NEAR: usize = 16;
+
+/// The least of the colon and the brackets. Blanks, commas and the bytes of numbers are below it.
+const LEAST_MARK: u8 = b':';
+
+/// A byte that means nothing between texts.
+const BLANK: u8 = b' ';
+
+/// The bytes before a place and those after it, if a quote stands there.
+#[inline(always)]
+fn split_at_quote(bytes: &[u8], place: usize) -> Option<(&[u8], &[u8])>
+    ensures { IfSome result (λ parts. length parts.1.now ≤ length bytes.now) }
+{
+    match bytes.get(place..)? {
+        [b'"', after @ ..] => Some((bytes.get(..place)?, after)),
+        _ => None,
+    }
 }
 
-/// Where the quote stands that closes a text, whose opening quote stands before these bytes and which has escapes.
-fn closing_quote_among_escapes(bytes: &[u8]) -> Option<usize> {
-    let mut is_escaped = false;
-    for (index, byte) in bytes.iter().enumerate() {
-        match *byte {
-            _ if is_escaped => is_escaped = false,
-            b'"' => return Some(index),
-            b'\\' => is_escaped = true,
-            _ => {}
+/// What `split_text` answers, if the text ends near and has no escapes.
+#[inline(always)]
+fn split_near_text(bytes: &[u8]) -> Option<(&[u8], &[u8])>
+    ensures { IfSome result (λ parts. length parts.1.now ≤ length bytes.now) }
+{
+    let near = u8x16::from_array(*bytes.first_chunk::<NEAR>()?);
+    let quotes = near.simd_eq(u8x16::splat(b'"'));
+    let escapes = near.simd_eq(u8x16::splat(b'\\'));
+    match (quotes | escapes).to_bitmask() {
+        0 => None,
+        marked => split_at_quote(bytes, marked.trailing_zeros() as usize),
+    }
+}
+
+/// Where the quote stands that closes a text, whose opening quote stands before these bytes.
+#[inline(never)]
+fn closing_quote(bytes: &[u8]) -> Option<usize> {
+    let mut unescaped = 0;
+    for place in memchr2_iter(b'"', b'\\', bytes) {
+        if place >= unescaped {
+            if bytes.get(place) == Some(&b'"') {
+                return Some(place);
+            }
+            // (the byte after an escape is part of the text)
+            unescaped = place.saturating_add(2);
         }
     }
     None
 }
 
-/// Where the quote stands that closes a text, whose opening quote stands before these bytes.
-fn closing_quote(bytes: &[u8]) -> Option<usize> {
-    let first = quote_or_escape(bytes)?;
-    match *bytes.get(first)? {
-        b'"' => Some(first),
-        _ => closing_quote_among_escapes(bytes),
+/// The text whose opening quote stands before these bytes, and what comes after its closing quote, if it has one.
+#[inline(always)]
+pub(crate) fn split_text(bytes: &[u8]) -> Option<(&[u8], &[u8])>
+    ensures { IfSome result (λ parts. length parts.1.now ≤ length bytes.now) }
+{
+    match split_near_text(bytes) {
+        None => split_at_quote(bytes, closing_quote(bytes)?),
+        near => near,
     }
 }
 
-/// The text whose opening quote stands before these bytes, and what comes after its closing quote, if it has one.
-fn split_text(bytes: &[u8]) -> Option<(&[u8], &[u8])>
-    ensures { IfSome result (λ parts. length parts.1.now ≤ length bytes.now) }
+/// The colon or the comma that comes after a text, and what comes after it; a blank where neither comes.
+#[inline(always)]
+fn split_separator(bytes: &[u8]) -> (u8, &[u8])
+    ensures { length result.1.now ≤ length bytes.now }
 {
-    let end = closing_quote(bytes)?;
-    let text = bytes.get(..end)?;
-    match bytes.get(end..)? {
-        [_, after @ ..] => Some((text, after)),
-        [] => None,
+    match bytes {
+        [b':', after @ ..] => (b':', after),
+        [b',', after @ ..] => (b',', after),
+        _ => (BLANK, bytes),
+    }
+}
+
+/// Goes past a byte between texts. The answer is whether what it ends or names is read.
+#[inline(always)]
+fn pass_mark<'a, P: Passing<'a>>(mark: u8, after: &'a [u8], passing: &mut P) -> bool {
+    match mark {
+        b':' => passing.name(after),
+        b'{' | b'[' => {
+            passing.enter();
+            true
+        }
+        b'}' | b']' => passing.leave(),
+        _ => true,
     }
 }
 
@@ -54,16 +110,20 @@ fn split_text(bytes: &[u8]) -> Option<(&[u8], &[u8])>
 pub(crate) fn all_pass<'a, P: Passing<'a>>(bytes: &'a [u8], passing: &mut P) -> bool {
     let mut rest = bytes;
     while let [byte, after @ ..] = rest {
-        rest = after;
-        if *byte == b'"' {
-            let Some((text, closed)) = split_text(after) else {
-                return true;
-            };
-            passing.take(text);
-            rest = closed;
-        } else if !passing.pass(*byte) {
+        let (mark, next) = match *byte {
+            b'"' => {
+                let Some((text, closed)) = split_text(after) else {
+                    return true;
+                };
+                passing.take(text);
+                split_separator(closed)
+            }
+            mark => (mark, after),
+        };
+        if mark >= LEAST_MARK && !pass_mark(mark, next, passing) {
             return false;
         }
+        rest = next;
     }
     true
 }

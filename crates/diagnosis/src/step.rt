@@ -40,7 +40,7 @@ pub(crate) fn members_of(name: &str) -> &'static [&'static str] {
 }
 
 /// The members that an edit of a list has.
-fn members_of_edit(name: &str) -> &'static [&'static str] {
+pub(crate) fn members_of_edit(name: &str) -> &'static [&'static str] {
     match name {
         "pinResult" => &["do", "stage", "result"],
         "pinMoment" => &["do", "stage", "at"],

@@ -1,14 +1,21 @@
 //! A glance at a step: whether any of its members could be one that nothing reads.
 use crate::members::OUTCOME_MEMBERS;
 use crate::passing::{Passing, all_pass};
-use crate::step::{members_of, members_of_report};
-use crate::wanted::{REPORTS, STEP_NAMES};
+use crate::step::{members_of, members_of_edit, members_of_report};
+use crate::wanted::{EDIT_NAMES, REPORTS, STEP_NAMES};
 use json_names::is_among;
 
-/// The depth of the members of a step, and of an outcome.
+/// The depth of the members of a step, of an outcome in it, of an edit of its list, and of an outcome in that.
 const OF_STEP: usize = 1;
 
 const OF_OUTCOME: usize = 2;
+
+const OF_EDIT: usize = 3;
+
+const OF_OUTCOME_OF_EDIT: usize = 4;
+
+/// The member that says what a step or an edit does, which comes before the others.
+const FIRST: &[&str] = &["do"];
 
 /// What the next text decides.
 #[derive(Clone, Copy, PartialEq, Eq)]
@@ -18,6 +25,8 @@ enum Awaited {
     Name,
     /// What is reported.
     Report,
+    /// What an edit of a list does.
+    EditName,
 }
 
 /// Where a glance is.
@@ -28,8 +37,12 @@ struct StepGlance<'a> {
     /// The last text.
     text: &'a [u8],
     awaited: Awaited,
-    /// The members that the step is known to have, by what stands before.
+    /// The members that the step is known to have further, by what stands before.
     members: &'static [&'static str],
+    /// The member with which each edit of the step's list begins, if the step has one.
+    first_of_edit: &'static [&'static str],
+    /// The members that the edit is known to have further, by what stands before.
+    edit_members: &'static [&'static str],
 }
 
 /// Whether a text is one of the names.
@@ -37,37 +50,58 @@ fn is_one_of(text: &[u8], names: &[&str]) -> bool {
     str::from_utf8(text).is_ok_and(|text| is_among(text, names))
 }
 
-/// The members of a step of a name, as far as they are known without what it reports; none of a step with members in its
-/// members.
+/// The members without the first one, which says what is done.
+fn further(members: &'static [&'static str]) -> &'static [&'static str] {
+    match members {
+        [_, others @ ..] => others,
+        [] => &[],
+    }
+}
+
+/// The further members of a step of a name, as far as they are known without what it reports; none of a step with members of a
+/// stage or of ends in its members.
 fn members_by_name(name: &[u8]) -> &'static [&'static str] {
     match str::from_utf8(name) {
-        Ok("report") => &["do", "session", "version", "what"],
-        Ok("edits") | Ok("add") | Ok("setEnds") | Err(_) => &[],
-        Ok(name) if is_among(name, STEP_NAMES) => members_of(name),
+        Ok("report") => &["session", "version", "what"],
+        Ok("add") | Ok("setEnds") | Err(_) => &[],
+        Ok(name) if is_among(name, STEP_NAMES) => further(members_of(name)),
         Ok(_) => &[],
     }
 }
 
-/// The members of a step that reports this.
+/// The further members of an edit of a name, as above.
+fn members_by_edit_name(name: &[u8]) -> &'static [&'static str] {
+    match str::from_utf8(name) {
+        Ok("add") | Ok("setEnds") | Err(_) => &[],
+        Ok(name) if is_among(name, EDIT_NAMES) => further(members_of_edit(name)),
+        Ok(_) => &[],
+    }
+}
+
+/// The further members of a step that reports this.
 fn members_by_report(what: &[u8]) -> &'static [&'static str] {
     match str::from_utf8(what) {
-        Ok(what) if is_among(what, REPORTS) => members_of_report(what),
+        Ok(what) if is_among(what, REPORTS) => further(members_of_report(what)),
         _ => &[],
     }
 }
 
 impl<'a> StepGlance<'a> {
-    /// Takes the last text for the name of a member.
-    fn name(&mut self) -> bool {
-        match (self.depth, self.text) {
-            (OF_STEP, b"do") => self.awaited = Awaited::Name,
-            (OF_STEP, b"what") => self.awaited = Awaited::Report,
-            _ => self.awaited = Awaited::Nothing,
+    /// Takes what the step does.
+    fn take_name(&mut self, name: &[u8]) {
+        self.members = members_by_name(name);
+        if matches!(name, b"edits") {
+            self.first_of_edit = FIRST;
         }
-        match self.depth {
-            OF_STEP => is_one_of(self.text, self.members),
-            OF_OUTCOME => is_one_of(self.text, OUTCOME_MEMBERS),
-            _ => false,
+    }
+
+    /// What the text after a member's name decides.
+    fn awaited_after_name(&self) -> Awaited {
+        match (self.depth, self.text) {
+            (OF_STEP, b"do") => Awaited::Name,
+            (OF_STEP, b"what") => Awaited::Report,
+            (OF_EDIT, b"do") => Awaited::EditName,
+            _ => Awaited::Nothing,
         }
     }
 }
@@ -76,37 +110,47 @@ impl<'a> Passing<'a> for StepGlance<'a> {
     fn take(&mut self, text: &'a [u8]) {
         self.text = text;
         match self.awaited {
-            Awaited::Name => self.members = members_by_name(text),
+            Awaited::Name => self.take_name(text),
             Awaited::Report => self.members = members_by_report(text),
+            Awaited::EditName => self.edit_members = members_by_edit_name(text),
             Awaited::Nothing => {}
         }
         self.awaited = Awaited::Nothing;
     }
 
-    fn pass(&mut self, byte: u8) -> bool {
-        match byte {
-            b'{' | b'[' => {
-                self.depth = self.depth.saturating_add(1);
-                true
-            }
-            b'}' | b']' => {
-                self.depth = self.depth.saturating_sub(1);
-                true
-            }
-            b':' => self.name(),
-            _ => true,
+    fn enter(&mut self) {
+        self.depth = self.depth.saturating_add(1);
+        if self.depth == OF_EDIT {
+            self.edit_members = self.first_of_edit;
+        }
+    }
+
+    fn leave(&mut self) -> bool {
+        self.depth = self.depth.saturating_sub(1);
+        true
+    }
+
+    fn name(&mut self, _value: &'a [u8]) -> bool {
+        self.awaited = self.awaited_after_name();
+        match self.depth {
+            OF_STEP => is_one_of(self.text, self.members),
+            OF_EDIT => is_one_of(self.text, self.edit_members),
+            OF_OUTCOME | OF_OUTCOME_OF_EDIT => is_one_of(self.text, OUTCOME_MEMBERS),
+            _ => false,
         }
     }
 }
 
-/// Whether a step could have a member that nothing reads. What it does has to stand before its other members, and what
-/// it reports before those of the report, or it could.
+/// Whether a step could have a member that nothing reads. What it does has to stand before its other members, what it reports
+/// before those of the report, and what an edit does before those of the edit, or it could.
 pub fn may_step_be_unread(step: &[u8]) -> bool {
     let mut glance = StepGlance {
         depth: 0,
         text: b"",
         awaited: Awaited::Nothing,
-        members: &["do"],
+        members: FIRST,
+        first_of_edit: &[],
+        edit_members: &[],
     };
     !all_pass(step, &mut glance)
 }

@@ -1,7 +1,6 @@
 -- Marks of the stages that read a place.
 use Rattle.std.proofs.Common.{◌≡◌, ℕ, ◌+◌, ◌<◌, Bool, true, false, List, length, get_or, take, refl, ap, sym, ◌∙◌, arith, subst}
-use Rattle.std.specs.Prelude.{◌==◌, ◌&&◌, ◌||◌, Option, Some, None, Ok, Err, is_some, slice_get}
-use Rattle.std.proofs.lemmas.Option.{get_or_from_slice_get}
+use Rattle.std.specs.Prelude.{◌==◌, ◌&&◌, ◌||◌, Option, Some, None, Ok, Err, is_some}
 use Rattle.std.specs.List.{list_any}
 use Rattle.std.proofs.lemmas.Bool.{eqb-true, eq-eqb, and_parts, and_from, true≢false, false≢true}
 use Rattle.std.proofs.lemmas.List.Elements.{Contains-get_or}
@@ -9,7 +8,7 @@ use Rattle.std.proofs.lemmas.List.Folds.{list_any_more}
 use Rattle.stage_graph.specs.declared.stage.Stage.{Stage}
 use Rattle.stage_graph.specs.Plain.{stage_at, feeds_of_place, feeds_at, uses}
 use Rattle.stage_ops.specs.declared.state.State.{State}
-use Rattle.stage_ops.specs.States.{pending, seen_at, seen_of, state_at}
+use Rattle.stage_ops.specs.States.{seen_at, seen_of, state_at}
 use Rattle.rank_order.specs.Lists.{is_among}
 use Rattle.rank_order.specs.Orders.{at_live}
 use Rattle.stage_graph.specs.Plain.{all_places, dependents}

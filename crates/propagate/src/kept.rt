@@ -43,32 +43,25 @@ impl Model for KeptState {
 impl KeptState {
     /// Stores a state.
     #[inline(always)]
-    pub fn new(alloc: Global, state: State) -> Result<KeptState, AllocError>
-        ensures { IfOk result (λ kept. kept ≡ state) }
+    pub fn new(alloc: Global, state: &State) -> Result<KeptState, AllocError>
+        ensures { IfOk result (λ kept. kept ≡ state.now) }
     {
-        let State { done, reads } = state;
-        let Some(done) = done else {
+        let Some(done) = &state.done else {
             return Ok(KeptState {
-                form: Form::Pending(reads),
+                form: Form::Pending(state.reads),
             });
         };
-        let Done {
-            outcome,
-            moment,
-            from,
-            start,
-        } = done;
-        match (outcome, from) {
+        match (&done.outcome, done.from) {
             (Outcome::Value(value), None) => Ok(KeptState {
                 form: Form::Returned {
-                    value,
-                    moment,
-                    start,
-                    reads,
+                    value: *value,
+                    moment: done.moment,
+                    start: done.start,
+                    reads: state.reads,
                 },
             }),
             _ => Ok(KeptState {
-                form: Form::Other(Held::new(alloc, state)?),
+                form: Form::Other(Held::new(alloc, *state)?),
             }),
         }
     }

@@ -14,23 +14,24 @@ use stage_ops::{Meter, Pass, StageOps, State};
 use std::alloc::{AllocError, Global};
 use std::marker::{Send, Sync};
 
-/// One pass for each place, in the places' order.
+/// Fills a list with one pass for each place, in the places' order.
 #[inline(always)]
-fn passes_for<N>(
-    alloc: Global,
+fn take_passes<N>(
     meter: &mut Meter<N>,
     level: &[u32],
-) -> Result<Vec<Pass<N>>, AllocError>
+    passes: &mut Vec<Pass<N>>,
+) -> Result<(), AllocError>
     requires { meter.old + length level.now < 2 ^ 64 }
-    ensures places { IfOk result (λ passes. passes.items ≡ level.now) }
+    ensures places { OnOk result (passes.new.items ≡ level.now) }
     ensures counted { OnOk result (meter.new ≡ meter.old + length level.now) }
     ensures refused { OnErr result ((meter.old ≤ meter.new) × (meter.new ≤ meter.old + length level.now)) }
 {
-    let mut passes = Vec::with_capacity(alloc, level.len())?;
+    passes.clear();
+    passes.reserve(level.len())?;
     for place in level {
         passes.push(meter.pass(*place))?;
     }
-    Ok(passes)
+    Ok(())
 }
 
 /// The pass of this place, among those of a level.
@@ -71,7 +72,8 @@ fn compute_at<R: StateRepresentation, N, O: StageOps<N>>(
     ops.compute(graph.mode(), stage, pass_at(level, passes, place), states)
 }
 
-/// The states of the stages of a level, each computed from the states before the level, by a pass of its own.
+/// The states of the stages of a level, each computed from the states before the level, by a pass of its own. The passes take the
+/// place of those of the level before.
 pub(crate) fn compute_level<R: StateRepresentation, N: Sync, O: StageOps<N> + Sync, W: Runner>(
     alloc: Global,
     runner: &W,
@@ -79,6 +81,7 @@ pub(crate) fn compute_level<R: StateRepresentation, N: Sync, O: StageOps<N> + Sy
     level: &[u32],
     ops: &O,
     meter: &mut Meter<N>,
+    passes: &mut Vec<Pass<N>>,
     states: &States<R>,
 ) -> Result<Vec<State>, PoolFault>
     requires climbs { Climbs level.now }
@@ -92,8 +95,8 @@ pub(crate) fn compute_level<R: StateRepresentation, N: Sync, O: StageOps<N> + Sy
     ensures refused { OnErr result ((meter.old ≤ meter.new) × (meter.new ≤ meter.old + length level.now)) }
     ensures fault { IfErr result (λ fault. fault ≡ Memory) }
 {
-    let taken = passes_for(alloc, meter, level)?;
-    let passes = taken.as_slice();
+    take_passes(meter, level, passes)?;
+    let passes = passes.as_slice();
     runner.run(
         alloc,
         level,

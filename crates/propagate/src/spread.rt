@@ -72,10 +72,21 @@ pub(crate) fn propagate_change<R: StateRepresentation, N: Sync, O: StageOps<N> +
     let mut states = old_states.prepared(alloc, graph, edited)?;
     let mut marks = first_marks(alloc, order, edited)?;
     let mut touched = Vec::new(alloc);
+    let mut taken = Vec::new(alloc);
+    let mut passes = Vec::new(alloc);
     while !marks.is_empty() {
-        let taken = marks.take_level(alloc)?;
+        marks.take_level(&mut taken)?;
         let level = taken.as_slice();
-        let computed = compute_level(alloc, runner, graph, level, ops, meter, &states)?;
+        let computed = compute_level(
+            alloc,
+            runner,
+            graph,
+            level,
+            ops,
+            meter,
+            &mut passes,
+            &states,
+        )?;
         let results = computed.as_slice();
         mark_level(&mut marks, graph, order, &states, level, results)?;
         states.write_level(alloc, level, results)?;

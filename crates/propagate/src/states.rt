@@ -88,7 +88,7 @@ impl<R: StateRepresentation> States<R> {
             list: R::States::empty(alloc),
         };
         for place in 0..graph.len() as u32 {
-            states.add(alloc, told(answers, place))?;
+            states.add(alloc, &told(answers, place))?;
         }
         Ok(states)
     }
@@ -137,18 +137,18 @@ impl<R: StateRepresentation> States<R> {
     }
 
     /// Sets the state at a place.
-    fn write(&mut self, alloc: Global, place: u32, state: State) -> Result<(), AllocError>
+    fn write(&mut self, alloc: Global, place: u32, state: &State) -> Result<(), AllocError>
         requires { place < length self.old }
-        ensures { OnOk result (self.new ≡ slice_set self.old place state) }
+        ensures { OnOk result (self.new ≡ slice_set self.old place state.now) }
     {
         let kept = Held::new(alloc, KeptState::new(alloc, state)?)?;
         self.list.write(place as usize, kept)
     }
 
     /// Adds the state of one place more.
-    fn add(&mut self, alloc: Global, state: State) -> Result<(), AllocError>
+    fn add(&mut self, alloc: Global, state: &State) -> Result<(), AllocError>
         requires { length self.old < 65536 }
-        ensures { OnOk result (self.new ≡ self.old ++ state ∷ []) }
+        ensures { OnOk result (self.new ≡ self.old ++ state.now ∷ []) }
     {
         let kept = Held::new(alloc, KeptState::new(alloc, state)?)?;
         match self.list.add(kept) {
@@ -167,7 +167,7 @@ impl<R: StateRepresentation> States<R> {
     {
         let mut states = self.again()?;
         for _turn in self.len()..places {
-            states.add(alloc, State::PENDING)?;
+            states.add(alloc, &State::PENDING)?;
         }
         Ok(states)
     }
@@ -188,7 +188,7 @@ impl<R: StateRepresentation> States<R> {
         let mut states = self.grown(alloc, graph.len())?;
         for place in edited {
             if graph.stage(*place).is_none() {
-                states.write(alloc, *place, State::PENDING)?;
+                states.write(alloc, *place, &State::PENDING)?;
             }
         }
         Ok(states)
@@ -208,7 +208,7 @@ impl<R: StateRepresentation> States<R> {
             → state_at self.new place ≡ (if is_among place level.now then state place else state_at self.old place)) }
     {
         for at in 0..level.len() {
-            self.write(alloc, level[at], results[at])?;
+            self.write(alloc, level[at], &results[at])?;
         }
         Ok(())
     }

@@ -1,5 +1,5 @@
 //! Marks: places that have still to be processed, by rank and then by place.
-ghost use Rattle.std.specs.Prelude.{◌≡◌, ◌<◌, ◌↔◌, ℕ, List, [], ◌||◌, ◌==◌, false, length, vec_len, IsTrue, IfNone, IfSome, IfOk, OnOk, OnErr};
+ghost use Rattle.std.specs.Prelude.{◌≡◌, ◌<◌, ◌↔◌, ℕ, List, [], ◌||◌, ◌==◌, false, length, vec_len, IsTrue, IfNone, IfSome, OnOk, OnErr};
 ghost use Rattle.rank_order.specs.Marks.{is_marked, AreMarks, AreLeft, AreFrom, AreAbove, IsFirst, IsLeastRank, IsLevel, IsPopped};
 
 use std::alloc::{AllocError, Global};
@@ -97,19 +97,20 @@ impl Marks {
         Some(mark.place)
     }
 
-    /// Removes the marks of the least rank, and returns their places in ascending order; none if nothing is marked.
-    /// If out of memory, the marks stay as they are.
-    pub fn take_level(&mut self, alloc: Global) -> Result<Vec<u32>, AllocError>
-        ensures some { IfOk result (λ level. 0 < length self.old → 0 < vec_len level) }
+    /// Removes the marks of the least rank. Their places, in ascending order, take the place of what `level` holds; none do if nothing
+    /// is marked. If out of memory, the marks stay as they are.
+    pub fn take_level(&mut self, level: &mut Vec<u32>) -> Result<(), AllocError>
+        ensures some { OnOk result (0 < length self.old → 0 < vec_len level.new) }
         ensures left { AreLeft self.old self.new }
-        ensures level { IfOk result (λ level. (ranks : ℕ → ℕ) → AreMarks ranks self.old
-            → IsLevel ranks (is_marked ranks self.old) level.items (is_marked ranks self.new)) }
+        ensures level { OnOk result ((ranks : ℕ → ℕ) → AreMarks ranks self.old
+            → IsLevel ranks (is_marked ranks self.old) level.new.items (is_marked ranks self.new)) }
         ensures refused { OnErr result (self.new ≡ self.old) }
     {
         // Capacity for all marks is reserved first, so nothing fails once one of them is removed.
-        let mut level = Vec::with_capacity(alloc, self.set.len())?;
+        level.clear();
+        level.reserve(self.set.len())?;
         let Some(rank) = self.least_rank() else {
-            return Ok(level);
+            return Ok(());
         };
         while let Some(place) = self.pop_at(rank) {
             match level.push(place) {
@@ -117,6 +118,6 @@ impl Marks {
                 Err(_) => unreachable!(),
             }
         }
-        Ok(level)
+        Ok(())
     }
 }

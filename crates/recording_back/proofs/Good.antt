@@ -5,7 +5,7 @@ use Rattle.json.specs.Json as json
 use Rattle.json.specs.Json.{Json}
 use Rattle.json.specs.Print.{IsNumber}
 use Rattle.json.specs.Tree as tree
-use Rattle.json.specs.Tree.{HasNumbers, ItemsHaveNumbers, MembersHaveNumbers}
+use Rattle.json.specs.Tree.{HasNumbers, ItemsHaveNumbers}
 use Rattle.json.proofs.Printed.Decimals.{IsNumber-decimal, IsNumber-signed_decimal}
 use Rattle.serde_json.specs.Data.{Data, string, Items}
 use Rattle.serde_json.specs.Read.{of_json, of_items}

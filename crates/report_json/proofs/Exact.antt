@@ -9,7 +9,7 @@ use Rattle.act_expr.specs.declared.outcome.Value.TheVariants.{Null, Num}
 use Rattle.act_expr.specs.declared.outcome.Outcome.{Outcome}
 use Rattle.act_expr.specs.declared.outcome.Outcome.TheVariants as outcome
 use Rattle.serde_json.specs.Data as tree
-use Rattle.serde_json.specs.Data.{Data, null, boolean, number, string, array, Items, no_items, item, Members, no_members, member, put, depth, items_depth, members_depth}
+use Rattle.serde_json.specs.Data.{Data, null, boolean, number, string, array, Items, item, Members, no_members, member, put, depth, items_depth, members_depth}
 use Rattle.serde_json.specs.View.{items_of}
 use Rattle.serde_json.specs.Written.{has_float, items_have_float, members_have_float}
 use Rattle.report_json.specs.Json.{NamedValues, at_line, count, list, object, optional, outcome_json, text, value_json, with}

@@ -1,5 +1,5 @@
 -- A place without a stage has no shift.
-use Rattle.std.proofs.Common.{◌≡◌, ℕ, zero, suc, List, Option, None, Some, length, refl, ap, sym, ◌∙◌}
+use Rattle.std.proofs.Common.{◌≡◌, ℕ, zero, suc, List, Option, None, length, refl, ap, sym, ◌∙◌}
 use Rattle.stage_graph.specs.declared.stage.Stage.{Stage}
 use Rattle.stage_graph.specs.Plain.{stage_at}
 use Rattle.stage_graph.specs.Walk.{from_feeds, step_at}

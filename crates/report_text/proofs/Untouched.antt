@@ -18,7 +18,6 @@ use Rattle.version_store.specs.declared.before.Before.{Before}
 use Rattle.version_store.specs.declared.before.Before.TheVariants as stood
 use Rattle.version_store.specs.Plain.{Origin, PlainVersion}
 use Rattle.version_store.specs.Queries.{before, held, held_by, moment_in, state_of, touched_by_place, touched_in, touched_of, KeepsOthers}
-use Rattle.report_text.specs.declared.shift.Shift.{Shift}
 use Rattle.report_text.specs.Texts.{drift_at, drift_header, drift_line, drift_text, line_of, shift_at, shift_between, shift_line, shift_since, shifted_count}
 
 -- ---- a stage that is not touched has not moved

@@ -1,5 +1,6 @@
 //! The answers of evaluation, by place.
 ghost use Rattle.std.specs.Prelude.{◌≡◌, ◌<◌, None, Some, length, slice_set, replicate, IfOk};
+ghost use Rattle.std.specs.Option.{option_copied};
 ghost use Rattle.scratch_eval.specs.Answers.{StatesFollowRanks};
 
 use crate::blame::Failures;
@@ -84,13 +85,10 @@ impl Answers {
     }
 
     /// The answer at a place.
-    pub(crate) fn get(&self, place: u32) -> Option<Answer>
-        ensures { result ≡ answer_at self.now place }
+    pub(crate) fn get(&self, place: u32) -> Option<&Answer>
+        ensures { option_copied result ≡ answer_at self.now place }
     {
-        match self.items.get(place as usize) {
-            Some(answer) => *answer,
-            None => None,
-        }
+        self.items.get(place as usize)?.as_ref()
     }
 
     /// How many places there are.

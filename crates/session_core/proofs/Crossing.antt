@@ -12,7 +12,7 @@ use Rattle.stage_graph.specs.declared.places.Places.{Places}
 use Rattle.stage_graph.specs.declared.stage.Stage.{Stage}
 use Rattle.stage_ops.specs.declared.state.State.{State}
 use Rattle.stage_graph.proofs.Crossing.{edits_send, edits_sync}
-use Rattle.version_store.proofs.Crossing.{version_send, version_sync}
+use Rattle.version_store.proofs.Crossing.{version_send}
 use Rattle.session_core.specs.contracts.event.Event as event
 use Rattle.session_core.specs.contracts.event.Entry as entry
 use Rattle.session_core.specs.contracts.event.Reply as reply

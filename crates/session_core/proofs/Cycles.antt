@@ -8,9 +8,7 @@ use Rattle.stage_graph.specs.declared.edit.Edit.{Edit}
 use Rattle.stage_graph.specs.declared.stage.Stage.{Stage}
 use Rattle.stage_graph.specs.declared.fault.Refused.{Refused}
 use Rattle.stage_graph.specs.Plain.{PlainGraph, stage_at, feeds_at, all_places}
-use Rattle.stage_graph.specs.declared.fault.Refusal.{Refusal as EditRefusal}
-use Rattle.stage_graph.specs.Changes.{then_on, changed_from, changed}
-use Rattle.stage_graph.specs.Edits.{edited}
+use Rattle.stage_graph.specs.Changes.{changed}
 use Rattle.stage_graph.specs.Walk.{Walk, IsRanked}
 use Rattle.stage_graph.specs.Order.{IsClosedWalk}
 use Rattle.stage_graph.proofs.Ranked.{live_from_feed, not_ranked_from_closed_walk}

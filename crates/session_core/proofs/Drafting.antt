@@ -1,5 +1,5 @@
 -- The results of drafting a version, in the table's terms.
-use Rattle.std.proofs.Common.{◌≡◌, ◌≤◌, ◌^◌, List, length, ap, sym, ◌∙◌, arith, Ok, Err}
+use Rattle.std.proofs.Common.{◌≡◌, List, ap, sym, ◌∙◌, Ok, Err}
 use Rattle.stage_graph.specs.declared.edit.Edit.{Edit}
 use Rattle.stage_graph.specs.declared.fault.Fault.{Fault}
 use Rattle.stage_graph.specs.declared.fault.Fault.TheVariants.{Refused, Cycle, Memory}

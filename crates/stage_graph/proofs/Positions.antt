@@ -1,10 +1,10 @@
 -- The first place at which a test passes.
-use Rattle.std.proofs.Common.{Bool, true, false, cond, ◌≡◌, ◌<◌, ◌≤◌, ◌+◌, ℕ, inl, inr, List, [], ◌∷◌, ◌++◌, length, take, Option, Some, None, is_some, refl, ap, ◌∙◌, get_or, nat_lt, arith}
+use Rattle.std.proofs.Common.{Bool, true, false, cond, ◌≡◌, ◌<◌, ◌≤◌, ◌+◌, ℕ, inl, inr, List, [], ◌∷◌, ◌++◌, length, Option, Some, None, is_some, refl, ap, ◌∙◌, get_or, nat_lt, arith}
 use Rattle.std.specs.Prelude.{position}
 use Rattle.std.specs.List.{position_or_len}
 use Rattle.std.proofs.lemmas.Bool.{cases_lt}
 use Rattle.std.proofs.lemmas.Grind.{common_steps}
-use Rattle.std.proofs.lemmas.List.{take_more, length-take, get_or_append_left, get_or_push, length-append}
+use Rattle.std.proofs.lemmas.List.{get_or_append_left, get_or_push, length-append}
 use Rattle.std.proofs.lemmas.List.Sums.{position_or_len_is, fails_before_first}
 use Rattle.std.proofs.lemmas.List.Quantifiers.{position-Some}
 
@@ -51,11 +51,3 @@ module _ {A : Type 0} (p : A → Bool) where
 
   pub position_push : (xs : List A) (y : A) → position p (xs ++ y ∷ []) ≡ cond (is_some (position p xs)) (position p xs) (cond (p y) (Some (length xs)) None)
   position_push xs y = pushed xs y (position p xs) (p y) refl refl
-
-  -- one more item of the list
-  pub position_more : (xs : List A) (k : ℕ) (d : A) → k < length xs
-      → position p (take (k + 1) xs) ≡ cond (is_some (position p (take k xs))) (position p (take k xs)) (cond (p (get_or xs k d)) (Some k) None)
-  position_more xs k d within =
-      let all : length (take k xs) ≡ k = omega (arith, length-take k xs) in
-      ap (position p) (take_more xs k d within) ∙ position_push (take k xs) (get_or xs k d)
-      ∙ ap (λ n. cond (is_some (position p (take k xs))) (position p (take k xs)) (cond (p (get_or xs k d)) (Some n) None)) all

@@ -1,9 +1,8 @@
 //! A table of names.
-ghost use Rattle.std.specs.Prelude.{◌≡◌, ℕ, ◌<◌, ◌^◌, List, Some, None, if◌then◌else◌, IfOk, OnOk, is_some, unwrap_or};
+ghost use Rattle.std.specs.Prelude.{◌≡◌, ℕ, ◌<◌, ◌^◌, List, Some, None, if◌then◌else◌, IfOk, OnOk, unwrap_or};
 ghost use Rattle.std.specs.Str.{bytes_eq};
 ghost use Rattle.stage_graph.specs.Checks.{are_known};
-ghost use Rattle.indexmap.specs.IndexMap.{hasher_of};
-ghost use Rattle.stage_graph.specs.Hashers.{after_names};
+ghost use Rattle.stage_graph.specs.Hashers.{after_names, hashes_begin};
 ghost use Rattle.stage_graph.specs.Names.{first_place, found, places_of, stage_of};
 
 use crate::checks::{Checks, MOST_PLACES, checks_of};
@@ -26,7 +25,7 @@ impl FirstPlaces {
     /// No places, with room for those of the names of a list, as far as a graph may have as many.
     pub(crate) fn new(alloc: Global, specs: &[Spec]) -> Result<FirstPlaces, AllocError>
         ensures empty { IfOk result (λ first. (name : List ℕ) → first_place first name ≡ None) }
-        ensures hashed { IfOk result (λ first. (hasher_of first.places).start ≡ after_names specs.now) }
+        ensures hashed { IfOk result (λ first. hashes_begin first ≡ after_names specs.now) }
     {
         let places = specs.len().min(MOST_PLACES);
         let hasher = ListHasher::of(specs);
@@ -42,14 +41,11 @@ impl FirstPlaces {
         self.places.get(name).copied()
     }
 
-    /// Sets the place of a name that has none.
-    pub(crate) fn add(&mut self, alloc: Global, name: &str, place: usize) -> Result<(), AllocError>
-        ensures { OnOk result ((other : List ℕ) → first_place self.new other
-            ≡ (if is_some (first_place self.old other) then first_place self.old other else (if bytes_eq name.now other then Some place else None))) }
+    /// Sets the place of a name, in place of the one that it has, if any.
+    pub(crate) fn set(&mut self, alloc: Global, name: &str, place: usize) -> Result<(), AllocError>
+        ensures { OnOk result ((other : List ℕ) → first_place self.new other ≡ (if bytes_eq name.now other then Some place else first_place self.old other)) }
     {
-        if let None = self.get(name) {
-            self.places.insert(String::from_str(alloc, name)?, place)?;
-        }
+        self.places.insert(String::from_str(alloc, name)?, place)?;
         Ok(())
     }
 }

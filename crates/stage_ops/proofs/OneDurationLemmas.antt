@@ -39,7 +39,7 @@ use Rattle.stage_ops.specs.Pinned as pins
 use Rattle.stage_ops.specs.Ended as ends
 use Rattle.stage_ops.specs.Reads as read
 use Rattle.stage_ops.specs.Java.{java_step}
-use Rattle.stage_ops.specs.OneDuration.{Course, waits, completes, awaits, completes_at, runs, hands_on, awaits_place, picked, picks, after_value, after_failure, after_outcome, decided, after_earliest, after_values, unless_failed, after_all, course_of, finished, with_pins, set_by, completed_at, ended, read_on, reads, Sight, nothing_seen, step_on, step, sight_of}
+use Rattle.stage_ops.specs.OneDuration.{Course, waits, completes, awaits, completes_at, runs, awaits_place, picked, picks, after_value, after_failure, after_outcome, decided, after_earliest, after_values, unless_failed, after_all, course_of, finished, with_pins, set_by, completed_at, ended, read_on, reads, Sight, nothing_seen, step_on, step, sight_of}
 use Rattle.stage_ops.specs.OneDuration as once
 
 -- a progress without starts

@@ -1,5 +1,5 @@
 -- A cause is open exactly for a pending stage that waits for no source.
-use Rattle.std.proofs.Common.{ℕ, suc, zero, pos, negsuc, ◌+◌, ◌≡◌, max, Bool, true, false, cond, List, [], ◌∷◌, ◌++◌, Option, Some, None, refl, sym, ap, ◌∙◌, arith}
+use Rattle.std.proofs.Common.{ℕ, pos, negsuc, ◌+◌, ◌≡◌, max, Bool, true, false, cond, List, [], ◌∷◌, ◌++◌, Option, Some, None, refl, sym, ap, ◌∙◌, arith}
 use Rattle.std.specs.Prelude.{IsTrue, is_some, length, map, slice_get, ◌==◌}
 use Rattle.std.specs.Option.{option_map, option_to_list}
 use Rattle.std.specs.List.{cons_option}
@@ -19,7 +19,7 @@ use Rattle.stage_graph.specs.Checks.{has_arity}
 use Rattle.stage_ops.specs.declared.natural.Progress.{Progress}
 use Rattle.stage_ops.specs.declared.natural.Progress.TheVariants.{Waits, Completes, Awaits}
 use Rattle.stage_ops.specs.declared.reason.Cause.{Cause}
-use Rattle.stage_ops.specs.declared.reason.Cause.TheVariants.{Created, After, Inner, Pinned, Ended, Waiting, Open}
+use Rattle.stage_ops.specs.declared.reason.Cause.TheVariants.{Open}
 use Rattle.stage_ops.specs.declared.reason.Reason.{Reason}
 use Rattle.stage_ops.specs.declared.sources.Source.{Source}
 use Rattle.stage_ops.specs.declared.state.Done.{Done}
@@ -31,10 +31,10 @@ use Rattle.stage_ops.specs.AfterOne.{after_value, after_failure, after_outcome, 
 use Rattle.stage_ops.specs.AfterAll.{after_values, value_named, unless_failed, after_all}
 use Rattle.stage_ops.specs.Natural.{progress_of, finished, natural}
 use Rattle.stage_ops.specs.Pinned.{pinned, with_pins}
-use Rattle.stage_ops.specs.Ended.{done_moment, ended, set_by}
+use Rattle.stage_ops.specs.Ended.{done_moment, set_by}
 use Rattle.stage_ops.specs.Java.{java_step}
-use Rattle.stage_ops.specs.Reasons.{ended_reason, feed_in, first_pending, later_by, natural_reason, pending_on, reason, reason_on, tick_of, trigger_cause, triggered_by, first_at, waited_for, with_pins_reason}
-use Rattle.stage_ops.specs.Accounts.{IsAccount, EachIsOpen}
+use Rattle.stage_ops.specs.Reasons.{ended_reason, first_pending, later_by, natural_reason, pending_on, reason, reason_on, tick_of, triggered_by, first_at, waited_for, with_pins_reason}
+use Rattle.stage_ops.specs.Accounts.{EachIsOpen}
 use Rattle.stage_ops.proofs.Accounting.{each_accounts, each_cause}
 
 -- the progress waits for a source

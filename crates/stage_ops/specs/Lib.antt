@@ -23,3 +23,4 @@ pub mod ProgressLaws
 pub mod AmongLaws
 pub mod JavaLaws
 pub mod Texts
+pub mod Usual

@@ -15,6 +15,7 @@ mod reasons;
 mod sources;
 mod state;
 mod texts;
+mod usual;
 
 pub use java::JavaOps;
 pub use joins::join;

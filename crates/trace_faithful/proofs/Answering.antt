@@ -31,7 +31,7 @@ use Rattle.trace_stages.specs.Failures as fails
 use Rattle.trace_stages.specs.Fates.{fate_at, fate_of}
 use Rattle.trace_stages.specs.Known.{PlainKnown}
 use Rattle.trace_stages.specs.Naming.{PlainStage, imported, name_of}
-use Rattle.trace_stages.specs.Order.{entry_sources, join_sources, most_joins, needed, needs, ordered, put_stage, source_of, visited}
+use Rattle.trace_stages.specs.Order.{entry_sources, join_sources, most_joins, needed, needs, put_stage, source_of, visited}
 use Rattle.trace_stages.specs.Outcomes.{has_failed}
 use Rattle.trace_stages.specs.Scene.{PlainScene, entry_at}
 use Rattle.trace_stages.specs.StagesOf.{known_of}

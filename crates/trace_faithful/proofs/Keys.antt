@@ -6,7 +6,7 @@ use Rattle.std.specs.Option.{option_and_then, option_eq, option_map}
 use Rattle.std.proofs.lemmas.Bool.{cases_lt, false≢true}
 use Rattle.std.proofs.lemmas.Bool.Decides.{nat_tests}
 use Rattle.std.proofs.lemmas.List.FromFn.{length-map-range_with_len}
-use Rattle.std.proofs.lemmas.Option.{none-some, same_Some, slice_get-get_or, slice_get_past}
+use Rattle.std.proofs.lemmas.Option.{none-some, same_Some, slice_get_past}
 use Rattle.trace_events.specs.Events.{events_of}
 use Rattle.trace_events.specs.Holdings.{ended, held, held_by}
 use Rattle.trace_events.specs.Moments.{AreMoments, At}
@@ -25,8 +25,8 @@ use Rattle.trace_stages.specs.Order.{entry_sources, join_sources}
 use Rattle.trace_stages.specs.Outcomes.{PlainSight, join_outcomes, outcome_of}
 use Rattle.trace_stages.specs.Scene.{PlainScene, entry_at, list_at, scene_of, span_joins, thrown_join}
 use Rattle.trace_stages.specs.StagesOf.{had, known_of}
-use Rattle.trace_stages.specs.Throwers.{all_thrown, if_thrown, is_thrown_to, last_of, last_to_end, later_of, thrower, thrown_by, thrown_on, thrown_sources, thrown_to}
-use Rattle.trace_stages.specs.Works.{at_end, begin_work, end_with, ended_work, whole_with, whole_work}
+use Rattle.trace_stages.specs.Throwers.{all_thrown, if_thrown, is_thrown_to, last_of, later_of, thrower, thrown_by, thrown_on, thrown_sources, thrown_to}
+use Rattle.trace_stages.specs.Works.{at_end, begin_work, end_with, whole_with}
 use Rattle.trace_stages.specs.declared.stage.Action.{Action}
 use Rattle.trace_stages.specs.declared.stage.Action.TheVariants.{Null}
 use Rattle.trace_stages.specs.declared.stage.Exception.{Exception}

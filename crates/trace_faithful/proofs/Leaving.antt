@@ -1,7 +1,6 @@
 -- Spans fail as their definition says: each is left after all that it waits for.
 use Rattle.std.proofs.Common.{◌≡◌, ℕ, suc, zero, ◌+◌, ◌<◌, ◌≤◌, inl, inr, List, [], ◌∷◌, ◌++◌, Bool, true, false, cond, length, map, Option, Some, None, refl, sym, ap, ◌∙◌, subst, arith}
-use Rattle.std.specs.Prelude.{◌⊎◌, ◌==◌, Contains, IsPermutation, filter, flat_map, fold, nat_eq, nat_lt, reverse, slice_get, unwrap_or}
-use Rattle.std.specs.List.{range_with_len}
+use Rattle.std.specs.Prelude.{◌⊎◌, ◌==◌, Contains, filter, flat_map, fold, nat_eq, nat_lt, slice_get, unwrap_or}
 use Rattle.std.specs.Option.{option_and_then, option_eq, option_map}
 use Rattle.std.proofs.lemmas.Bool.{false≢true}
 use Rattle.std.proofs.lemmas.Bool.Decides.{nat_tests}
@@ -12,7 +11,7 @@ use Rattle.std.proofs.lemmas.Option.{none-some}
 use Rattle.trace_events.specs.Moments.{AreMoments, At}
 use Rattle.trace_family.specs.Ancestry.{known as known_parent, parent_at}
 use Rattle.trace_family.specs.Family.{PlainFamily, parent_meant}
-use Rattle.trace_family.specs.Moments.{end_moment, interval_at}
+use Rattle.trace_family.specs.Moments.{interval_at}
 use Rattle.trace_family.specs.Parents.{all_references, references_from}
 use Rattle.trace_family.specs.declared.moment.Interval.{Interval}
 use Rattle.trace_spans.specs.declared.span.Span.{Span}
@@ -31,7 +30,7 @@ use Rattle.trace_walk.specs.declared.stage.StageId.{StageId}
 use Rattle.trace_faithful.proofs.Climbing.{deeper, shallow}
 use Rattle.trace_faithful.proofs.Each.{Each, In, each-in, in-append}
 use Rattle.trace_faithful.proofs.Joining.{AreMade, Made}
-use Rattle.trace_faithful.proofs.Keys.{Deep, Part, WaitsFor, in_flat_map, own_joins, own_made, same_option}
+use Rattle.trace_faithful.proofs.Keys.{Deep, WaitsFor, own_made, same_option}
 use Rattle.trace_faithful.proofs.Ranking.{contains_in, in_contains}
 use Rattle.trace_faithful.proofs.Relations.{IsFamily, Parents, Waits, ended_place, parent_below, parents_within, waits_is}
 use Rattle.trace_faithful.proofs.Ticking.{Outcome}

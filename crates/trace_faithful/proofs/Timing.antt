@@ -5,7 +5,7 @@ use Rattle.std.specs.List.{list_any}
 use Rattle.std.specs.Option.{option_map}
 use Rattle.std.proofs.lemmas.Bool.{cases_lt}
 use Rattle.std.proofs.lemmas.Bool.Decides.{nat_tests}
-use Rattle.std.proofs.lemmas.Option.{none-some, same_Some, slice_get-map, slice_get_within}
+use Rattle.std.proofs.lemmas.Option.{none-some, same_Some, slice_get_within}
 use Rattle.trace_events.specs.Holdings.{held}
 use Rattle.trace_events.specs.Moments.{AreMoments, At}
 use Rattle.trace_family.specs.Family.{PlainFamily}
@@ -33,7 +33,7 @@ use Rattle.trace_walk.specs.declared.stage.StageId.{StageId}
 use Rattle.trace_walk.specs.declared.stage.StageId.TheVariants.{Start, Whole, Entry, Join}
 use Rattle.trace_faithful.proofs.Each.{Each, In, at-append, each-append, each-in, each-map, each-weaker}
 use Rattle.trace_faithful.proofs.Joining.{Joins, Made, extends-refl, joins_made, made-at, made-later, made-weaker}
-use Rattle.trace_faithful.proofs.Keys.{HeldHas, Part, WaitsFor, end_made, ended_waits, entry_is, filter_each, had_is, held_has, in_flat_map, in_mapped_range, join_place, joins_are_made, joins_at, least, least_is, no_entry, no_had, no_thrown, own_joins, past_end}
+use Rattle.trace_faithful.proofs.Keys.{Part, WaitsFor, end_made, ended_waits, entry_is, filter_each, had_is, held_has, in_flat_map, in_mapped_range, join_place, joins_are_made, joins_at, least, least_is, no_entry, no_had, no_thrown, own_joins, past_end}
 use Rattle.trace_faithful.proofs.Relations.{IsFamily, after_is, and_left, ended_number, ended_place, found_in, inside_is, mapped_range, waits_is, within_number}
 use Rattle.trace_faithful.proofs.Rising.{EndedBy, number, start_number}
 use Rattle.trace_faithful.proofs.Ticking.{Outcome, Settled, join_is, made_by}

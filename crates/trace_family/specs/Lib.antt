@@ -1,6 +1,7 @@
 pub mod Ancestry
 pub mod Family
 pub mod FaultNumbers
+pub mod FaultTexts
 pub mod Hosts
 pub mod Lines
 pub mod MetPlaces

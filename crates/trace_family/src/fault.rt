@@ -35,6 +35,11 @@ impl FamilyFault {
 }
 
 impl fmt::Display for FamilyFault {
+    ghost use Rattle.std.specs.Prelude.{Some};
+    ghost use Rattle.trace_family.specs.FaultTexts.{fault_text};
+
+    ghost output = { λ fault. Some (fault_text fault) };
+
     fn fmt<W: fmt::Write>(&self, f: &mut fmt::Formatter<W>) -> fmt::Result {
         match self {
             FamilyFault::NoTime(span) => {

@@ -1,5 +1,5 @@
 -- A text, or that it is too long.
-use Rattle.std.proofs.Common.{◌≡◌, ◌⊎◌, ◌∙◌, ℕ, ◌<◌, ◌≤◌, List, length, inl, inr, cond, Result, Ok, Err, ap, arith, sym, suc}
+use Rattle.std.proofs.Common.{◌≡◌, ◌⊎◌, ℕ, ◌<◌, ◌≤◌, List, length, inl, inr, cond, Result, Ok, Err, ap, arith, suc}
 use Rattle.std.proofs.lemmas.Bool.Decides.{leb_tells}
 use Rattle.trace_text.specs.Written.{limited, longest}
 use Rattle.trace_text.specs.declared.fault.TextFault.{TextFault}

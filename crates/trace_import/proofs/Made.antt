@@ -1,5 +1,5 @@
 -- What bytes make, put together from what each call says.
-use Rattle.std.proofs.Common.{◌≡◌, ◌∙◌, ◌≤◌, ℕ, List, length, Option, Result, Ok, Err, String, string_bytes, ap, subst, sym}
+use Rattle.std.proofs.Common.{◌≡◌, ◌∙◌, ◌≤◌, ℕ, List, length, Option, Result, Ok, Err, String, ap, subst, sym}
 use Rattle.std.specs.declared.alloc.Global.{Global}
 use Rattle.trace_family.specs.Family.{PlainFamily, family_of, plain}
 use Rattle.trace_family.specs.declared.unit.Unit.{Unit as TickUnit}

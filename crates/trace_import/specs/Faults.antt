@@ -1,7 +1,9 @@
--- Faults, and the numbers by which they are printed.
-use Rattle.std.specs.Prelude.{ℕ, Result, Ok, Err}
+-- Faults, and the numbers and texts by which they are printed.
+use Rattle.std.specs.Prelude.{ℕ, List, Result, Err, codes}
 use Rattle.trace_family.specs.FaultNumbers.{fault_number as family_number}
+use Rattle.trace_family.specs.FaultTexts.{fault_text as family_text}
 use Rattle.trace_spans.specs.FaultNumbers.{fault_number}
+use Rattle.trace_spans.specs.FaultTexts.{fault_text}
 use Rattle.trace_text.specs.declared.fault.TextFault.{TextFault}
 use Rattle.trace_text.specs.declared.fault.TextFault.TheVariants as text
 use Rattle.trace_import.specs.declared.fault.ImportFault.{ImportFault}
@@ -14,6 +16,15 @@ import_number TooManyStages = 85
 import_number TooLong = 72
 import_number Write = 40
 import_number Memory = 90
+
+-- the fault of a file or of ticks is printed as it is
+abbrev pub import_text : ImportFault → List ℕ
+import_text (Refused fault) = fault_text fault
+import_text (Unticked fault) = family_text fault
+import_text TooManyStages = codes "refused 85 TooManyStages"
+import_text TooLong = codes "refused 72 TooLong"
+import_text Write = codes "refused 40 WriteFault"
+import_text Memory = codes "refused 90 Memory"
 
 abbrev pub of_text : TextFault → ImportFault
 of_text text.TooLong = TooLong

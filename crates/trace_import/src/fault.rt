@@ -44,6 +44,11 @@ impl ImportFault {
 }
 
 impl fmt::Display for ImportFault {
+    ghost use Rattle.std.specs.Prelude.{Some};
+    ghost use Rattle.trace_import.specs.Faults.{import_text};
+
+    ghost output = { λ fault. Some (import_text fault) };
+
     fn fmt<W: fmt::Write>(&self, f: &mut fmt::Formatter<W>) -> fmt::Result {
         match self {
             ImportFault::Refused(fault) => write!(f, "{fault}"),

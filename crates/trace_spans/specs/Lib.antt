@@ -1,6 +1,7 @@
 pub mod Choice
 pub mod Exceptions
 pub mod FaultNumbers
+pub mod FaultTexts
 pub mod Identifiers
 pub mod Jaeger
 pub mod Marks

@@ -3,7 +3,7 @@ ghost use Rattle.std.specs.Prelude.{◌≡◌};
 ghost use Rattle.trace_spans.specs.FaultNumbers.{fault_number};
 
 use crate::member::Member;
-use crate::text::TextList;
+use crate::text::{Text, TextList};
 use std::alloc::AllocError;
 use std::fmt;
 use thiserror::Error;
@@ -44,7 +44,31 @@ impl Fault {
     }
 }
 
+/// Texts, each with a space before it.
+#[derive(Clone, Copy)]
+struct Spaced<'a>(&'a [Text]);
+
+impl fmt::Display for Spaced<'_> {
+    ghost use Rattle.std.specs.Prelude.{Some};
+    ghost use Rattle.trace_spans.specs.FaultTexts.{spaced_texts};
+
+    ghost output = { λ texts. Some (spaced_texts texts.0.now) };
+
+    fn fmt<W: fmt::Write>(&self, f: &mut fmt::Formatter<W>) -> fmt::Result {
+        for text in self.0 {
+            f.write_str(" ")?;
+            f.write_str(text.as_str())?;
+        }
+        Ok(())
+    }
+}
+
 impl fmt::Display for Fault {
+    ghost use Rattle.std.specs.Prelude.{Some};
+    ghost use Rattle.trace_spans.specs.FaultTexts.{fault_text};
+
+    ghost output = { λ fault. Some (fault_text fault) };
+
     fn fmt<W: fmt::Write>(&self, f: &mut fmt::Formatter<W>) -> fmt::Result {
         match self {
             Fault::TooLong => f.write_str("refused 72 TooLong"),
@@ -52,12 +76,8 @@ impl fmt::Display for Fault {
             Fault::NotATrace => f.write_str("refused 80 NotATrace"),
             Fault::Shape(member) => write!(f, "refused 71 Shape {member}"),
             Fault::SeveralTraces(traces) => {
-                f.write_str("refused 82 SeveralTraces")?;
-                for trace in traces.as_slice() {
-                    f.write_str(" ")?;
-                    f.write_str(trace.as_str())?;
-                }
-                Ok(())
+                let traces = Spaced(traces.as_slice());
+                write!(f, "refused 82 SeveralTraces{traces}")
             }
             Fault::NoTrace => f.write_str("refused 81 NoTrace"),
             Fault::Memory => f.write_str("refused 90 Memory"),

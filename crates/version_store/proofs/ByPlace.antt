@@ -1,6 +1,6 @@
 -- The touched stages, sorted by place.
-use Rattle.std.proofs.Common.{◌≡◌, ℕ, ◌<◌, ◌+◌, List, [], ◌∷◌, length, Option, Some, None, Bool, true, false, sym, ap, ◌∙◌, arith}
-use Rattle.std.specs.Prelude.{AllPairs, nat_eq, ◌==◌, filter, is_some}
+use Rattle.std.proofs.Common.{◌≡◌, ℕ, ◌<◌, List, [], ◌∷◌, length, Option, Some, None, Bool, true, sym, ◌∙◌}
+use Rattle.std.specs.Prelude.{nat_eq, filter}
 use Rattle.std.specs.List.{IsDistinct}
 use Rattle.std.specs.List.Sorted.{IsPermutation, IsSorted, IsStrictlyIncreasing}
 use Rattle.std.specs.Ordering.{nat_cmp}
@@ -11,7 +11,7 @@ use Rattle.stage_graph.specs.Plain.{PlainGraph, all_places, stage_at}
 use Rattle.stage_graph.specs.Changes.{is_edited}
 use Rattle.stage_ops.specs.Java.{java_step}
 use Rattle.rank_order.specs.Lists.{is_among, Ascends, IsAscending}
-use Rattle.rank_order.proofs.Members.{among_filter, among_range, ascends_filter, filter_among, pairs_from_ascends, range_ascends, range_among, same_members, same_tests}
+use Rattle.rank_order.proofs.Members.{among_filter, ascends_filter, filter_among, pairs_from_ascends, range_ascends, same_members, same_tests}
 use Rattle.propagate.specs.Reach.{is_touched, touched}
 use Rattle.propagate.proofs.Members.{flip_eq}
 use Rattle.propagate.proofs.Ascending.{Ascends as Follows, IsBefore, among_levels, ascends_from_pairs, distinct_from_before, levels_ascend}

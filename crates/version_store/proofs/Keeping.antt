@@ -1,5 +1,5 @@
 -- What the edits of a version leave as it was.
-use Rattle.std.proofs.Common.{◌≡◌, ℕ, List, Option, Some, None, IfSome, subst, sym}
+use Rattle.std.proofs.Common.{◌≡◌, ℕ, List, Option, IfSome, subst, sym}
 use Rattle.stage_graph.specs.declared.edit.Edit.{Edit}
 use Rattle.stage_graph.specs.Plain.{PlainGraph}
 use Rattle.stage_ops.specs.Evaluation.{at}
@@ -7,7 +7,7 @@ use Rattle.stage_ops.specs.Java.{java_step}
 use Rattle.propagate.specs.Patched.{touched_by}
 use Rattle.propagate.specs.Reach.{StaysUntouched}
 use Rattle.version_store.specs.Plain.{Origin}
-use Rattle.version_store.specs.Queries.{touched_in, KeepsOthers}
+use Rattle.version_store.specs.Queries.{KeepsOthers}
 
 -- for an origin and a graph that are the same
 pub keeps_same : (origin other : Option Origin) (graph same : PlainGraph) → other ≡ origin → same ≡ graph → IfSome origin (λ origin. KeepsOthers origin graph) → IfSome other (λ origin. KeepsOthers origin same)

@@ -1,4 +1,4 @@
-use Rattle.std.proofs.Common.{ℕ, ◌<◌, slice_index_or, subst, sym, ◌∙◌, refl, below_more}
+use Rattle.std.proofs.Common.{ℕ, slice_index_or, subst, ◌∙◌, below_more}
 use Rattle.std.proofs.lemmas.List.{get_or_default}
 use Rattle.desk.specs.Clients.{ClientView}
 use Rattle.desk.specs.Closing.{GoesWith}

@@ -1,4 +1,4 @@
-use Rattle.std.proofs.Common.{◌≡◌, ℕ, zero, suc, ◌+◌, ◌<◌, List, [], ◌∷◌, ◌++◌, length, Some, slice_get, ap, arith, length-append}
+use Rattle.std.proofs.Common.{◌≡◌, ℕ, zero, suc, ◌+◌, ◌<◌, List, [], ◌∷◌, ◌++◌, length, slice_get, ap, arith, length-append}
 use Rattle.std.specs.Option.{IsSomeAnd}
 use Rattle.desk.specs.Clients.{ClientView, IsNew}
 use Rattle.desk.proofs.starting.make_clients.Goals as goal

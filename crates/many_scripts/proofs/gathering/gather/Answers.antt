@@ -1,4 +1,4 @@
-use Rattle.std.proofs.Common.{◌≡◌, [], ◌∷◌, ◌++◌, append_assoc, arith, refl, sym, ap, ◌∙◌}
+use Rattle.std.proofs.Common.{[], ◌∷◌, ◌++◌, append_assoc, arith, refl, sym, ap, ◌∙◌}
 use Rattle.many_scripts.specs.declared.fault.ManyFault.TheVariants.{Memory}
 use Rattle.many_scripts.proofs.GatheredMore.{all_gathered, if_err, if_ok, one_more}
 use Rattle.many_scripts.proofs.gathering.gather.Goals as goal

@@ -13,7 +13,7 @@ run-requires-after_bounds g c κs within = λ k d lt. (
     c.requires.climbs,
     Contains-get_or c.args.level.now k d lt,
     c.requires.live,
-    c.as_slice-passes.ensures.value ∙ c.in_ok-taken.ensures.places,
+    c.as_slice-passes.ensures.value ∙ c.in_ok-take_passes.ensures.places,
     c.requires.count,
     c.requires.moments,
   ),

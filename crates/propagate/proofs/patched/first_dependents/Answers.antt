@@ -1,6 +1,5 @@
-use Rattle.std.proofs.Common.{rules, ◌≡◌, ◌∙◌, ℕ, Some, sym, ap}
-use Rattle.stage_graph.specs.declared.edit.Edit.{Edit}
-use Rattle.stage_graph.specs.Plain.{PlainGraph, place_named, IsLive}
+use Rattle.std.proofs.Common.{sym, ap}
+use Rattle.stage_graph.specs.Plain.{PlainGraph}
 use Rattle.propagate.proofs.FirstDependents.{live_where_named}
 use Rattle.propagate.proofs.patched.first_dependents.Goals as goal
 

@@ -43,8 +43,8 @@ loop-alloc-init g c =
       counted = omega (arith, c.new-touched.ensures.len);
     }
 
-pub returns-in_err-taken-clause-refused : goal.returns-in_err-taken-clause-refused
-returns-in_err-taken-clause-refused g c =
+pub returns-in_err-take_level-clause-refused : goal.returns-in_err-take_level-clause-refused
+returns-in_err-take_level-clause-refused g c =
     let stages = c.args.graph.now.places in
     let inv = c.loop-alloc.invariant in
     let law = c.laws.ensures.reads_decide c.args.graph.now.mode in
@@ -52,7 +52,7 @@ returns-in_err-taken-clause-refused g c =
     let room = within_touched edit inv.progress in
     let kept : c.args.meter.now ≤ c.loop-alloc.meter = omega (arith, inv.counted) in
     let bound : c.loop-alloc.meter ≤ c.args.meter.now + length (touched (g.O.StageOps.step c.args.ops.now c.args.graph.now.mode) c.args.old.now.places c.args.graph.now.places (λ place. is_among place c.args.edited.now)) = omega (arith, inv.counted, room) in
-    on_err c.from_residual-in_err-taken.result _ (kept, bound)
+    on_err c.from_residual-in_err-take_level.result _ (kept, bound)
 
 pub compute_level-requires-clause-climbs : goal.compute_level-requires-clause-climbs
 compute_level-requires-clause-climbs g c κs borrowed =
@@ -60,7 +60,7 @@ compute_level-requires-clause-climbs g c κs borrowed =
     let inv = c.loop-alloc.invariant in
     let law = c.laws.ensures.reads_decide c.args.graph.now.mode in
     let edit = ranked_change c.args.old.now c.args.graph.now (λ place. is_among place c.args.edited.now) c.requires.old_ranked c.requires.ranked c.requires.sound c.requires.change in
-    let one = level_of stages c.loop-alloc.marks c.take_level.new.self c.in_ok-taken.taken.items c.as_slice-level.result.now c.as_slice-level.ensures.value (c.in_ok-taken.ensures.level (rank stages) inv.marks) in
+    let one = level_of stages c.loop-alloc.marks c.take_level.new.self c.take_level.new.level.items c.as_slice-level.result.now c.as_slice-level.ensures.value (c.in_ok-take_level.ensures.level (rank stages) inv.marks) in
     climbs c.as_slice-level.result.now one.ascends
 
 pub compute_level-requires-clause-live : goal.compute_level-requires-clause-live
@@ -69,7 +69,7 @@ compute_level-requires-clause-live g c κs borrowed =
     let inv = c.loop-alloc.invariant in
     let law = c.laws.ensures.reads_decide c.args.graph.now.mode in
     let edit = ranked_change c.args.old.now c.args.graph.now (λ place. is_among place c.args.edited.now) c.requires.old_ranked c.requires.ranked c.requires.sound c.requires.change in
-    let one = level_of stages c.loop-alloc.marks c.take_level.new.self c.in_ok-taken.taken.items c.as_slice-level.result.now c.as_slice-level.ensures.value (c.in_ok-taken.ensures.level (rank stages) inv.marks) in
+    let one = level_of stages c.loop-alloc.marks c.take_level.new.self c.take_level.new.level.items c.as_slice-level.result.now c.as_slice-level.ensures.value (c.in_ok-take_level.ensures.level (rank stages) inv.marks) in
     level_live law edit inv.progress one
 
 pub mark_level-requires-clause-live : goal.mark_level-requires-clause-live
@@ -78,7 +78,7 @@ mark_level-requires-clause-live g c κs borrowed =
     let inv = c.loop-alloc.invariant in
     let law = c.laws.ensures.reads_decide c.args.graph.now.mode in
     let edit = ranked_change c.args.old.now c.args.graph.now (λ place. is_among place c.args.edited.now) c.requires.old_ranked c.requires.ranked c.requires.sound c.requires.change in
-    let one = level_of stages c.loop-alloc.marks c.take_level.new.self c.in_ok-taken.taken.items c.as_slice-level.result.now c.as_slice-level.ensures.value (c.in_ok-taken.ensures.level (rank stages) inv.marks) in
+    let one = level_of stages c.loop-alloc.marks c.take_level.new.self c.take_level.new.level.items c.as_slice-level.result.now c.as_slice-level.ensures.value (c.in_ok-take_level.ensures.level (rank stages) inv.marks) in
     level_live law edit inv.progress one
 
 pub compute_level-requires-clause-moments : goal.compute_level-requires-clause-moments
@@ -98,7 +98,7 @@ compute_level-requires-clause-room g c =
     let inv = c.loop-alloc.invariant in
     let law = c.laws.ensures.reads_decide c.args.graph.now.mode in
     let edit = ranked_change c.args.old.now c.args.graph.now (λ place. is_among place c.args.edited.now) c.requires.old_ranked c.requires.ranked c.requires.sound c.requires.change in
-    let one = level_of stages c.loop-alloc.marks c.take_level.new.self c.in_ok-taken.taken.items c.as_slice-level.result.now c.as_slice-level.ensures.value (c.in_ok-taken.ensures.level (rank stages) inv.marks) in
+    let one = level_of stages c.loop-alloc.marks c.take_level.new.self c.take_level.new.level.items c.as_slice-level.result.now c.as_slice-level.ensures.value (c.in_ok-take_level.ensures.level (rank stages) inv.marks) in
     let few = c.requires.sound.few in
     let room = level_in_graph law edit inv.progress one in
     omega (arith, inv.counted, few, room, c.requires.room)
@@ -109,7 +109,7 @@ mark_level-requires-clause-within g c κs borrowed =
     let inv = c.loop-alloc.invariant in
     let law = c.laws.ensures.reads_decide c.args.graph.now.mode in
     let edit = ranked_change c.args.old.now c.args.graph.now (λ place. is_among place c.args.edited.now) c.requires.old_ranked c.requires.ranked c.requires.sound c.requires.change in
-    let one = level_of stages c.loop-alloc.marks c.take_level.new.self c.in_ok-taken.taken.items c.as_slice-level.result.now c.as_slice-level.ensures.value (c.in_ok-taken.ensures.level (rank stages) inv.marks) in
+    let one = level_of stages c.loop-alloc.marks c.take_level.new.self c.take_level.new.level.items c.as_slice-level.result.now c.as_slice-level.ensures.value (c.in_ok-take_level.ensures.level (rank stages) inv.marks) in
     live_places stages c.loop-alloc.states c.as_slice-level.result.now inv.count (level_live law edit inv.progress one)
 
 pub write_level-requires-clause-within : goal.write_level-requires-clause-within
@@ -118,7 +118,7 @@ write_level-requires-clause-within g c κs borrowed =
     let inv = c.loop-alloc.invariant in
     let law = c.laws.ensures.reads_decide c.args.graph.now.mode in
     let edit = ranked_change c.args.old.now c.args.graph.now (λ place. is_among place c.args.edited.now) c.requires.old_ranked c.requires.ranked c.requires.sound c.requires.change in
-    let one = level_of stages c.loop-alloc.marks c.take_level.new.self c.in_ok-taken.taken.items c.as_slice-level.result.now c.as_slice-level.ensures.value (c.in_ok-taken.ensures.level (rank stages) inv.marks) in
+    let one = level_of stages c.loop-alloc.marks c.take_level.new.self c.take_level.new.level.items c.as_slice-level.result.now c.as_slice-level.ensures.value (c.in_ok-take_level.ensures.level (rank stages) inv.marks) in
     live_places stages c.loop-alloc.states c.as_slice-level.result.now inv.count (level_live law edit inv.progress one)
 
 pub returns-in_err-computed-clause-refused : goal.returns-in_err-computed-clause-refused
@@ -127,7 +127,7 @@ returns-in_err-computed-clause-refused g c =
     let inv = c.loop-alloc.invariant in
     let law = c.laws.ensures.reads_decide c.args.graph.now.mode in
     let edit = ranked_change c.args.old.now c.args.graph.now (λ place. is_among place c.args.edited.now) c.requires.old_ranked c.requires.ranked c.requires.sound c.requires.change in
-    let one = level_of stages c.loop-alloc.marks c.take_level.new.self c.in_ok-taken.taken.items c.as_slice-level.result.now c.as_slice-level.ensures.value (c.in_ok-taken.ensures.level (rank stages) inv.marks) in
+    let one = level_of stages c.loop-alloc.marks c.take_level.new.self c.take_level.new.level.items c.as_slice-level.result.now c.as_slice-level.ensures.value (c.in_ok-take_level.ensures.level (rank stages) inv.marks) in
     let room = level_touched law edit inv.progress one in
     let kept : c.args.meter.now ≤ c.compute_level.new.meter = omega (arith, inv.counted, c.in_err-computed.ensures.refused.0) in
     let bound : c.compute_level.new.meter ≤ c.args.meter.now + length (touched (g.O.StageOps.step c.args.ops.now c.args.graph.now.mode) c.args.old.now.places c.args.graph.now.places (λ place. is_among place c.args.edited.now)) = omega (arith, inv.counted, c.in_err-computed.ensures.refused.1, room) in
@@ -139,7 +139,7 @@ returns-in_err-mark_level-clause-refused g c =
     let inv = c.loop-alloc.invariant in
     let law = c.laws.ensures.reads_decide c.args.graph.now.mode in
     let edit = ranked_change c.args.old.now c.args.graph.now (λ place. is_among place c.args.edited.now) c.requires.old_ranked c.requires.ranked c.requires.sound c.requires.change in
-    let one = level_of stages c.loop-alloc.marks c.take_level.new.self c.in_ok-taken.taken.items c.as_slice-level.result.now c.as_slice-level.ensures.value (c.in_ok-taken.ensures.level (rank stages) inv.marks) in
+    let one = level_of stages c.loop-alloc.marks c.take_level.new.self c.take_level.new.level.items c.as_slice-level.result.now c.as_slice-level.ensures.value (c.in_ok-take_level.ensures.level (rank stages) inv.marks) in
     let room = level_touched law edit inv.progress one in
     let kept : c.args.meter.now ≤ c.compute_level.new.meter = omega (arith, inv.counted, c.in_ok-computed.ensures.counted) in
     let bound : c.compute_level.new.meter ≤ c.args.meter.now + length (touched (g.O.StageOps.step c.args.ops.now c.args.graph.now.mode) c.args.old.now.places c.args.graph.now.places (λ place. is_among place c.args.edited.now)) = omega (arith, inv.counted, c.in_ok-computed.ensures.counted, room) in
@@ -151,7 +151,7 @@ returns-in_err-write_level-clause-refused g c =
     let inv = c.loop-alloc.invariant in
     let law = c.laws.ensures.reads_decide c.args.graph.now.mode in
     let edit = ranked_change c.args.old.now c.args.graph.now (λ place. is_among place c.args.edited.now) c.requires.old_ranked c.requires.ranked c.requires.sound c.requires.change in
-    let one = level_of stages c.loop-alloc.marks c.take_level.new.self c.in_ok-taken.taken.items c.as_slice-level.result.now c.as_slice-level.ensures.value (c.in_ok-taken.ensures.level (rank stages) inv.marks) in
+    let one = level_of stages c.loop-alloc.marks c.take_level.new.self c.take_level.new.level.items c.as_slice-level.result.now c.as_slice-level.ensures.value (c.in_ok-take_level.ensures.level (rank stages) inv.marks) in
     let room = level_touched law edit inv.progress one in
     let kept : c.args.meter.now ≤ c.compute_level.new.meter = omega (arith, inv.counted, c.in_ok-computed.ensures.counted) in
     let bound : c.compute_level.new.meter ≤ c.args.meter.now + length (touched (g.O.StageOps.step c.args.ops.now c.args.graph.now.mode) c.args.old.now.places c.args.graph.now.places (λ place. is_among place c.args.edited.now)) = omega (arith, inv.counted, c.in_ok-computed.ensures.counted, room) in
@@ -163,7 +163,7 @@ returns-in_err-extend_from_slice-clause-refused g c =
     let inv = c.loop-alloc.invariant in
     let law = c.laws.ensures.reads_decide c.args.graph.now.mode in
     let edit = ranked_change c.args.old.now c.args.graph.now (λ place. is_among place c.args.edited.now) c.requires.old_ranked c.requires.ranked c.requires.sound c.requires.change in
-    let one = level_of stages c.loop-alloc.marks c.take_level.new.self c.in_ok-taken.taken.items c.as_slice-level.result.now c.as_slice-level.ensures.value (c.in_ok-taken.ensures.level (rank stages) inv.marks) in
+    let one = level_of stages c.loop-alloc.marks c.take_level.new.self c.take_level.new.level.items c.as_slice-level.result.now c.as_slice-level.ensures.value (c.in_ok-take_level.ensures.level (rank stages) inv.marks) in
     let room = level_touched law edit inv.progress one in
     let kept : c.args.meter.now ≤ c.compute_level.new.meter = omega (arith, inv.counted, c.in_ok-computed.ensures.counted) in
     let bound : c.compute_level.new.meter ≤ c.args.meter.now + length (touched (g.O.StageOps.step c.args.ops.now c.args.graph.now.mode) c.args.old.now.places c.args.graph.now.places (λ place. is_among place c.args.edited.now)) = omega (arith, inv.counted, c.in_ok-computed.ensures.counted, room) in
@@ -175,10 +175,10 @@ loop-alloc-smaller g c =
     let inv = c.loop-alloc.invariant in
     let law = c.laws.ensures.reads_decide c.args.graph.now.mode in
     let edit = ranked_change c.args.old.now c.args.graph.now (λ place. is_among place c.args.edited.now) c.requires.old_ranked c.requires.ranked c.requires.sound c.requires.change in
-    let one = level_of stages c.loop-alloc.marks c.take_level.new.self c.in_ok-taken.taken.items c.as_slice-level.result.now c.as_slice-level.ensures.value (c.in_ok-taken.ensures.level (rank stages) inv.marks) in
+    let one = level_of stages c.loop-alloc.marks c.take_level.new.self c.take_level.new.level.items c.as_slice-level.result.now c.as_slice-level.ensures.value (c.in_ok-take_level.ensures.level (rank stages) inv.marks) in
     let room = level_in_graph law edit inv.progress one in
     let some : 0 < length c.loop-alloc.marks = let differ : length c.loop-alloc.marks ≢ 0 = λ none. true≢false (sym (c.is_empty.ensures.1 none) ∙ c.loop-alloc-test.true) in omega arith in
-    omega (arith, room, c.in_ok-taken.ensures.some some, ap length c.as_slice-level.ensures.value, c.in_ok-extend_from_slice.ensures.len)
+    omega (arith, room, c.in_ok-take_level.ensures.some some, ap length c.as_slice-level.ensures.value, c.in_ok-extend_from_slice.ensures.len)
 
 pub loop-alloc-preserved : goal.loop-alloc-preserved
 loop-alloc-preserved g c =
@@ -186,7 +186,7 @@ loop-alloc-preserved g c =
     let inv = c.loop-alloc.invariant in
     let law = c.laws.ensures.reads_decide c.args.graph.now.mode in
     let edit = ranked_change c.args.old.now c.args.graph.now (λ place. is_among place c.args.edited.now) c.requires.old_ranked c.requires.ranked c.requires.sound c.requires.change in
-    let one = level_of stages c.loop-alloc.marks c.take_level.new.self c.in_ok-taken.taken.items c.as_slice-level.result.now c.as_slice-level.ensures.value (c.in_ok-taken.ensures.level (rank stages) inv.marks) in
+    let one = level_of stages c.loop-alloc.marks c.take_level.new.self c.take_level.new.level.items c.as_slice-level.result.now c.as_slice-level.ensures.value (c.in_ok-take_level.ensures.level (rank stages) inv.marks) in
     let step = (g.O.StageOps.step c.args.ops.now c.args.graph.now.mode) in
     let level = c.as_slice-level.result.now in
     let same = level_results law edit inv.progress one c.as_slice-results.result.now (c.as_slice-results.ensures.value ∙ c.in_ok-computed.ensures.states) in
@@ -196,7 +196,7 @@ loop-alloc-preserved g c =
           (sym c.in_ok-extend_from_slice.ensures.items)
           (level_done law edit inv.progress one (is_marked (rank stages) c.mark_level.new.marks) (state_at c.write_level.new.self)
           (c.in_ok-mark_level.ensures.marked (at step stages) same) (c.in_ok-write_level.ensures.states (at step stages) same));
-      marks = c.in_ok-mark_level.ensures.marks (marks_left c.loop-alloc.marks c.take_level.new.self c.in_ok-taken.ensures.left (rank stages) inv.marks);
+      marks = c.in_ok-mark_level.ensures.marks (marks_left c.loop-alloc.marks c.take_level.new.self c.in_ok-take_level.ensures.left (rank stages) inv.marks);
       count = c.in_ok-write_level.ensures.count ∙ inv.count;
       counted = omega (arith, inv.counted, c.in_ok-computed.ensures.counted, c.in_ok-extend_from_slice.ensures.len);
     }

@@ -1,4 +1,4 @@
-use Rattle.std.proofs.Common.{◌≡◌, ◌==◌, ◌-◌, length, drop, take, slice_index, option_map, true, false, sym, ap, ◌∙◌, arith, take_all, length-drop}
+use Rattle.std.proofs.Common.{◌≡◌, ◌==◌, ◌-◌, length, drop, take, slice_index, true, false, sym, ap, ◌∙◌, arith, take_all, length-drop}
 use Rattle.fast_float.specs.Text.{minus, scan}
 use Rattle.serde_json.specs.Read.{number_of, number_from}
 use Rattle.recording.proofs.numbers.number_of.Goals as goal

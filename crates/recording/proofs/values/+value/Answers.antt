@@ -1,13 +1,13 @@
-use Rattle.std.proofs.Common.{rules, ◌≡◌, ◌+◌, ◌<◌, ℕ, List, [], ◌∷◌, length, drop, Option, Some, option_map, option_and_then, sym, ap, ◌∙◌, subst, arith}
+use Rattle.std.proofs.Common.{rules, ◌≡◌, ◌+◌, ◌<◌, [], ◌∷◌, length, drop, Some, option_map, option_and_then, sym, ap, ◌∙◌, arith}
 use Rattle.std.proofs.lemmas.List.{drop_more, drop_all}
 use Rattle.json.specs.Tree.{json_tokens, items_tokens, members_tokens}
 use Rattle.json.specs.Value.{value_view}
 use Rattle.json.specs.Value.{items_view as trees_view}
 use Rattle.json.specs.Value.{members_view as entries_view}
 use Rattle.json.proofs.Trees.{item_smaller, member_smaller}
-use Rattle.serde_json.specs.Data.{Items, no_members}
-use Rattle.serde_json.specs.Read.{of_json, of_items, of_members}
-use Rattle.serde_json.specs.View.{view, items_view, members_view}
+use Rattle.serde_json.specs.Data.{Items}
+use Rattle.serde_json.specs.Read.{of_items, of_members}
+use Rattle.serde_json.specs.View.{view, members_view}
 use Rattle.serde_json.proofs.Views.{members_view-insert_entry}
 use Rattle.recording.proofs.Converting.{after, after_all, one_more}
 use Rattle.recording.proofs.values.+value.Goals as goal

@@ -1,4 +1,4 @@
-use Rattle.std.proofs.Common.{◌≡◌, ℕ, drop, length, option_map}
+use Rattle.std.proofs.Common.{◌≡◌, drop, length, option_map}
 use Rattle.json.specs.Tree.{json_tokens, items_tokens, members_tokens}
 use Rattle.json.specs.Value.{value_view}
 use Rattle.json.specs.Value.{items_view as trees_view}

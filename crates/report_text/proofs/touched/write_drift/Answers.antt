@@ -1,10 +1,10 @@
 use Rattle.std.proofs.Common.{◌≡◌, ◌∙◌, ◌++◌, ℕ, List, OnOk, ap, subst}
-use Rattle.std.specs.Prelude.{count_by, is_some, string_bytes}
+use Rattle.std.specs.Prelude.{count_by, is_some}
 use Rattle.std.specs.List.{flat_map}
 use Rattle.std.specs.Io.KnownBytes.{Appends}
 use Rattle.text_io.proofs.Written.{AppendsPrefix-none}
 use Rattle.version_store.specs.Queries.{touched_by_place}
-use Rattle.report_text.specs.Texts.{drift_at, drift_header, drift_text, shift_at}
+use Rattle.report_text.specs.Texts.{drift_at, drift_header, shift_at}
 use Rattle.report_text.proofs.LinesOfPlaces.{on_err, of_the_text, with_header}
 use Rattle.report_text.proofs.Untouched.{drift_of_touched}
 use Rattle.report_text.proofs.touched.write_drift.Goals as goal

@@ -1,4 +1,4 @@
-use Rattle.std.proofs.Common.{◌≡◌, ◌∙◌, Err, List, ℕ, ap, option_copied, subst, sym}
+use Rattle.std.proofs.Common.{◌∙◌, Err, List, ℕ, ap, option_copied, subst, sym}
 use Rattle.std.proofs.lemmas.Result.{err_from_is_err_and}
 use Rattle.text_io.specs.Sink.{AppendsPrefix}
 use Rattle.trace_import.specs.Imported.{IsImported}

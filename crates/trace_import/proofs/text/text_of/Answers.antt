@@ -1,4 +1,4 @@
-use Rattle.std.proofs.Common.{◌≡◌, ◌∙◌, Err, List, ap, subst, sym}
+use Rattle.std.proofs.Common.{◌∙◌, Err, List, ap, subst, sym}
 use Rattle.std.proofs.lemmas.Result.{err_from_is_err_and}
 use Rattle.trace_family.specs.Family.{plain}
 use Rattle.trace_family.specs.declared.moment.Interval.{Interval}

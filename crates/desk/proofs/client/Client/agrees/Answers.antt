@@ -1,4 +1,4 @@
-use Rattle.std.proofs.Common.{◌≡◌, ◌∷◌, ℕ, List, get_or, ap, sym, ◌∙◌}
+use Rattle.std.proofs.Common.{◌≡◌, ◌∷◌, ℕ, get_or, ap, sym, ◌∙◌}
 use Rattle.session_core.specs.declared.event.Entry.{Entry}
 use Rattle.desk.specs.Clients.{ClientView, entries_of}
 use Rattle.desk.proofs.Logs.{disagrees}

@@ -1,8 +1,7 @@
-use Rattle.std.proofs.Common.{rules, ◌≡◌}
+use Rattle.std.proofs.Common.{rules}
 use Rattle.session_core.specs.declared.event.Event.TheVariants.{Close}
 use Rattle.session_core.specs.TableView.{Books}
-use Rattle.desk.specs.Clients.{HasSeen}
-use Rattle.desk.proofs.Locking.{stays, sees_named}
+use Rattle.desk.proofs.Locking.{stays}
 use Rattle.desk.proofs.shared.Shared.close.Goals as goal
 
 pub invariant_of-self-2 : goal.invariant_of-self-2

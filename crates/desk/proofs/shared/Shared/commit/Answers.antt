@@ -1,5 +1,4 @@
-use Rattle.std.proofs.Common.{rules, ◌≡◌, ℕ, ◌+◌, Option, Some, None, List, [], ◌∷◌, ◌++◌, length, slice_get, refl, ap, sym, subst, ◌∙◌, arith, length-append}
-use Rattle.std.specs.Prelude.{fold}
+use Rattle.std.proofs.Common.{rules, ◌≡◌, ◌+◌, Option, Some, None, List, [], ◌∷◌, ◌++◌, length, slice_get, refl, ap, sym, subst, ◌∙◌, arith, length-append}
 use Rattle.std.specs.Arc.{arc_value}
 use Rattle.boxcar.specs.Table.{Shelves, Shows}
 use Rattle.version_store.specs.Plain.{PlainVersion, numbered}
@@ -9,7 +8,6 @@ use Rattle.session_core.specs.declared.event.Reply.TheVariants.{Committed, Refus
 use Rattle.session_core.specs.Machine.{State, added}
 use Rattle.session_core.specs.TableView.{Books, commit_of}
 use Rattle.session_core.proofs.Standing.{slice_get-end}
-use Rattle.desk.specs.Clients.{HasSeen}
 use Rattle.desk.specs.Locked.{IsLocked}
 use Rattle.desk.proofs.Fronts.{prefix_get}
 use Rattle.desk.proofs.Telling.{told, declines}

@@ -1,4 +1,4 @@
-use Rattle.std.proofs.Common.{rules, ◌≡◌, sym, ◌∙◌}
+use Rattle.std.proofs.Common.{rules, sym, ◌∙◌}
 use Rattle.session_core.specs.declared.event.Event.TheVariants.{Undo}
 use Rattle.session_core.specs.TableView.{Books}
 use Rattle.desk.specs.Clients.{HasSeen}

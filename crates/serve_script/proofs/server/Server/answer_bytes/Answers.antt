@@ -1,4 +1,4 @@
-use Rattle.std.proofs.Common.{◌≡◌, OnErr, sym, subst}
+use Rattle.std.proofs.Common.{OnErr, sym, subst}
 use Rattle.text_io.specs.Sink.{AppendsPrefix}
 use Rattle.serve_script.specs.Answers.{answer_named}
 use Rattle.serve_script.proofs.server.Server.answer_bytes.Goals as goal

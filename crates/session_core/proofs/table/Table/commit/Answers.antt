@@ -1,4 +1,4 @@
-use Rattle.std.proofs.Common.{rules, ◌≡◌, refl, ap}
+use Rattle.std.proofs.Common.{rules, refl}
 use Rattle.session_core.specs.declared.event.Reply.TheVariants.{Refused}
 use Rattle.session_core.specs.TableView.{IsForeignDraft}
 use Rattle.session_core.specs.declared.refusal.Refusal.TheVariants.{Foreign}

@@ -6,7 +6,7 @@ use Rattle.stage_ops.specs.Waiting.{AwaitsWithin}
 use Rattle.stage_ops.specs.Natural.{progress_of}
 use Rattle.stage_ops.specs.ProgressLaws.{is_fair, last_moment}
 use Rattle.stage_ops.proofs.InnerLemmas.{awaits_within}
-use Rattle.stage_ops.proofs.java.JavaOpsStageOps.compute.Goals as goal
+use Rattle.stage_ops.proofs.java.state_of.Goals as goal
 
 pub finished-natural-requires-clause-within : goal.finished-natural-requires-clause-within
 finished-natural-requires-clause-within g c =

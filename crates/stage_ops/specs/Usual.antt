@@ -1,0 +1,58 @@
+-- A stage that has neither a pin nor an end, whose sources are normal and whose action gives a value. Only private contracts use it.
+use Rattle.std.specs.Prelude.{ℕ, ◌≡◌, max, List, [], ◌∷◌, Option, Some, None}
+use Rattle.act_expr.specs.declared.outcome.Mode.{Mode}
+use Rattle.act_expr.specs.declared.outcome.Value.{Value}
+use Rattle.act_expr.specs.declared.outcome.Outcome.TheVariants.{Value as Holds}
+use Rattle.stage_graph.specs.declared.stage.Stage.{Stage}
+use Rattle.stage_ops.specs.declared.natural.Progress.TheVariants.{Completes}
+use Rattle.stage_ops.specs.declared.sources.Source.{Source}
+use Rattle.stage_ops.specs.declared.state.Done.{Done}
+use Rattle.stage_ops.specs.declared.state.Reads.TheVariants.{Sources}
+use Rattle.stage_ops.specs.declared.state.State.{State}
+use Rattle.stage_ops.specs.declared.usual.Normal.{Normal}
+use Rattle.stage_ops.specs.declared.usual.Returned.{Returned}
+use Rattle.stage_ops.specs.States.{Completion}
+use Rattle.stage_ops.specs.Sources.{source_at}
+use Rattle.stage_ops.specs.Running.{start_of, end_of}
+use Rattle.stage_ops.specs.Natural.{progress_of}
+use Rattle.stage_ops.specs.Java.{java_step}
+
+abbrev pub as_source : ℕ → Normal → Source
+as_source place normal = record { place = place; outcome = Holds normal.value; moment = normal.moment }
+
+-- the action runs at this trigger, and the stage completes with this value when it ends
+abbrev pub return_after : Stage → ℕ → Value → Returned
+return_after stage trigger value = record { value = value; moment = end_of stage trigger; start = start_of stage trigger }
+
+abbrev pub as_done : Returned → Done
+as_done returned = record { outcome = Holds returned.value; moment = returned.moment; from = None; start = Some returned.start }
+
+-- the state of a stage that has read its sources and has this completion
+abbrev pub state_after : Returned → State
+state_after returned = record { done = Some (as_done returned); reads = Sources }
+
+-- the operation completes so, in either mode
+abbrev pub IsProgress : Stage → (ℕ → Option Completion) → Returned → Type 0
+IsProgress stage inputs returned = (mode : Mode) → progress_of stage.op mode stage inputs ≡ Completes (as_done returned)
+
+-- after one normal source with this value the stage completes with its own one
+abbrev pub IsOwnAfterOne : Stage → Value → Value → Type 0
+IsOwnAfterOne stage value own = (inputs : ℕ → Option Completion) (place moment : ℕ) → stage.sources ≡ place ∷ []
+    → source_at inputs place ≡ Some (record { place = place; outcome = Holds value; moment = moment })
+    → IsProgress stage inputs (return_after stage (max stage.created moment) own)
+
+-- the same after two of them
+abbrev pub IsOwnAfterTwo : Stage → Value → Value → Value → Type 0
+IsOwnAfterTwo stage value other own = (inputs : ℕ → Option Completion) (place second moment later : ℕ) → stage.sources ≡ place ∷ second ∷ []
+    → source_at inputs place ≡ Some (record { place = place; outcome = Holds value; moment = moment })
+    → source_at inputs second ≡ Some (record { place = second; outcome = Holds other; moment = later })
+    → IsProgress stage inputs (return_after stage (max moment (max later stage.created)) own)
+
+pub record IsPlain (stage : Stage) : Type 0 where
+  pub result : stage.pin_result ≡ None
+  pub moment : stage.pin_moment ≡ None
+  pub ends : stage.ends ≡ []
+
+-- the stage has the state of this completion, in either mode
+abbrev pub IsUsual : Stage → (ℕ → Option Completion) → Returned → Type 0
+IsUsual stage inputs returned = (mode : Mode) → java_step mode stage inputs ≡ state_after returned
