@@ -4,13 +4,14 @@ use crate::scene::{Scene, step_count};
 use crate::sweep::Sweep;
 use crate::turn::Turn;
 use crate::{
-    drafts, graphs, imports, lists, makers, orders, planted, recorded, runs, serves, tables,
+    desks, drafts, graphs, imports, lists, makers, orders, planted, recorded, runs, serves, tables,
     versions,
 };
 use anyhow::Result;
 use level_pool::{OneThread, Runner};
 use share_tree::Keeps;
 use std::alloc::Global;
+use std::sync::Wait;
 use std::thread::Threads;
 use version_store::StateRepresentation;
 
@@ -34,7 +35,7 @@ fn show_by<R: StateRepresentation, W: Runner>(
 }
 
 /// A case. `F` is a list of numbers in one vector, and `R` has the type of each persistent list.
-fn show<F: Keeps<u32>, R: StateRepresentation, H: Threads + Sync>(
+fn show<F: Keeps<u32>, R: StateRepresentation, H: Threads + Wait + Sync>(
     rt: &H,
     window: &mut Window,
     scene: Scene<'_>,
@@ -47,6 +48,7 @@ fn show<F: Keeps<u32>, R: StateRepresentation, H: Threads + Sync>(
         "graph" => graphs::show::<R>(window, scene, turn),
         "order" => orders::show::<R>(window, scene, turn),
         "draft" => drafts::show::<R, H>(rt, window, scene, turn),
+        "desk" => desks::show::<R, H>(rt, window, scene, turn),
         "import" => {
             imports::show(window, scene, turn);
             Ok(())
@@ -57,7 +59,7 @@ fn show<F: Keeps<u32>, R: StateRepresentation, H: Threads + Sync>(
 }
 
 /// The turn of a case.
-pub(crate) fn turn_of<F: Keeps<u32>, R: StateRepresentation, H: Threads + Sync>(
+pub(crate) fn turn_of<F: Keeps<u32>, R: StateRepresentation, H: Threads + Wait + Sync>(
     rt: &H,
     alloc: Global,
     scene: Scene<'_>,
@@ -69,7 +71,7 @@ pub(crate) fn turn_of<F: Keeps<u32>, R: StateRepresentation, H: Threads + Sync>(
 }
 
 /// The cases of a call: where it is an event on a table, one for each step of the block, after the steps before it.
-fn cases_of<F: Keeps<u32>, R: StateRepresentation, H: Print + Threads + Sync>(
+fn cases_of<F: Keeps<u32>, R: StateRepresentation, H: Print + Threads + Wait + Sync>(
     rt: &H,
     sweep: &mut Sweep,
     scene: Scene<'_>,
@@ -99,7 +101,7 @@ fn scene_of<'a>(words: &'a str, block: &'a str) -> Scene<'a> {
 }
 
 /// The cases of a block.
-fn block_of<F: Keeps<u32>, R: StateRepresentation, H: Print + Threads + Sync>(
+fn block_of<F: Keeps<u32>, R: StateRepresentation, H: Print + Threads + Wait + Sync>(
     rt: &H,
     sweep: &mut Sweep,
     block: &str,
@@ -113,7 +115,7 @@ fn block_of<F: Keeps<u32>, R: StateRepresentation, H: Print + Threads + Sync>(
 }
 
 /// All cases of a table.
-pub(crate) fn all<F: Keeps<u32>, R: StateRepresentation, H: Print + Threads + Sync>(
+pub(crate) fn all<F: Keeps<u32>, R: StateRepresentation, H: Print + Threads + Wait + Sync>(
     rt: &H,
     sweep: &mut Sweep,
     table: &str,

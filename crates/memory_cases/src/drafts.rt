@@ -1,7 +1,10 @@
 //! Versions that are drafted, by each runner.
+ghost use Rattle.std.specs.Prelude.{◌≡◌, IfOk};
+ghost use Rattle.version_store.specs.Plain.{opening_version};
+
 use crate::refusals::Window;
 use crate::scene::Scene;
-use crate::sources::{edits_of, graph_of};
+use crate::sources::{graph_of, held_edits_of};
 use crate::texts::{push_fault, push_version};
 use crate::told::Told;
 use crate::turn::{Turn, shown};
@@ -23,12 +26,14 @@ struct Counted;
 #[derive(Drop)]
 struct Drafting<'a, R: StateRepresentation, W> {
     runner: &'a W,
-    version: Version<R>,
+    version: &'a Version<R>,
     edits: Held<Edits>,
 }
 
 /// Version 0 of a recording that is not refused.
-pub(crate) fn loaded<R: StateRepresentation>(alloc: Global, recording: &str) -> Result<Version<R>> {
+pub(crate) fn loaded<R: StateRepresentation>(alloc: Global, recording: &str) -> Result<Version<R>>
+    ensures { IfOk result (λ version. version ≡ opening_version version.graph) }
+{
     Ok(Version::load(alloc, graph_of(alloc, recording)?)?)
 }
 
@@ -50,7 +55,7 @@ pub(crate) fn drafted<R: StateRepresentation, W: Runner>(
     version: &Version<R>,
     step: &str,
 ) -> Result<Draft<R>> {
-    let edits = Held::new(alloc, edits_of(alloc, step)?)?;
+    let edits = held_edits_of(alloc, step)?;
     Ok(draft_of(alloc, version, &edits, runner)?)
 }
 
@@ -80,7 +85,7 @@ impl<R: StateRepresentation, W: Runner> Drafting<'_, R, W> {
     fn push_answer(&self, window: &mut Window, text: &mut Told) -> bool {
         let alloc = window.alloc;
         window.begin();
-        let draft = draft(alloc, self.runner, &self.version, &self.edits);
+        let draft = draft(alloc, self.runner, self.version, &self.edits);
         window.end();
         push_draft(alloc, text, &draft)
     }
@@ -89,37 +94,38 @@ impl<R: StateRepresentation, W: Runner> Drafting<'_, R, W> {
         shown!(
             turn,
             window,
-            |text| push_version(window.alloc, text, &self.version),
+            |text| push_version(window.alloc, text, self.version),
             |window, text| self.push_answer(window, text)
         )
     }
 }
 
-/// Version 0 of the recording, and the edits of the step.
-fn with_edits<'a, R: StateRepresentation, W: Runner>(
-    alloc: Global,
-    scene: Scene<'_>,
-    runner: &'a W,
-) -> Result<Drafting<'a, R, W>> {
-    let edits = Held::new(alloc, edits_of(alloc, scene.step())?)?;
-    let version = loaded(alloc, scene.recording())?;
-    Ok(Drafting {
+/// The draft that a step makes of a version, by a runner.
+fn show_on<R: StateRepresentation, W: Runner>(
+    window: &mut Window,
+    step: &str,
+    turn: &mut Turn,
+    runner: &W,
+    version: &Version<R>,
+) -> Result<()> {
+    let drafting = Drafting {
         runner,
         version,
-        edits,
-    })
+        edits: held_edits_of(window.alloc, step)?,
+    };
+    drafting.show(window, turn);
+    Ok(())
 }
 
-/// A draft by a runner.
+/// The draft that the step makes of version 0 of the recording, by a runner.
 fn show_by<R: StateRepresentation, W: Runner>(
     window: &mut Window,
     scene: Scene<'_>,
     turn: &mut Turn,
     runner: &W,
 ) -> Result<()> {
-    let drafting = with_edits::<R, W>(window.alloc, scene, runner)?;
-    drafting.show(window, turn);
-    Ok(())
+    let version: Version<R> = loaded(window.alloc, scene.recording())?;
+    show_on(window, scene.step(), turn, runner, &version)
 }
 
 /// A draft, by the runner that the call names.

@@ -25,7 +25,7 @@ struct Asked<'a, R: OrderRepresentation> {
     scene: Scene<'a>,
     graph: Held<Graph<R>>,
     answers: Answers,
-    edits: Edits,
+    edits: &'a Edits,
     ghost ranked: { IsRanked graph.places },
 }
 
@@ -40,9 +40,12 @@ fn evaluated<R: OrderRepresentation>(
     evaluate(alloc, graph, &JavaOps, &mut meter)
 }
 
-/// The graph of the recording, and the edits of the step.
-fn asked_by<R: OrderRepresentation>(alloc: Global, scene: Scene<'_>) -> Result<Asked<'_, R>> {
-    let edits = edits_of(alloc, scene.step())?;
+/// The graph of the recording, and edits.
+fn asked_by<'a, R: OrderRepresentation>(
+    alloc: Global,
+    scene: Scene<'a>,
+    edits: &'a Edits,
+) -> Result<Asked<'a, R>> {
     let graph = held_graph_of(alloc, scene.recording())?;
     let answers = evaluated(alloc, &graph)?;
     Ok(Asked {
@@ -80,8 +83,8 @@ impl<R: OrderRepresentation> Asked<'_, R> {
         let alloc = window.alloc;
         window.begin();
         let made = match self.scene.call {
-            "change" => self.graph.change(alloc, &self.edits),
-            _ => self.graph.apply(alloc, &self.edits),
+            "change" => self.graph.change(alloc, self.edits),
+            _ => self.graph.apply(alloc, self.edits),
         };
         window.end();
         push_made(alloc, text, &made)
@@ -141,13 +144,24 @@ impl<R: OrderRepresentation> Asked<'_, R> {
     }
 }
 
-/// A call about a graph.
+/// A call about the recording's graph, or about what edits make of it.
+fn show_with<R: OrderRepresentation>(
+    window: &mut Window,
+    scene: Scene<'_>,
+    turn: &mut Turn,
+    edits: &Edits,
+) -> Result<()> {
+    let asked: Asked<'_, R> = asked_by(window.alloc, scene, edits)?;
+    asked.show(window, turn);
+    Ok(())
+}
+
+/// A call about a graph, with the edits of the step.
 pub(crate) fn show<R: OrderRepresentation>(
     window: &mut Window,
     scene: Scene<'_>,
     turn: &mut Turn,
 ) -> Result<()> {
-    let asked = asked_by::<R>(window.alloc, scene)?;
-    asked.show(window, turn);
-    Ok(())
+    let edits = edits_of(window.alloc, scene.step())?;
+    show_with::<R>(window, scene, turn, &edits)
 }

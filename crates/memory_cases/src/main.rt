@@ -8,7 +8,9 @@
 //! such library is there, each case is run once.
 #![tactic(auto)]
 
+mod calls;
 mod cases;
+mod desks;
 mod drafts;
 mod graphs;
 mod imports;
@@ -21,6 +23,7 @@ mod refusals;
 mod reports;
 mod runs;
 mod scene;
+mod seats;
 mod serves;
 mod sources;
 mod sweep;
@@ -36,11 +39,16 @@ use share_tree::Flat;
 use stage_graph::InShared;
 use std::io::Read;
 use std::process::ExitCode;
+use std::sync::Wait;
 use std::thread::Threads;
 use sweep::Sweep;
 
 /// All cases of a table, with shared lists; those of lists alone with both kinds.
-fn all_cases<H: Print + Threads + Sync>(rt: &H, sweep: &mut Sweep, table: &str) -> Result<()> {
+fn all_cases<H: Print + Threads + Wait + Sync>(
+    rt: &H,
+    sweep: &mut Sweep,
+    table: &str,
+) -> Result<()> {
     cases::all::<Flat<u32>, InShared, H>(rt, sweep, table)
 }
 

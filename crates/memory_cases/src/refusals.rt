@@ -27,7 +27,7 @@ pub(crate) enum Refused {
 }
 
 /// The time of a call in which requests are refused.
-#[derive(Drop)]
+#[derive(Clone, Copy)]
 pub(crate) struct Window {
     pub(crate) alloc: Global,
     refused: Refused,

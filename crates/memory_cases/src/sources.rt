@@ -46,6 +46,12 @@ pub(crate) fn edits_of(alloc: Global, step: &str) -> Result<Edits> {
     }
 }
 
+/// The same edits, held.
+pub(crate) fn held_edits_of(alloc: Global, step: &str) -> Result<Held<Edits>> {
+    let edits = edits_of(alloc, step)?;
+    Ok(Held::new(alloc, edits)?)
+}
+
 /// The session, the base and the edits of a step. A commit without a base is of version 0.
 pub(crate) fn commit_of(alloc: Global, step: &str) -> Result<(u32, u32, Held<Edits>)> {
     match step_of(alloc, step)? {

@@ -6,6 +6,7 @@ use crate::turn::Turn;
 use anyhow::Result;
 use share_tree::Keeps;
 use std::alloc::Global;
+use std::sync::Wait;
 use std::thread::Threads;
 use version_store::StateRepresentation;
 
@@ -31,7 +32,7 @@ fn refused_from(nth: u32, all_after: bool) -> Refused {
 }
 
 /// Whether a request was refused in a turn of a case, and what is wrong with the turn.
-fn tried<F: Keeps<u32>, R: StateRepresentation, H: Threads + Sync>(
+fn tried<F: Keeps<u32>, R: StateRepresentation, H: Threads + Wait + Sync>(
     rt: &H,
     alloc: Global,
     scene: Scene<'_>,
@@ -43,7 +44,7 @@ fn tried<F: Keeps<u32>, R: StateRepresentation, H: Threads + Sync>(
 }
 
 /// How many requests of a case were refused, and what is wrong at the last of these.
-fn tried_each<F: Keeps<u32>, R: StateRepresentation, H: Threads + Sync>(
+fn tried_each<F: Keeps<u32>, R: StateRepresentation, H: Threads + Wait + Sync>(
     rt: &H,
     alloc: Global,
     scene: Scene<'_>,
@@ -99,7 +100,7 @@ impl Sweep {
     }
 
     /// Each request of a case refused: alone, or with all after it.
-    fn each<F: Keeps<u32>, R: StateRepresentation, H: Print + Threads + Sync>(
+    fn each<F: Keeps<u32>, R: StateRepresentation, H: Print + Threads + Wait + Sync>(
         &mut self,
         rt: &H,
         scene: Scene<'_>,
@@ -112,7 +113,7 @@ impl Sweep {
 
     /// A case with memory, and then, if requests can be refused, two tests of it: each request refused alone, and each
     /// with all after it.
-    pub(crate) fn case<F: Keeps<u32>, R: StateRepresentation, H: Print + Threads + Sync>(
+    pub(crate) fn case<F: Keeps<u32>, R: StateRepresentation, H: Print + Threads + Wait + Sync>(
         &mut self,
         rt: &H,
         scene: Scene<'_>,
@@ -122,7 +123,7 @@ impl Sweep {
     }
 
     /// The tests of a case, by what it shows with memory.
-    fn case_as<F: Keeps<u32>, R: StateRepresentation, H: Print + Threads + Sync>(
+    fn case_as<F: Keeps<u32>, R: StateRepresentation, H: Print + Threads + Wait + Sync>(
         &mut self,
         rt: &H,
         scene: Scene<'_>,
@@ -143,7 +144,7 @@ impl Sweep {
     }
 
     /// The test of a wrong call, which has to be found.
-    fn wrong<F: Keeps<u32>, R: StateRepresentation, H: Print + Threads + Sync>(
+    fn wrong<F: Keeps<u32>, R: StateRepresentation, H: Print + Threads + Wait + Sync>(
         &mut self,
         rt: &H,
         scene: Scene<'_>,

@@ -55,6 +55,13 @@ fn push_entry(text: &mut Told, entry: &Entry) {
     }
 }
 
+/// Tells the entries of a history.
+pub(crate) fn push_history(text: &mut Told, history: &[Entry]) {
+    for entry in history {
+        push_entry(text, entry);
+    }
+}
+
 /// Tells the versions of a table.
 fn push_versions<R: StateRepresentation>(alloc: Global, text: &mut Told, table: &Table<R>) {
     for number in 0..65_536 {
@@ -67,9 +74,7 @@ fn push_versions<R: StateRepresentation>(alloc: Global, text: &mut Told, table: 
 
 /// Tells the history and the versions of a table.
 pub(crate) fn push_table<R: StateRepresentation>(alloc: Global, text: &mut Told, table: &Table<R>) {
-    for entry in table.history() {
-        push_entry(text, entry);
-    }
+    push_history(text, table.history());
     push_versions(alloc, text, table);
 }
 
@@ -97,7 +102,7 @@ pub(crate) fn push_sessions<R: StateRepresentation, W: Runner>(
 }
 
 /// Tells a reply, unless memory ran out.
-fn push_reply(text: &mut Told, reply: Reply) -> bool {
+pub(crate) fn push_reply(text: &mut Told, reply: Reply) -> bool {
     if reply == Reply::Memory {
         return true;
     }
@@ -212,16 +217,6 @@ struct Committing<'a, R: StateRepresentation, W> {
     table: Table<R>,
 }
 
-/// The draft that edits make of a version of another graph.
-fn foreign_draft<R: StateRepresentation, W: Runner>(
-    alloc: Global,
-    edits: &Held<Edits>,
-    runner: &W,
-) -> Result<Draft<R>> {
-    let other = loaded(alloc, OTHER)?;
-    Ok(draft_of(alloc, &other, edits, runner)?)
-}
-
 impl<R: StateRepresentation, W: Runner> Committing<'_, R, W> {
     /// The draft that the edits make of the table's version.
     fn own_draft(&self, alloc: Global) -> Result<Draft<R>, TableFault>
@@ -270,23 +265,43 @@ impl<R: StateRepresentation, W: Runner> Committing<'_, R, W> {
         push_finished(text, number)
     }
 
-    /// The commit of a draft of another graph's version.
-    fn push_foreign(&mut self, window: &mut Window, text: &mut Told) -> bool {
-        match foreign_draft(window.alloc, &self.edits, self.runner) {
+    /// The commit of a draft of this version, which is of another graph.
+    fn push_foreign_of(
+        &mut self,
+        window: &mut Window,
+        text: &mut Told,
+        other: &Version<R>,
+    ) -> bool {
+        match draft_of(window.alloc, other, &self.edits, self.runner) {
             Ok(draft) => self.push_commit(window, text, &draft),
             Err(_) => text.lose(),
         }
     }
 
-    /// The commit of a draft of the table's own version.
-    fn push_own(&mut self, window: &mut Window, text: &mut Told) -> bool {
-        let Ok(draft) = self.own_draft(window.alloc) else {
-            return text.lose();
-        };
+    /// The commit of a draft of another graph's version.
+    fn push_foreign(&mut self, window: &mut Window, text: &mut Told) -> bool {
+        match loaded(window.alloc, OTHER) {
+            Ok(other) => self.push_foreign_of(window, text, &other),
+            Err(_) => text.lose(),
+        }
+    }
+
+    /// The call with a draft of the table's own version.
+    fn push_own_of(&mut self, window: &mut Window, text: &mut Told, draft: &Draft<R>) -> bool
+        requires { IsOfState self.old.table.state self.old.session draft.now }
+    {
         match self.scene.call {
-            "prepare" => self.push_prepared(window, text, &draft),
-            "finish" => self.push_finished(window, text, &draft),
-            _ => self.push_commit(window, text, &draft),
+            "prepare" => self.push_prepared(window, text, draft),
+            "finish" => self.push_finished(window, text, draft),
+            _ => self.push_commit(window, text, draft),
+        }
+    }
+
+    /// The call with the draft of the table's own version.
+    fn push_own(&mut self, window: &mut Window, text: &mut Told) -> bool {
+        match self.own_draft(window.alloc) {
+            Ok(draft) => self.push_own_of(window, text, &draft),
+            Err(_) => text.lose(),
         }
     }
 

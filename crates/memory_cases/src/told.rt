@@ -72,6 +72,12 @@ impl Told {
         self.keep(is_told);
     }
 
+    /// Adds a count.
+    pub(crate) fn push_count(&mut self, count: u64) {
+        let is_told = write!(self.text, "{count} ").is_ok();
+        self.keep(is_told);
+    }
+
     /// Adds the state and the rank of a stage.
     pub(crate) fn push_state(&mut self, place: u32, rank: u32, state: &State) {
         let is_told = write!(self.text, "{place} {rank} {state:?}\n").is_ok();

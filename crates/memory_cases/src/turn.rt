@@ -50,7 +50,8 @@ macro_rules! shown {
 pub(crate) use shown;
 
 impl Shown {
-    fn new(alloc: Global) -> Shown {
+    /// Nothing yet.
+    pub(crate) fn new(alloc: Global) -> Shown {
         Shown {
             out_of_memory: false,
             answer: Told::new(alloc),
