@@ -8,6 +8,7 @@ mod fault;
 mod front;
 mod known;
 mod name;
+mod publishing;
 mod shared;
 mod shelf;
 mod starting;

@@ -2,29 +2,29 @@
 ghost use Rattle.std.specs.Prelude.{◌≡◌, ◌+◌, ◌<◌, length, IfOk, IfErr, OnOk};
 ghost use Rattle.std.specs.List.{sum_by};
 ghost use mathlib.Core.List.{IsPrefix};
-ghost use Rattle.left_right.specs.Handles.{published as shown, pending};
 ghost use Rattle.version_store.specs.Plain.{numbered};
+ghost use Rattle.session_core.specs.Ready.{IsReady};
 ghost use Rattle.session_core.specs.TableView.{Answers, reply_of, commit_of};
-ghost use Rattle.session_core.specs.declared.event.Event.TheVariants.{Open, Head, Undo, Close};
+ghost use Rattle.session_core.specs.declared.event.Event.TheVariants.{Open, Head, Commit, Undo, Close};
 ghost use Rattle.session_core.specs.declared.event.Reply.TheVariants.{Opened, At, Committed, Undone, Closed};
+ghost use Rattle.session_core.specs.declared.refusal.TableFault.TheVariants.{Memory};
 ghost use Rattle.desk.specs.Clients.{Keeps, KeepsCall, SeesOn, HasSeenIn, IsSeen};
 ghost use Rattle.desk.specs.Committing.{IsSeenOrigin, RefusesToCommit};
-ghost use Rattle.desk.specs.Publishing.{WillShow};
 
 use crate::client::Client;
 use crate::front::{Archive, Front};
 use crate::known::Known;
 use crate::name::Naming;
-use crate::shelf::{Count, Shelf, Shelved, append, put, show};
+use crate::publishing::{Publication, place};
+use crate::shelf::{Count, Shelf, Shelved, show};
 use left_right::WriteHandle;
-use session_core::{Entry, Event, Reply, Table, TableFault};
-use share_tree::{Again, Held};
+use session_core::{Entry, Event, Ready, Reply, Table, TableFault};
+use share_tree::Held;
 use stage_graph::Edits;
-use std::alloc::AllocError;
 use std::marker::Model;
 use std::sync::ledger::{Book, Share};
 use std::sync::{Arc, Wait};
-use version_store::{Draft, StateRepresentation, Version};
+use version_store::{Draft, StateRepresentation};
 
 /// The table, with the front of its versions, what is published of them, what shows that the last of these lies on the
 /// shelf, the book that counts the table's entries, and a share with no part.
@@ -182,8 +182,7 @@ impl<N: Naming, R: StateRepresentation, W: Wait + Drop> Shared<N, R, W> {
         answer
     }
 
-    /// Commits the draft, and publishes the version between the table's `prepare` and `finish`. All that may run out of
-    /// memory comes first; from the publication on nothing can fail.
+    /// Commits the draft, and publishes the version between the table's `prepare` and `finish`.
     pub(crate) fn commit<X: Wait>(
         &mut self,
         rt: &X,
@@ -206,66 +205,63 @@ impl<N: Naming, R: StateRepresentation, W: Wait + Drop> Shared<N, R, W> {
         client.front = client.front.longer(&self.front);
         // The history comes with what the proof needs of the table: it is a legal log, and its sessions stand at versions.
         let _ = self.table.history();
-        let base = draft.base();
-        let ready = match self.table.prepare(client.number, session, draft) {
-            Ok(ready) => ready,
-            Err(TableFault::Refused(refusal)) => {
-                let event = Event::Commit {
-                    session,
-                    base,
-                    edit,
-                };
-                let reply = Reply::Refused(refusal);
-                keep(&mut self.entries, &self.front, client, event, reply);
-                return Err(TableFault::Refused(refusal));
-            }
-            Err(TableFault::Memory) => return Err(TableFault::Memory),
-        };
-        let Ok((version, mine)) = make_room(&self.shelf, &mut self.published, ready.version())
-        else {
-            return Err(TableFault::Memory);
-        };
-        let mut front = self.front.again();
-        if !front.add(archive, &version) {
-            return Err(TableFault::Memory);
-        }
-        // The slot was reserved, and nobody else writes it, so the version lies there now. Were it given back, the archive
-        // would have a version that the table has not, and the table would take no commit from then on; what is published
-        // would still lie on the shelf.
-        let Ok(last) = put(rt, &self.shelf, Known::new(version, &front)) else {
-            return Err(TableFault::Memory);
-        };
-        show(&mut self.published, front.len());
-        self.last = last;
-        let number = self.table.finish(ready);
-        self.front = front;
         let event = Event::Commit {
             session,
-            base,
+            base: draft.base(),
             edit,
         };
+        match self.table.prepare(client.number, session, draft) {
+            Ok(ready) => self.publish(rt, archive, client, ready, event),
+            Err(TableFault::Refused(refusal)) => {
+                let reply = Reply::Refused(refusal);
+                keep(&mut self.entries, &self.front, client, event, reply);
+                Err(TableFault::Refused(refusal))
+            }
+            Err(TableFault::Memory) => Err(TableFault::Memory),
+        }
+    }
+
+    /// Publishes the version of a commit that is prepared, and finishes the commit. What can fail comes first; from what
+    /// readers see on nothing can.
+    fn publish<X: Wait>(
+        &mut self,
+        rt: &X,
+        archive: &Archive<N, R>,
+        client: &mut Client<N, R>,
+        ready: Ready<R>,
+        event: Event,
+    ) -> Result<Known<N, R>, TableFault>
+        requires room { 0 < client.old.room }
+        requires ready { IsReady self.old ready }
+        requires who { ready.who ≡ client.old.number }
+        requires event { event ≡ Commit ready.session ready.base ready.edits }
+        ensures table { Answers self.old client.old.number event (reply_of (λ version. Committed version.number) result) self.new }
+        ensures kept { KeepsCall client.old event (reply_of (λ version. Committed version.number) result) client.new }
+        ensures later { SeesOn client.old client.new }
+        ensures named { HasSeenIn client.new (reply_of (λ version. Committed version.number) result) }
+        ensures made { IfOk result (λ version. IsSeen client.new version × (version ≡ ready.version)) }
+        ensures fault { IfErr result (λ fault. fault ≡ Memory) }
+    {
+        let Publication {
+            front,
+            last,
+            version,
+        } = place(
+            rt,
+            archive,
+            &self.shelf,
+            &mut self.published,
+            &self.front,
+            ready.version(),
+        )?;
+        show(&mut self.published, front.len());
+        self.last = last;
+        self.front = front;
+        let number = self.table.finish(ready);
         let reply = Reply::Committed(number);
         keep(&mut self.entries, &self.front, client, event, reply);
-        Ok(Known::new(mine, &self.front))
+        Ok(Known::new(version, &self.front))
     }
-}
-
-/// All of a publication that can fail, and the version twice. Readers see nothing of it yet.
-fn make_room<N: Naming, R: StateRepresentation, W: Wait + Drop>(
-    shelf: &Shelf<N, R>,
-    published: &mut WriteHandle<Count, u64, W>,
-    version: &Version<R>,
-) -> Result<(Version<R>, Version<R>), AllocError>
-    ensures same { IfOk result (λ copies. (copies.0 ≡ version.now) × (copies.1 ≡ version.now)) }
-    ensures shown { (shown published.new).0 ≡ (shown published.old).0 }
-    ensures next { OnOk result (WillShow (pending published.new) (version.now.number + 1)) }
-{
-    let number = version.number();
-    let one = version.again()?;
-    let other = version.again()?;
-    shelf.reserve_at(number as usize)?;
-    append(published, u64::from(number) + 1)?;
-    Ok((one, other))
 }
 
 /// The clients' calls are as many as the book has counted, where no client is missing.

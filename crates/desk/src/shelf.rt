@@ -66,16 +66,19 @@ pub(crate) fn first_shelf<N: Naming, R: StateRepresentation, X: Wait>(
 }
 
 /// Puts the version on the shelf, where a slot was reserved for it, and gives what shows that it lies there. Allocates
-/// nothing, and gives the version back only if no slot was reserved or the slot is taken.
+/// nothing, and fails only if no slot was reserved or the slot is taken.
 pub(crate) fn put<N: Naming, R: StateRepresentation, X: Wait>(
     rt: &X,
     shelf: &Shelf<N, R>,
     known: Known<N, R>,
-) -> Result<Shelved<N, R>, Known<N, R>>
+) -> Result<Shelved<N, R>, AllocError>
     ensures { IfOk result (λ shelved. IsShelved shelf.now shelved known) }
 {
     let number = known.number() as usize;
-    shelf.set_placed(rt, number, known)
+    match shelf.set_placed(rt, number, known) {
+        Ok(shelved) => Ok(shelved),
+        Err(_) => Err(AllocError),
+    }
 }
 
 /// The number that the next publication shows. If out of memory, nothing is appended.

@@ -4,7 +4,7 @@ use serde_json::Value;
 use std::alloc::{AllocError, Global};
 
 /// How large an expression is.
-#[derive(Clone, Copy, Debug, PartialEq, Eq)]
+#[derive(Clone, Copy)]
 pub(crate) struct Size {
     pub nodes: usize,
     pub depth: usize,
@@ -20,14 +20,36 @@ struct Waiting<'a> {
     depth: usize,
 }
 
-/// How many expressions stand behind a word, if it is one; the other operand of `arg`, `causeis` and `throw` is none.
-fn operand_count(word: &str) -> Option<usize> {
+/// What stands behind a word.
+#[derive(Clone, Copy)]
+enum Operands {
+    /// The position of an argument.
+    Position,
+    /// The name of an exception.
+    Name,
+    /// So many expressions.
+    Expressions(usize),
+}
+
+/// What stands behind a word, if it begins an expression.
+fn operands_behind(word: &str) -> Option<Operands> {
     match word {
-        "add" | "sub" | "mul" | "div" | "lt" | "eq" => Some(2),
-        "if" => Some(3),
-        "isnull" => Some(1),
-        "failed" | "iswrapped" => Some(0),
+        "arg" => Some(Operands::Position),
+        "causeis" | "throw" => Some(Operands::Name),
+        "add" | "sub" | "mul" | "div" | "lt" | "eq" => Some(Operands::Expressions(2)),
+        "if" => Some(Operands::Expressions(3)),
+        "isnull" => Some(Operands::Expressions(1)),
+        "failed" | "iswrapped" => Some(Operands::Expressions(0)),
         _ => None,
+    }
+}
+
+/// No expressions, where an operand that is none is what is wanted.
+fn none_in<'a>(operand: &'a Value, fits: bool, wanted: Wanted) -> Result<&'a [Value], Mistake<'a>> {
+    if fits {
+        Ok(&[])
+    } else {
+        Err((operand, wanted))
     }
 }
 
@@ -36,22 +58,17 @@ fn operands_of<'a>(value: &'a Value, items: &'a [Value]) -> Result<&'a [Value], 
     let [head, operands @ ..] = items else {
         return Err((value, Wanted::Action));
     };
-    let Some(word) = head.as_str() else {
+    let Some(expected) = head.as_str().and_then(operands_behind) else {
         return Err((head, Wanted::Action));
     };
-    match (word, operands) {
-        ("arg", [position]) => match position.as_u64() {
-            Some(0 | 1) => Ok(&[]),
-            _ => Err((position, Wanted::Position)),
-        },
-        ("causeis" | "throw", [name]) if name.is_string() => Ok(&[]),
-        ("causeis" | "throw", [name]) => Err((name, Wanted::Exception)),
-        ("arg" | "causeis" | "throw", _) => Err((value, Wanted::Operands)),
-        _ => match operand_count(word) {
-            Some(count) if count == operands.len() => Ok(operands),
-            Some(_) => Err((value, Wanted::Operands)),
-            None => Err((head, Wanted::Action)),
-        },
+    match (expected, operands) {
+        (Operands::Position, [position]) => {
+            let fits = matches!(position.as_u64(), Some(0 | 1));
+            none_in(position, fits, Wanted::Position)
+        }
+        (Operands::Name, [name]) => none_in(name, name.is_string(), Wanted::Exception),
+        (Operands::Expressions(count), _) if count == operands.len() => Ok(operands),
+        _ => Err((value, Wanted::Operands)),
     }
 }
 
@@ -63,6 +80,18 @@ fn inner_of<'a>(value: &'a Value) -> Result<&'a [Value], Mistake<'a>> {
         Value::Array(items) => operands_of(value, items.as_slice()),
         _ => Err((value, Wanted::Action)),
     }
+}
+
+/// Adds the expressions in an expression, of which the first is to be looked at first.
+fn add_inner<'a>(
+    waiting: &mut Vec<Waiting<'a>>,
+    inner: &'a [Value],
+    depth: usize,
+) -> Result<(), AllocError> {
+    for value in inner.iter().rev() {
+        waiting.push(Waiting { value, depth })?;
+    }
+    Ok(())
 }
 
 /// How large an action is, or the first of its expressions that is none. It does not call itself.
@@ -82,13 +111,9 @@ pub(crate) fn action_fault<'a>(
         };
         size.nodes = size.nodes.saturating_add(1);
         size.depth = size.depth.max(next.depth);
-        let inner = match inner_of(next.value) {
-            Ok(inner) => inner,
+        match inner_of(next.value) {
+            Ok(inner) => add_inner(&mut waiting, inner, next.depth.saturating_add(1))?,
             Err(mistake) => return Ok(Err(mistake)),
-        };
-        for value in inner.iter().rev() {
-            let depth = next.depth.saturating_add(1);
-            waiting.push(Waiting { value, depth })?;
         }
     }
     Ok(Ok(size))

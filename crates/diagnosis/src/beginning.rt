@@ -2,7 +2,7 @@
 use std::fmt;
 
 /// What bytes that are no JSON begin like.
-#[derive(Clone, Copy, Debug, PartialEq, Eq)]
+#[derive(Clone, Copy)]
 pub enum Beginning {
     Nothing,
     Gzip,

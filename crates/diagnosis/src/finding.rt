@@ -2,9 +2,12 @@
 use crate::quoted::Quoted;
 use crate::site::{Path, Site};
 use crate::wanted::Wanted;
-use json_names::Circle;
 use serde_json::Value;
 use std::fmt;
+
+/// What is told of a name that no stage may have.
+pub(crate) const BAD_NAME: &str =
+    "a name is 1 to 64 of the characters A-Z a-z 0-9 _ - . and begins with no - or .";
 
 /// How a member has another form than the format gives it.
 #[derive(Clone, Copy)]
@@ -80,7 +83,7 @@ pub enum StageFault<'a> {
 }
 
 /// A fault of a recording or of a step.
-#[derive(Drop)]
+#[derive(Clone, Copy)]
 pub enum Finding<'a> {
     Shape {
         path: Path<'a>,
@@ -90,8 +93,6 @@ pub enum Finding<'a> {
         site: Site<'a>,
         fault: StageFault<'a>,
     },
-    /// These stages wait for each other.
-    Circle(Circle<'a>),
     /// A list of edits has none, or more than 64.
     ListSize {
         given: usize,
@@ -124,7 +125,6 @@ impl Finding<'_> {
         match self {
             Finding::Shape { .. } => 71,
             Finding::Stage { fault, .. } => fault.number(),
-            Finding::Circle(_) => 19,
             Finding::ListSize { .. } => 21,
         }
     }
@@ -153,7 +153,7 @@ impl fmt::Display for Shown<'_> {
 
 impl fmt::Display for ShapeFault<'_> {
     fn fmt<W: fmt::Write>(&self, f: &mut fmt::Formatter<W>) -> fmt::Result {
-        match self {
+        match *self {
             ShapeFault::Missing(wanted) => write!(f, " is missing: {wanted}"),
             ShapeFault::Wrong {
                 wanted: Wanted::NoTakes,
@@ -166,11 +166,7 @@ impl fmt::Display for ShapeFault<'_> {
             } => {
                 let found = Shown(found);
                 write!(f, " is {found}")?;
-                if let Some(near) = near {
-                    let near = Quoted(near);
-                    write!(f, "; did you mean {near}?")?;
-                }
-                let wanted = *wanted;
+                write_near(near, f)?;
                 write!(f, " ({wanted})")
             }
         }
@@ -187,6 +183,19 @@ fn write_near<W: fmt::Write>(near: Option<&str>, f: &mut fmt::Formatter<W>) -> f
     }
 }
 
+/// Writes that a name is none of a stage, with what stands before and after it.
+fn write_unknown<W: fmt::Write>(
+    before: &str,
+    name: &str,
+    after: &str,
+    near: Option<&str>,
+    f: &mut fmt::Formatter<W>,
+) -> fmt::Result {
+    let name = Quoted(name);
+    write!(f, "{before} {name}{after}")?;
+    write_near(near, f)
+}
+
 /// Writes `1 source` or `2 sources`.
 fn write_sources<W: fmt::Write>(count: usize, f: &mut fmt::Formatter<W>) -> fmt::Result {
     match count {
@@ -196,92 +205,76 @@ fn write_sources<W: fmt::Write>(count: usize, f: &mut fmt::Formatter<W>) -> fmt:
     }
 }
 
-fn write_arity<W: fmt::Write>(fault: StageFault<'_>, f: &mut fmt::Formatter<W>) -> fmt::Result {
-    match fault {
-        StageFault::Sources {
-            operation,
-            wanted,
-            given,
-        } => {
-            let operation = Quoted(operation);
-            write!(f, "{operation} takes ")?;
-            write_sources(wanted, f)?;
-            match given {
-                0 => f.write_str(", and none is given"),
-                1 => f.write_str(", and 1 is given"),
-                _ => write!(f, ", and {given} are given"),
-            }
-        }
-        StageFault::Inner { operation, given } => {
-            let operation = Quoted(operation);
-            write!(
-                f,
-                "{operation} picks no inner stage, and {given} of them are given"
-            )
-        }
-        StageFault::ActionMissing { operation } => {
-            let operation = Quoted(operation);
-            write!(f, "{operation} needs an action, and none is given")
-        }
-        StageFault::ActionGiven { operation } => {
-            let operation = Quoted(operation);
-            write!(f, "{operation} has no action, and one is given")
-        }
-        _ => Ok(()),
+/// Writes that an operation takes another number of sources.
+fn write_arity<W: fmt::Write>(
+    operation: &str,
+    wanted: usize,
+    given: usize,
+    f: &mut fmt::Formatter<W>,
+) -> fmt::Result {
+    let operation = Quoted(operation);
+    write!(f, "{operation} takes ")?;
+    write_sources(wanted, f)?;
+    match given {
+        0 => f.write_str(", and none is given"),
+        1 => f.write_str(", and 1 is given"),
+        _ => write!(f, ", and {given} are given"),
     }
 }
 
-fn write_name_fault<W: fmt::Write>(
-    fault: StageFault<'_>,
+/// Writes what is told of an operation.
+fn write_told<W: fmt::Write>(
+    operation: &str,
+    told: &str,
     f: &mut fmt::Formatter<W>,
 ) -> fmt::Result {
-    match fault {
-        StageFault::NoStage { name, near } => {
-            let name = Quoted(name);
-            write!(f, "no stage has the name {name}")?;
-            write_near(near, f)
-        }
-        StageFault::NameTaken { place } => {
-            write!(f, "the stage at place {place} has this name already")
-        }
-        StageFault::NoSource { member, name, near } => {
-            let name = Quoted(name);
-            write!(f, "{member} {name} is no stage")?;
-            write_near(near, f)
-        }
-        _ => f.write_str(
-            "a name is 1 to 64 of the characters A-Z a-z 0-9 _ - . and begins with no - or .",
-        ),
-    }
+    let operation = Quoted(operation);
+    write!(f, "{operation} {told}")
 }
 
 impl fmt::Display for StageFault<'_> {
     fn fmt<W: fmt::Write>(&self, f: &mut fmt::Formatter<W>) -> fmt::Result {
         match *self {
-            StageFault::NoStage { .. }
-            | StageFault::NameTaken { .. }
-            | StageFault::BadName
-            | StageFault::NoSource { .. } => write_name_fault(*self, f),
-            StageFault::Sources { .. }
-            | StageFault::Inner { .. }
-            | StageFault::ActionMissing { .. }
-            | StageFault::ActionGiven { .. } => write_arity(*self, f),
-            StageFault::Limit { what, number, most } => {
-                write!(f, "{what} is {number}, and at most {most} is allowed")
+            StageFault::NoStage { name, near } => {
+                write_unknown("no stage has the name", name, "", near, f)
             }
-            StageFault::EndBeforeCreated { index, at, created } => {
-                write!(
-                    f,
-                    "ends[{index}] is at {at}, before the stage is created at {created}"
-                )
+            StageFault::NameTaken { place } => {
+                write!(f, "the stage at place {place} has this name already")
             }
-            StageFault::NoAction { operation } => {
+            StageFault::BadName => f.write_str(BAD_NAME),
+            StageFault::Sources {
+                operation,
+                wanted,
+                given,
+            } => write_arity(operation, wanted, given, f),
+            StageFault::Inner { operation, given } => {
                 let operation = Quoted(operation);
                 write!(
                     f,
-                    "{operation} has no action that could take time or be set"
+                    "{operation} picks no inner stage, and {given} of them are given"
                 )
             }
+            StageFault::ActionMissing { operation } => {
+                write_told(operation, "needs an action, and none is given", f)
+            }
+            StageFault::ActionGiven { operation } => {
+                write_told(operation, "has no action, and one is given", f)
+            }
+            StageFault::NoSource { member, name, near } => {
+                write_unknown(member, name, " is no stage", near, f)
+            }
+            StageFault::Limit { what, number, most } => {
+                write!(f, "{what} is {number}, and at most {most} is allowed")
+            }
+            StageFault::EndBeforeCreated { index, at, created } => write!(
+                f,
+                "ends[{index}] is at {at}, before the stage is created at {created}"
+            ),
+            StageFault::NoAction { operation } => write_told(
+                operation,
+                "has no action that could take time or be set",
+                f,
+            ),
             StageFault::Expression { nodes, depth } => write!(
                 f,
                 "the action has {nodes} nodes and a depth of {depth}, and at most 256 and 32 are allowed"
@@ -295,7 +288,6 @@ impl fmt::Display for Finding<'_> {
         match self {
             Finding::Shape { path, fault } => write!(f, "{path}{fault}"),
             Finding::Stage { site, fault } => write!(f, "{site}: {fault}"),
-            Finding::Circle(circle) => write!(f, "{circle}"),
             Finding::ListSize { given } => {
                 write!(f, "edits has {given} edits, and 1 to 64 are allowed")
             }

@@ -1,5 +1,6 @@
 //! What is found in a recording or in a step.
 use crate::finding::{Finding, ShapeFault, StageFault};
+use crate::members::Member;
 use crate::site::{Path, Site};
 use crate::unread::{Unread, Warning};
 use crate::wanted::Wanted;
@@ -43,10 +44,12 @@ impl<'a> Findings<'a> {
         place: Option<usize>,
         member: Option<&str>,
     ) -> Option<&Finding<'a>> {
-        self.faults
-            .as_slice()
-            .iter()
-            .find(|fault| fault.is_at(number, place, member))
+        for fault in self.faults() {
+            if fault.number() == number && fault.is_at(place, member) {
+                return Some(fault);
+            }
+        }
+        None
     }
 
     pub(crate) fn alloc(&self) -> Global {
@@ -61,12 +64,27 @@ impl<'a> Findings<'a> {
         Ok(())
     }
 
-    /// Keeps a fault of a stage.
+    /// Keeps a fault of a stage, if there is one.
     pub(crate) fn stage_fault(
         &mut self,
         site: Site<'a>,
-        fault: StageFault<'a>,
+        fault: Option<StageFault<'a>>,
     ) -> Result<(), AllocError> {
+        match fault {
+            Some(fault) => self.fault(Finding::Stage { site, fault }),
+            None => Ok(()),
+        }
+    }
+
+    /// Keeps that a number is above its limit.
+    pub(crate) fn limit(
+        &mut self,
+        site: Site<'a>,
+        what: &'static str,
+        number: u64,
+        most: u64,
+    ) -> Result<(), AllocError> {
+        let fault = StageFault::Limit { what, number, most };
         self.fault(Finding::Stage { site, fault })
     }
 
@@ -108,24 +126,42 @@ impl<'a> Findings<'a> {
         &mut self,
         path: Path<'a>,
         object: &'a Value,
-        read: &'static [&'static str],
+        read: &[&'static str],
     ) -> Result<(), AllocError> {
         let members = unread_members(self.alloc, object, read)?;
         for member in members.as_slice() {
-            let near = nearest(self.alloc, member, read)?;
-            // (of the recording as a whole what is like none of its members is a label)
-            if near.is_some() || !matches!(path.site, Site::Recording) {
-                self.warning(Warning {
-                    site: path.site,
-                    within: path.member,
-                    index: path.index,
-                    member,
-                    why: Unread::Unknown { near },
-                    more: 0,
-                })?;
-            }
+            self.unread_member(path, member, read)?;
         }
         Ok(())
+    }
+
+    /// Keeps a warning of a member that is not among those which are read.
+    fn unread_member(
+        &mut self,
+        path: Path<'a>,
+        member: &'a str,
+        read: &[&'static str],
+    ) -> Result<(), AllocError> {
+        match (nearest(self.alloc, member, read)?, path.site) {
+            // (of the recording as a whole what is like none of its members is a label)
+            (None, Site::Recording) => Ok(()),
+            (near, _) => self.warning(Warning::at(path, member, Unread::Unknown { near })),
+        }
+    }
+
+    /// The same of a step or an edit, by the members that it has beside `do`.
+    pub(crate) fn unread_beside_do(
+        &mut self,
+        path: Path<'a>,
+        object: &'a Value,
+        members: &[Member],
+    ) -> Result<(), AllocError> {
+        let mut read = Vec::new(self.alloc);
+        read.push("do")?;
+        for member in members {
+            read.push(member.name())?;
+        }
+        self.unread(path, object, read.as_slice())
     }
 
     /// Keeps a warning of a member that others have, where it is there.
@@ -136,44 +172,37 @@ impl<'a> Findings<'a> {
         member: &'static str,
         name: &'a str,
     ) -> Result<(), AllocError> {
-        if object.get(member).is_none() {
-            return Ok(());
+        match object.get(member) {
+            Some(_) => self.warning(Warning::at(path, member, Unread::OfAnother { name })),
+            None => Ok(()),
         }
-        self.warning(Warning {
-            site: path.site,
-            within: path.member,
-            index: path.index,
-            member,
-            why: Unread::OfAnother { name },
-            more: 0,
-        })
     }
 }
 
 impl Finding<'_> {
-    /// Whether the fault has the number, and the place and the member where these are given.
-    fn is_at(&self, number: u32, place: Option<usize>, member: Option<&str>) -> bool {
-        if self.number() != number {
-            return false;
-        }
-        match self {
-            Finding::Shape { path, .. } => member.is_none() || path.told() == member,
-            Finding::Stage { site, .. } => place.is_none() || site.place() == place,
-            Finding::Circle(_) | Finding::ListSize { .. } => true,
+    /// Whether the fault is at the place and of the member, where these are given.
+    fn is_at(&self, place: Option<usize>, member: Option<&str>) -> bool {
+        match (self, place, member) {
+            (Finding::Shape { path, .. }, _, Some(member)) => path.told() == member,
+            (Finding::Stage { site, .. }, Some(place), _) => match site.place() {
+                Some(own) => own == place,
+                None => false,
+            },
+            _ => true,
         }
     }
 }
 
 impl Path<'_> {
     /// The member by which a fault of shape there is refused.
-    fn told(&self) -> Option<&'static str> {
+    fn told(&self) -> &'static str {
         match (self.member, self.site) {
-            (Some(member), _) => Some(member),
-            (None, Site::Recording) => Some("recording"),
-            (None, Site::Stage { .. }) => Some("stages"),
-            (None, Site::Step { .. }) => Some("step"),
-            (None, Site::New { .. } | Site::NewOfEdit { .. }) => Some("new"),
-            (None, Site::Edit { .. }) => Some("edits"),
+            (Some(member), _) => member,
+            (None, Site::Recording) => "recording",
+            (None, Site::Stage { .. }) => "stages",
+            (None, Site::Step { .. }) => "step",
+            (None, Site::New { .. } | Site::NewOfEdit { .. }) => "new",
+            (None, Site::Edit { .. }) => "edits",
         }
     }
 }

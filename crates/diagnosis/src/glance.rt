@@ -2,9 +2,9 @@
 //!
 //! It reads no JSON, keeps nothing, and goes over the bytes once. Where it sees nothing, nothing is told of a recording
 //! that is taken; where it sees something, the recording is read to find what.
-use crate::members::{has_delay, has_exception, has_value};
+use crate::members::{KINDS_WITH_DELAY, KINDS_WITH_EXCEPTION, KINDS_WITH_VALUE};
 use crate::passing::{Passing, all_pass, split_text};
-use json_names::is_label;
+use json_names::{is_among, is_label};
 
 /// The depth of the members of the recording, of a stage, of an outcome and of an end.
 const OF_RECORDING: usize = 1;
@@ -77,9 +77,9 @@ impl<'a> Seen<'a> {
             return true;
         }
         let kind = str::from_utf8(self.kind()).unwrap_or("");
-        (!self.has_value || has_value(kind))
-            && (!self.has_exception || has_exception(kind))
-            && (!self.has_delay || has_delay(kind))
+        (!self.has_value || is_among(kind, KINDS_WITH_VALUE))
+            && (!self.has_exception || is_among(kind, KINDS_WITH_EXCEPTION))
+            && (!self.has_delay || is_among(kind, KINDS_WITH_DELAY))
     }
 }
 

@@ -1,6 +1,6 @@
 //! Names of stages that a mistaken one may have meant.
 use crate::stage_checks::is_name;
-use json_names::{items_of, name_of};
+use json_names::{items_of, name_of, nearest};
 use serde_json::Value;
 use std::alloc::{AllocError, Global};
 
@@ -35,10 +35,6 @@ impl KnownStages {
         Ok(())
     }
 
-    pub(crate) fn alloc(&self) -> Global {
-        self.alloc
-    }
-
     /// Adds a name, if it is one of a stage.
     pub fn add(&mut self, name: &str) -> Result<(), AllocError> {
         if is_name(name) {
@@ -47,29 +43,34 @@ impl KnownStages {
         Ok(())
     }
 
+    /// Adds the name of the stage that a step or an edit adds, if it adds one.
+    fn add_new(&mut self, edit: &Value) -> Result<(), AllocError> {
+        match edit.get("new").and_then(|stage| name_of(stage)) {
+            Some(name) => self.add(name),
+            None => Ok(()),
+        }
+    }
+
     /// Adds the names of the stages that a step adds.
     pub fn add_of_step(&mut self, step: &Value) -> Result<(), AllocError> {
-        if let Some(name) = step.get("new").and_then(name_of) {
-            self.add(name)?;
-        }
+        self.add_new(step)?;
         for edit in items_of(step, "edits") {
-            if let Some(name) = edit.get("new").and_then(name_of) {
-                self.add(name)?;
-            }
+            self.add_new(edit)?;
         }
         Ok(())
     }
 
-    /// The names, where a like one may still be looked for.
-    pub fn candidates(&mut self) -> Result<Vec<&str>, AllocError> {
-        let mut names = Vec::new(self.alloc);
-        if self.looks < MOST_LOOKS {
-            self.looks = self.looks.saturating_add(1);
-            for name in self.names.as_slice() {
-                names.push(name.as_str())?;
-            }
+    /// The known name that is most like a mistaken one, while not many were looked for.
+    pub(crate) fn near(&mut self, name: &str) -> Result<Option<&str>, AllocError> {
+        if self.looks >= MOST_LOOKS {
+            return Ok(None);
         }
-        Ok(names)
+        self.looks += 1;
+        let mut names = Vec::new(self.alloc);
+        for known in self.names.as_slice() {
+            names.push(known.as_str())?;
+        }
+        nearest(self.alloc, name, names.as_slice())
     }
 
     /// Whether it is a known name.

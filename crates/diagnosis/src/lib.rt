@@ -22,6 +22,7 @@ mod stage;
 mod stage_checks;
 mod step;
 mod step_glance;
+mod step_members;
 mod syntax;
 mod unread;
 mod wanted;

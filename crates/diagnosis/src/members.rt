@@ -2,8 +2,8 @@
 use crate::action::action_fault;
 use crate::finding::StageFault;
 use crate::findings::Findings;
-use crate::site::{Path, Site};
-use crate::wanted::{KINDS, Wanted};
+use crate::site::Path;
+use crate::wanted::Wanted;
 use json_names::is_among;
 use serde_json::Value;
 use std::alloc::AllocError;
@@ -11,253 +11,228 @@ use std::alloc::AllocError;
 /// No moment and no duration is above this number of ticks.
 const LAST_TICK: u64 = 1 << 40;
 
-/// The members of an outcome.
-pub(crate) const OUTCOME_MEMBERS: &[&str] = &["value", "bare", "wrapped"];
-
-/// The members of an end.
-const END_MEMBERS: &[&str] = &["at", "do", "delay", "value", "throws"];
-
-/// Whether it is a number of 64 bits or null.
-fn is_value(value: &Value) -> bool {
-    value.is_null() || value.is_i64()
+/// A member that an object has to have or may have, by its name, and what it may be.
+#[derive(Clone, Copy)]
+pub(crate) enum Member {
+    Needed(&'static str, Wanted),
+    Optional(&'static str, Wanted),
 }
 
-fn is_exception_byte(byte: u8) -> bool {
-    byte.is_ascii_alphanumeric() || matches!(byte, b'.' | b'_' | b'$')
+/// A member that stages of some operations, or ends of some kinds, have to have, and the others have not.
+#[derive(Clone, Copy)]
+pub(crate) struct MemberOf {
+    pub name: &'static str,
+    pub wanted: Wanted,
+    /// The names of these operations or kinds.
+    pub owners: &'static [&'static str],
 }
 
-/// Whether it is the name of an exception that a stage may hold.
-fn is_exception(value: &Value) -> bool {
-    match value.as_str() {
-        Some("java.util.concurrent.CompletionException") | None => false,
-        Some(text) => {
-            let bytes = text.as_bytes();
-            !bytes.is_empty()
-                && bytes.len() <= 128
-                && bytes.iter().all(|byte| is_exception_byte(*byte))
+impl Member {
+    pub(crate) fn name(self) -> &'static str {
+        match self {
+            Member::Needed(name, _) | Member::Optional(name, _) => name,
+        }
+    }
+
+    /// The name, what it may be, and whether it has to be there.
+    fn parts(self) -> (&'static str, Wanted, bool) {
+        match self {
+            Member::Needed(name, wanted) => (name, wanted, true),
+            Member::Optional(name, wanted) => (name, wanted, false),
         }
     }
 }
 
-/// The member, which has to be there.
-pub(crate) fn required<'a>(
-    findings: &mut Findings<'a>,
-    path: Path<'a>,
-    value: Option<&'a Value>,
-    wanted: Wanted,
-) -> Result<Option<&'a Value>, AllocError> {
-    if value.is_none() {
-        findings.missing(path, wanted)?;
+/// The names of the members of an outcome.
+const OUTCOME_MEMBERS: &[&str] = &["value", "bare", "wrapped"];
+
+/// The members of an outcome, which has one of them.
+pub(crate) const PARTS_OF_OUTCOME: &[Member] = &[
+    Member::Optional("value", Wanted::Value),
+    Member::Optional("bare", Wanted::Exception),
+    Member::Optional("wrapped", Wanted::Exception),
+];
+
+/// The members of an end.
+const END_MEMBERS: &[&str] = &["at", "do", "delay", "value", "throws"];
+
+/// The kinds of ends that have a delay.
+pub(crate) const KINDS_WITH_DELAY: &[&str] = &["orTimeout", "completeOnTimeout"];
+
+/// The kinds of ends that have the value that they complete with.
+pub(crate) const KINDS_WITH_VALUE: &[&str] = &["complete", "completeOnTimeout"];
+
+/// The kinds of ends that have the exception that they complete with.
+pub(crate) const KINDS_WITH_EXCEPTION: &[&str] = &["completeExceptionally"];
+
+/// The members that only some kinds of ends have.
+const MEMBERS_OF_KINDS: &[MemberOf] = &[
+    MemberOf {
+        name: "delay",
+        wanted: Wanted::Ticks,
+        owners: KINDS_WITH_DELAY,
+    },
+    MemberOf {
+        name: "value",
+        wanted: Wanted::Value,
+        owners: KINDS_WITH_VALUE,
+    },
+    MemberOf {
+        name: "throws",
+        wanted: Wanted::Exception,
+        owners: KINDS_WITH_EXCEPTION,
+    },
+];
+
+/// The name that a member is, where it is one of those that are wanted.
+pub(crate) fn name_in<'a>(object: &'a Value, member: &str, wanted: Wanted) -> Option<&'a str> {
+    let value = object.get(member)?;
+    if wanted.is_met_by(value) {
+        value.as_str()
+    } else {
+        None
     }
-    Ok(value)
 }
 
-/// Looks at a number or null.
-pub(crate) fn look_at_value<'a>(
-    findings: &mut Findings<'a>,
-    path: Path<'a>,
-    value: &'a Value,
-) -> Result<(), AllocError> {
-    if is_value(value) {
-        return Ok(());
+/// The number of ticks that a value is, where it is wanted as such a number and is above the last tick.
+fn late_ticks(value: &Value, wanted: Wanted) -> Option<u64> {
+    match (wanted, value.as_u64()) {
+        (Wanted::Ticks | Wanted::TicksOrNull, Some(ticks)) if ticks > LAST_TICK => Some(ticks),
+        _ => None,
     }
-    findings.wrong(path, value, Wanted::Value)
 }
 
-/// Looks at the name of an exception.
-pub(crate) fn look_at_exception<'a>(
+/// Looks at a member by itself, and not at what stands in it.
+fn look_at_whole<'a>(
     findings: &mut Findings<'a>,
     path: Path<'a>,
-    value: &'a Value,
-) -> Result<(), AllocError> {
-    if is_exception(value) {
-        return Ok(());
-    }
-    findings.wrong(path, value, Wanted::Exception)
-}
-
-/// Looks at a number of ticks, whose limit a stage's check names.
-pub(crate) fn look_at_ticks<'a>(
-    findings: &mut Findings<'a>,
-    path: Path<'a>,
-    value: &'a Value,
-    wanted: Wanted,
-) -> Result<(), AllocError> {
-    let Some(ticks) = value.as_u64() else {
-        return findings.wrong(path, value, wanted);
-    };
-    if ticks <= LAST_TICK {
-        return Ok(());
-    }
-    findings.stage_fault(
-        path.site,
-        StageFault::Limit {
-            what: path.inner.or(path.member).unwrap_or("it"),
-            number: ticks,
-            most: LAST_TICK,
-        },
-    )
-}
-
-/// Looks at a number of ticks, if it is there or has to be.
-pub(crate) fn look_at_ticks_of<'a>(
-    findings: &mut Findings<'a>,
-    site: Site<'a>,
     object: &'a Value,
-    member: &'static str,
-    is_needed: bool,
+    member: Member,
 ) -> Result<(), AllocError> {
-    let path = Path::member(site, member);
-    match object.get(member) {
-        Some(ticks) => look_at_ticks(findings, path, ticks, Wanted::Ticks),
-        None if is_needed => findings.missing(path, Wanted::Ticks),
+    let (name, wanted, is_needed) = member.parts();
+    match object.get(name) {
+        None if is_needed => findings.missing(path.to(name), wanted),
+        None => Ok(()),
+        Some(value) if !wanted.is_met_by(value) => findings.wrong(path.to(name), value, wanted),
+        Some(value) => match late_ticks(value, wanted) {
+            Some(ticks) => findings.limit(path.site, name, ticks, LAST_TICK),
+            None => Ok(()),
+        },
+    }
+}
+
+/// Looks at a member, and at what stands in it.
+pub(crate) fn look_at_member<'a>(
+    findings: &mut Findings<'a>,
+    path: Path<'a>,
+    object: &'a Value,
+    member: Member,
+) -> Result<(), AllocError> {
+    look_at_whole(findings, path, object, member)?;
+    let (name, wanted, _) = member.parts();
+    match object.get(name) {
+        Some(value) => look_into(findings, path.to(name), value, wanted),
         None => Ok(()),
     }
 }
 
-/// Looks at a number of ticks or null.
-pub(crate) fn look_at_moment<'a>(
+/// Looks at members, in their order.
+pub(crate) fn look_at_all<'a>(
     findings: &mut Findings<'a>,
     path: Path<'a>,
-    value: &'a Value,
+    object: &'a Value,
+    members: &[Member],
 ) -> Result<(), AllocError> {
-    if value.is_null() {
-        return Ok(());
+    for member in members {
+        look_at_member(findings, path, object, *member)?;
     }
-    look_at_ticks(findings, path, value, Wanted::TicksOrNull)
+    Ok(())
 }
 
-/// Looks at an array of names, and answers how many there are.
-pub(crate) fn look_at_names<'a>(
+/// Looks at the members that only some operations or kinds have, of one of these.
+pub(crate) fn look_at_members_of<'a>(
     findings: &mut Findings<'a>,
     path: Path<'a>,
-    value: &'a Value,
+    object: &'a Value,
+    owner: &'a str,
+    members: &[MemberOf],
 ) -> Result<(), AllocError> {
-    let Some(items) = value.as_array() else {
-        return findings.wrong(path, value, Wanted::Names);
-    };
-    for (index, item) in items.as_slice().iter().enumerate() {
-        if !item.is_string() {
-            findings.wrong(path.item(index), item, Wanted::Text)?;
+    for member in members {
+        if is_among(owner, member.owners) {
+            let needed = Member::Needed(member.name, member.wanted);
+            look_at_whole(findings, path, object, needed)?;
+        } else {
+            findings.unread_beside(path, object, member.name, owner)?;
         }
     }
     Ok(())
 }
 
-/// Looks at an outcome or null.
-pub(crate) fn look_at_outcome<'a>(
+/// Looks at what stands in a value.
+fn look_into<'a>(
     findings: &mut Findings<'a>,
     path: Path<'a>,
     value: &'a Value,
+    wanted: Wanted,
 ) -> Result<(), AllocError> {
-    if value.is_null() {
-        return Ok(());
+    match wanted {
+        Wanted::Names => look_at_names(findings, path, value),
+        Wanted::OutcomeOrNull => look_at_outcome(findings, path, value),
+        Wanted::Action => look_at_action(findings, path, value),
+        Wanted::Ends => look_at_ends(findings, path, value),
+        _ => Ok(()),
     }
-    match (value.get("value"), value.get("bare"), value.get("wrapped")) {
-        (Some(number), None, None) => look_at_value(findings, path.inner("value"), number)?,
-        (None, Some(name), None) => look_at_exception(findings, path.inner("bare"), name)?,
-        (None, None, Some(name)) => look_at_exception(findings, path.inner("wrapped"), name)?,
-        _ => findings.wrong(path, value, Wanted::OutcomeOrNull)?,
+}
+
+/// The elements of a value, and none where it is no array.
+fn elements_of(value: &Value) -> &[Value] {
+    match value {
+        Value::Array(items) => items.as_slice(),
+        _ => &[],
     }
-    findings.unread(path, value, OUTCOME_MEMBERS)
+}
+
+/// Looks at the elements of an array of names.
+fn look_at_names<'a>(
+    findings: &mut Findings<'a>,
+    path: Path<'a>,
+    names: &'a Value,
+) -> Result<(), AllocError> {
+    for (index, name) in elements_of(names).iter().enumerate() {
+        if !name.is_string() {
+            findings.wrong(path.item(index), name, Wanted::Text)?;
+        }
+    }
+    Ok(())
+}
+
+/// Looks at the members of an outcome.
+fn look_at_outcome<'a>(
+    findings: &mut Findings<'a>,
+    path: Path<'a>,
+    outcome: &'a Value,
+) -> Result<(), AllocError> {
+    if Wanted::OutcomeOrNull.is_met_by(outcome) {
+        for part in PARTS_OF_OUTCOME {
+            look_at_whole(findings, path, outcome, *part)?;
+        }
+    }
+    findings.unread(path, outcome, OUTCOME_MEMBERS)
 }
 
 /// Looks at an action.
-pub(crate) fn look_at_action<'a>(
+fn look_at_action<'a>(
     findings: &mut Findings<'a>,
     path: Path<'a>,
-    value: &'a Value,
+    action: &'a Value,
 ) -> Result<(), AllocError> {
-    let size = match action_fault(findings.alloc(), value)? {
-        Ok(size) => size,
-        Err((found, wanted)) => return findings.wrong(path, found, wanted),
-    };
-    if size.nodes <= 256 && size.depth <= 32 {
-        return Ok(());
-    }
-    let fault = StageFault::Expression {
-        nodes: size.nodes,
-        depth: size.depth,
-    };
-    findings.stage_fault(path.site, fault)
-}
-
-/// Looks at a member of an end that has to be a number of ticks.
-fn look_at_end_ticks<'a>(
-    findings: &mut Findings<'a>,
-    path: Path<'a>,
-    end: &'a Value,
-    member: &'static str,
-) -> Result<(), AllocError> {
-    let path = path.inner(member);
-    match required(findings, path, end.get(member), Wanted::Ticks)? {
-        Some(ticks) => look_at_ticks(findings, path, ticks, Wanted::Ticks),
-        None => Ok(()),
-    }
-}
-
-/// Looks at the value that an end completes with.
-fn look_at_end_value<'a>(
-    findings: &mut Findings<'a>,
-    path: Path<'a>,
-    end: &'a Value,
-) -> Result<(), AllocError> {
-    let path = path.inner("value");
-    match required(findings, path, end.get("value"), Wanted::Value)? {
-        Some(value) => look_at_value(findings, path, value),
-        None => Ok(()),
-    }
-}
-
-/// Looks at the exception that an end completes with.
-fn look_at_end_exception<'a>(
-    findings: &mut Findings<'a>,
-    path: Path<'a>,
-    end: &'a Value,
-) -> Result<(), AllocError> {
-    let path = path.inner("throws");
-    match required(findings, path, end.get("throws"), Wanted::Exception)? {
-        Some(name) => look_at_exception(findings, path, name),
-        None => Ok(()),
-    }
-}
-
-/// Whether an end of the kind has a delay.
-pub(crate) fn has_delay(kind: &str) -> bool {
-    is_among(kind, &["orTimeout", "completeOnTimeout"])
-}
-
-/// Whether an end of the kind has the value that it completes with.
-pub(crate) fn has_value(kind: &str) -> bool {
-    is_among(kind, &["complete", "completeOnTimeout"])
-}
-
-/// Whether an end of the kind has the exception that it completes with.
-pub(crate) fn has_exception(kind: &str) -> bool {
-    kind == "completeExceptionally"
-}
-
-/// Looks at the further members of an end of a kind, and at those that only other kinds have.
-fn look_at_kind<'a>(
-    findings: &mut Findings<'a>,
-    path: Path<'a>,
-    end: &'a Value,
-    kind: &'a str,
-) -> Result<(), AllocError> {
-    if has_delay(kind) {
-        look_at_end_ticks(findings, path, end, "delay")?;
-    } else {
-        findings.unread_beside(path, end, "delay", kind)?;
-    }
-    if has_value(kind) {
-        look_at_end_value(findings, path, end)?;
-    } else {
-        findings.unread_beside(path, end, "value", kind)?;
-    }
-    if has_exception(kind) {
-        look_at_end_exception(findings, path, end)
-    } else {
-        findings.unread_beside(path, end, "throws", kind)
+    match action_fault(findings.alloc(), action)? {
+        Err((found, wanted)) => findings.wrong(path, found, wanted),
+        Ok(size) if size.nodes <= 256 && size.depth <= 32 => Ok(()),
+        Ok(size) => {
+            let (nodes, depth) = (size.nodes, size.depth);
+            findings.stage_fault(path.site, Some(StageFault::Expression { nodes, depth }))
+        }
     }
 }
 
@@ -270,27 +245,21 @@ fn look_at_end<'a>(
     if !end.is_object() {
         return findings.wrong(path, end, Wanted::End);
     }
-    look_at_end_ticks(findings, path, end, "at")?;
-    let kind_path = path.inner("do");
-    if let Some(kind) = required(findings, kind_path, end.get("do"), Wanted::Kind)? {
-        match kind.as_str() {
-            Some(name) if is_among(name, KINDS) => look_at_kind(findings, path, end, name)?,
-            _ => findings.wrong(kind_path, kind, Wanted::Kind)?,
-        }
+    look_at_whole(findings, path, end, Member::Needed("at", Wanted::Ticks))?;
+    look_at_whole(findings, path, end, Member::Needed("do", Wanted::Kind))?;
+    if let Some(kind) = name_in(end, "do", Wanted::Kind) {
+        look_at_members_of(findings, path, end, kind, MEMBERS_OF_KINDS)?;
     }
     findings.unread(path, end, END_MEMBERS)
 }
 
-/// Looks at an array of ends.
-pub(crate) fn look_at_ends<'a>(
+/// Looks at the elements of an array of ends.
+fn look_at_ends<'a>(
     findings: &mut Findings<'a>,
     path: Path<'a>,
-    value: &'a Value,
+    ends: &'a Value,
 ) -> Result<(), AllocError> {
-    let Some(items) = value.as_array() else {
-        return findings.wrong(path, value, Wanted::Ends);
-    };
-    for (index, end) in items.as_slice().iter().enumerate() {
+    for (index, end) in elements_of(ends).iter().enumerate() {
         look_at_end(findings, path.item(index), end)?;
     }
     Ok(())

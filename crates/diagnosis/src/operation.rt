@@ -1,7 +1,7 @@
 //! The operations of stages, by their names.
 
 /// What an operation takes.
-#[derive(Clone, Copy, Debug, PartialEq, Eq)]
+#[derive(Clone, Copy)]
 pub(crate) struct Operation {
     /// How many sources, where the number is fixed.
     pub sources: Option<usize>,
@@ -9,14 +9,6 @@ pub(crate) struct Operation {
     pub picks: bool,
     /// Whether it has an action.
     pub acts: bool,
-}
-
-const fn taking(sources: Option<usize>, picks: bool, acts: bool) -> Operation {
-    Operation {
-        sources,
-        picks,
-        acts,
-    }
 }
 
 /// The names of operations that are told: each but those that end with `Async`.
@@ -47,25 +39,38 @@ pub(crate) const OPERATIONS: &[&str] = &[
 
 /// What the operation of a name takes, if there is one.
 pub(crate) fn operation_of(name: &str) -> Option<Operation> {
-    match name {
-        "async" | "supplyAsync" => Some(taking(Some(0), false, true)),
-        "manual" | "completed" | "failed" => Some(taking(Some(0), false, false)),
-        "copy" => Some(taking(Some(1), false, false)),
-        "allOf" | "anyOf" => Some(taking(None, false, false)),
-        _ => operation_of_function(name),
-    }
+    let (sources, acts) = match name {
+        "async" | "supplyAsync" => (Some(0), true),
+        "manual" | "completed" | "failed" => (Some(0), false),
+        "copy" => (Some(1), false),
+        "allOf" | "anyOf" => (None, false),
+        _ => return operation_of_function(name.strip_suffix("Async").unwrap_or(name)),
+    };
+    Some(Operation {
+        sources,
+        picks: false,
+        acts,
+    })
 }
 
-/// The same of operations that have an `Async` form.
-fn operation_of_function(name: &str) -> Option<Operation> {
-    let plain = name.strip_suffix("Async").unwrap_or(name);
-    match plain {
+/// The same of operations that have an `Async` form, by the name without it.
+fn operation_of_function(plain: &str) -> Option<Operation> {
+    let (sources, picks) = match plain {
         "thenApply" | "thenAccept" | "thenRun" | "handle" | "whenComplete" | "exceptionally" => {
-            Some(taking(Some(1), false, true))
+            (1, false)
         }
-        "thenCompose" | "exceptionallyCompose" => Some(taking(Some(1), true, true)),
-        "thenCombine" | "thenAcceptBoth" | "runAfterBoth" => Some(taking(Some(2), false, true)),
-        "applyToEither" | "acceptEither" | "runAfterEither" => Some(taking(Some(2), false, true)),
-        _ => None,
-    }
+        "thenCompose" | "exceptionallyCompose" => (1, true),
+        "thenCombine"
+        | "thenAcceptBoth"
+        | "runAfterBoth"
+        | "applyToEither"
+        | "acceptEither"
+        | "runAfterEither" => (2, false),
+        _ => return None,
+    };
+    Some(Operation {
+        sources: Some(sources),
+        picks,
+        acts: true,
+    })
 }

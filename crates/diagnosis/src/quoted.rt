@@ -16,23 +16,29 @@ fn is_hidden(character: char) -> bool {
     )
 }
 
+/// Writes a character of a text in quotes.
+fn write_character<W: fmt::Write>(character: char, f: &mut fmt::Formatter<W>) -> fmt::Result {
+    if character == '"' || character == '\\' {
+        write!(f, "\\{character}")
+    } else if is_hidden(character) {
+        let code = character as u32;
+        write!(f, "\\u{code:04x}")
+    } else {
+        write!(f, "{character}")
+    }
+}
+
 impl fmt::Display for Quoted<'_> {
     fn fmt<W: fmt::Write>(&self, f: &mut fmt::Formatter<W>) -> fmt::Result {
         let Quoted(text) = *self;
         f.write_str("\"")?;
         for character in text.chars().take(MOST_SHOWN) {
-            if character == '"' || character == '\\' {
-                write!(f, "\\{character}")?;
-            } else if is_hidden(character) {
-                let code = character as u32;
-                write!(f, "\\u{code:04x}")?;
-            } else {
-                write!(f, "{character}")?;
-            }
+            write_character(character, f)?;
         }
-        if text.chars().count() > MOST_SHOWN {
-            f.write_str("..")?;
-        }
-        f.write_str("\"")
+        f.write_str(if text.chars().count() > MOST_SHOWN {
+            "..\""
+        } else {
+            "\""
+        })
     }
 }

@@ -1,6 +1,7 @@
 //! What is found in a recording.
 use crate::finding::StageFault;
 use crate::findings::Findings;
+use crate::members::{Member, look_at_all, look_at_member};
 use crate::site::{Path, Site};
 use crate::stage::{TimeForm, form_warning, look_at_members, time_of_form_two};
 use crate::stage_checks::{is_name, look_at_checks};
@@ -16,8 +17,16 @@ const MOST_STAGES: usize = 65_536;
 /// How many mistaken names a like one is looked for.
 const MOST_LOOKS: usize = 16;
 
-/// The members of a recording.
+/// The names of the members of a recording.
 const RECORDING_MEMBERS: &[&str] = &["form", "wrap", "stages"];
+
+/// The members of a recording before its stages.
+const FIRST_MEMBERS: &[Member] = &[
+    Member::Optional("form", Wanted::Form),
+    Member::Optional("wrap", Wanted::Wrap),
+];
+
+const STAGES: Member = Member::Needed("stages", Wanted::Stages);
 
 /// The places of names: of several stages of one name that of the first.
 #[derive(Drop)]
@@ -31,25 +40,30 @@ struct Names<'a> {
 
 impl<'a> Names<'a> {
     fn of(alloc: Global, stages: &'a [Value]) -> Result<Names<'a>, AllocError> {
-        let mut places = BTreeMap::new(alloc);
-        let mut list = Vec::new(alloc);
+        let mut names = Names {
+            alloc,
+            places: BTreeMap::new(alloc),
+            list: Vec::new(alloc),
+            looks: 0,
+        };
         for (place, stage) in stages.iter().enumerate() {
-            let Some(name) = name_of(stage) else {
-                continue;
-            };
-            if places.get(name).is_none() {
-                places.insert(name, place)?;
-                if is_name(name) {
-                    list.push(name)?;
-                }
+            if let Some(name) = name_of(stage) {
+                names.add(name, place)?;
             }
         }
-        Ok(Names {
-            alloc,
-            places,
-            list,
-            looks: 0,
-        })
+        Ok(names)
+    }
+
+    /// Adds the name of the stage at a place, unless an earlier one has it.
+    fn add(&mut self, name: &'a str, place: usize) -> Result<(), AllocError> {
+        if self.places.get(name).is_some() {
+            return Ok(());
+        }
+        self.places.insert(name, place)?;
+        if is_name(name) {
+            self.list.push(name)?;
+        }
+        Ok(())
     }
 
     /// The name that is most like a mistaken one, while not many were looked for.
@@ -61,74 +75,60 @@ impl<'a> Names<'a> {
         nearest(self.alloc, name, self.list.as_slice())
     }
 
-    /// Looks at whether an earlier stage has the name.
-    fn look_at_name(&self, findings: &mut Findings<'a>, site: Site<'a>) -> Result<(), AllocError> {
-        let (Some(name), Some(place)) = (site.name(), site.place()) else {
-            return Ok(());
-        };
-        match self.places.get(name) {
-            Some(first) if *first < place => {
-                findings.stage_fault(site, StageFault::NameTaken { place: *first })
-            }
-            _ => Ok(()),
+    /// That an earlier stage has the name.
+    fn taken_fault(&self, site: Site<'a>) -> Option<StageFault<'a>> {
+        let place = site.place()?;
+        match self.places.get(site.name()?) {
+            Some(first) if *first < place => Some(StageFault::NameTaken { place: *first }),
+            _ => None,
         }
     }
 
-    /// Looks at whether stages have the names of a member.
-    fn look_at_feeds(
+    /// That no stage has the name of a feed, if that is so.
+    fn feed_fault(
         &mut self,
-        findings: &mut Findings<'a>,
-        site: Site<'a>,
-        stage: &'a Value,
         member: &'static str,
-        told: &'static str,
-    ) -> Result<(), AllocError> {
-        for item in items_of(stage, member) {
-            let Some(name) = item.as_str() else {
-                continue;
-            };
-            if self.places.get(name).is_none() {
-                let near = self.near(name)?;
-                let member = told;
-                findings.stage_fault(site, StageFault::NoSource { member, name, near })?;
-            }
+        name: &'a str,
+    ) -> Result<Option<StageFault<'a>>, AllocError> {
+        if self.places.get(name).is_some() {
+            return Ok(None);
         }
-        Ok(())
+        let near = self.near(name)?;
+        Ok(Some(StageFault::NoSource { member, name, near }))
     }
+}
+
+/// Looks at whether stages have the names that a list of feeds has.
+fn look_at_feeds<'a>(
+    findings: &mut Findings<'a>,
+    names: &mut Names<'a>,
+    site: Site<'a>,
+    told: &'static str,
+    feeds: &'a [Value],
+) -> Result<(), AllocError> {
+    for feed in feeds {
+        if let Some(name) = feed.as_str() {
+            findings.stage_fault(site, names.feed_fault(told, name)?)?;
+        }
+    }
+    Ok(())
 }
 
 /// The form of the times, as far as it can be read.
-fn look_at_form<'a>(
-    findings: &mut Findings<'a>,
-    recording: &'a Value,
-) -> Result<TimeForm, AllocError> {
-    let Some(form) = recording.get("form") else {
-        return Ok(TimeForm::One);
-    };
-    match form.as_i64() {
-        Some(1) => Ok(TimeForm::One),
-        Some(2) => Ok(TimeForm::Two),
-        _ => {
-            findings.wrong(Path::member(Site::Recording, "form"), form, Wanted::Form)?;
-            Ok(TimeForm::Two)
-        }
-    }
-}
-
-fn look_at_wrap<'a>(findings: &mut Findings<'a>, recording: &'a Value) -> Result<(), AllocError> {
-    let Some(wrap) = recording.get("wrap") else {
-        return Ok(());
-    };
-    match wrap.as_str() {
-        Some("computed" | "literal") => Ok(()),
-        _ => findings.wrong(Path::member(Site::Recording, "wrap"), wrap, Wanted::Wrap),
+fn form_of(recording: &Value) -> TimeForm {
+    match recording.get("form") {
+        None => TimeForm::One,
+        Some(form) => match form.as_i64() {
+            Some(1) => TimeForm::One,
+            _ => TimeForm::Two,
+        },
     }
 }
 
 /// The stage of a place.
 fn site_of<'a>(stages: &'a [Value], place: usize, stage: &'a Value) -> Site<'a> {
     let before = match place.checked_sub(1) {
-        Some(place) => stages.get(place).and_then(name_of),
+        Some(place) => stages.get(place).and_then(|stage| name_of(stage)),
         None => None,
     };
     Site::Stage {
@@ -150,10 +150,40 @@ fn look_at_stage<'a>(
         return findings.wrong(Path::of(site), stage, Wanted::Stage);
     }
     look_at_members(findings, site, form, stage)?;
-    names.look_at_name(findings, site)?;
+    findings.stage_fault(site, names.taken_fault(site))?;
     look_at_checks(findings, site, form, stage)?;
-    names.look_at_feeds(findings, site, stage, "sources", "source")?;
-    names.look_at_feeds(findings, site, stage, "inner", "inner stage")
+    look_at_feeds(findings, names, site, "source", items_of(stage, "sources"))?;
+    look_at_feeds(
+        findings,
+        names,
+        site,
+        "inner stage",
+        items_of(stage, "inner"),
+    )
+}
+
+/// Looks at each stage, as far as there may be so many.
+fn look_at_each<'a>(
+    findings: &mut Findings<'a>,
+    form: TimeForm,
+    stages: &'a [Value],
+) -> Result<(), AllocError> {
+    let mut names = Names::of(findings.alloc(), stages)?;
+    for (place, stage) in stages.iter().enumerate().take(MOST_STAGES) {
+        let site = site_of(stages, place, stage);
+        look_at_stage(findings, &mut names, form, site, stage)?;
+    }
+    Ok(())
+}
+
+/// Looks at how many stages there are.
+fn look_at_count<'a>(findings: &mut Findings<'a>, stages: &'a [Value]) -> Result<(), AllocError> {
+    let Some(stage) = stages.get(MOST_STAGES) else {
+        return Ok(());
+    };
+    let site = site_of(stages, MOST_STAGES, stage);
+    let (number, most) = (stages.len() as u64, MOST_STAGES as u64);
+    findings.limit(site, "the number of stages", number, most)
 }
 
 /// Looks at times that form 1 does not read.
@@ -177,34 +207,22 @@ fn look_at_unread_times<'a>(
     }
 }
 
-/// Looks at the stages.
-fn look_at_stages<'a>(
+/// Looks at a recording.
+fn look_at_recording<'a>(
     findings: &mut Findings<'a>,
-    form: TimeForm,
     recording: &'a Value,
 ) -> Result<(), AllocError> {
-    let path = Path::member(Site::Recording, "stages");
-    let Some(value) = recording.get("stages") else {
-        return findings.missing(path, Wanted::Stages);
-    };
-    if !value.is_array() {
-        return findings.wrong(path, value, Wanted::Stages);
+    let path = Path::of(Site::Recording);
+    if !recording.is_object() {
+        return findings.wrong(path, recording, Wanted::Recording);
     }
+    look_at_all(findings, path, recording, FIRST_MEMBERS)?;
+    findings.unread(path, recording, RECORDING_MEMBERS)?;
+    look_at_member(findings, path, recording, STAGES)?;
+    let form = form_of(recording);
     let stages = items_of(recording, "stages");
-    let mut names = Names::of(findings.alloc(), stages)?;
-    for (place, stage) in stages.iter().enumerate().take(MOST_STAGES) {
-        let site = site_of(stages, place, stage);
-        look_at_stage(findings, &mut names, form, site, stage)?;
-    }
-    if let Some(stage) = stages.get(MOST_STAGES) {
-        let site = site_of(stages, MOST_STAGES, stage);
-        let fault = StageFault::Limit {
-            what: "the number of stages",
-            number: stages.len() as u64,
-            most: MOST_STAGES as u64,
-        };
-        findings.stage_fault(site, fault)?;
-    }
+    look_at_each(findings, form, stages)?;
+    look_at_count(findings, stages)?;
     match form {
         TimeForm::One => look_at_unread_times(findings, stages),
         TimeForm::Two => Ok(()),
@@ -218,14 +236,7 @@ pub fn examine_recording<'a>(
     recording: &'a Value,
 ) -> Result<Findings<'a>, AllocError> {
     let mut findings = Findings::new(alloc);
-    if !recording.is_object() {
-        findings.wrong(Path::of(Site::Recording), recording, Wanted::Recording)?;
-        return Ok(findings);
-    }
-    let form = look_at_form(&mut findings, recording)?;
-    look_at_wrap(&mut findings, recording)?;
-    findings.unread(Path::of(Site::Recording), recording, RECORDING_MEMBERS)?;
-    look_at_stages(&mut findings, form, recording)?;
+    look_at_recording(&mut findings, recording)?;
     Ok(findings)
 }
 

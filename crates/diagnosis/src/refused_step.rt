@@ -1,17 +1,17 @@
 //! Why a step was refused, by its line and the answer.
-use crate::finding::{Finding, StageFault};
+use crate::finding::{BAD_NAME, Finding, StageFault};
 use crate::findings::Findings;
 use crate::known::KnownStages;
 use crate::quoted::Quoted;
 use crate::site::Site;
 use crate::step::stage_of;
-use json_names::{items_of, name_of, nearest};
+use json_names::{items_of, name_of};
 use serde_json::Value;
 use std::alloc::AllocError;
 use std::fmt;
 
 /// The words of an answer `refused NUMBER NAME DETAIL in INDEX`.
-#[derive(Clone, Copy, Debug, PartialEq, Eq)]
+#[derive(Clone, Copy)]
 pub struct Refusal<'a> {
     pub number: u32,
     /// What follows the name, where something does.
@@ -40,17 +40,25 @@ pub enum RefusedStep<'a> {
     },
 }
 
+/// What stands before the index of a refused edit, and the index, where one is told.
+fn split_index(words: &str) -> (&str, Option<usize>) {
+    match words.split_once(" in ") {
+        Some((front, index)) => (front, index.parse::<usize>().ok()),
+        None => (words, None),
+    }
+}
+
 impl<'a> Refusal<'a> {
     /// The refusal that an answer's first line tells, if it tells one.
     pub fn of_answer(answer: &'a str) -> Option<Refusal<'a>> {
         let words = answer.strip_prefix("refused ")?;
         let (number, rest) = words.split_once(' ')?;
         let number = number.parse::<u32>().ok()?;
-        let (rest, index) = match rest.split_once(" in ") {
-            Some((front, index)) => (front, index.parse::<usize>().ok()),
-            None => (rest, None),
+        let (name, index) = split_index(rest);
+        let detail = match name.split_once(' ') {
+            Some((_, detail)) => Some(detail),
+            None => None,
         };
-        let detail = rest.split_once(' ').map(|(_, detail)| detail);
         Some(Refusal {
             number,
             detail,
@@ -83,24 +91,48 @@ fn site_of<'a>(edit: &'a Value, index: Option<usize>) -> Site<'a> {
     }
 }
 
-/// The first name of a member that is not known.
-fn unknown_in<'a>(known: &KnownStages, object: &'a Value, member: &str) -> Option<&'a str> {
-    items_of(object, member)
-        .iter()
-        .filter_map(Value::as_str)
-        .find(|name| !known.contains(name))
+/// The first of the names that is not known.
+fn unknown_in<'a>(known: &KnownStages, names: &'a [Value]) -> Option<&'a str> {
+    for name in names {
+        match name.as_str() {
+            Some(name) if !known.contains(name) => return Some(name),
+            _ => {}
+        }
+    }
+    None
 }
 
 /// The first source or inner stage of an edit that is not known, with its kind.
 fn unknown_feed<'a>(known: &KnownStages, edit: &'a Value) -> Option<(&'static str, &'a str)> {
     let object = edit.get("new").unwrap_or(edit);
-    if let Some(name) = unknown_in(known, object, "sources") {
-        return Some(("source", name));
+    match unknown_in(known, items_of(object, "sources")) {
+        Some(name) => Some(("source", name)),
+        None => Some(("inner stage", unknown_in(known, items_of(object, "inner"))?)),
     }
-    match unknown_in(known, object, "inner") {
-        Some(name) => Some(("inner stage", name)),
-        None => None,
-    }
+}
+
+/// That no stage has the name which an edit names.
+fn no_stage<'a>(
+    known: &'a mut KnownStages,
+    edit: &'a Value,
+) -> Result<Option<StageFault<'a>>, AllocError> {
+    let Some(name) = stage_of(edit) else {
+        return Ok(None);
+    };
+    let near = known.near(name)?;
+    Ok(Some(StageFault::NoStage { name, near }))
+}
+
+/// That no stage has the name of a feed.
+fn no_source<'a>(
+    known: &'a mut KnownStages,
+    edit: &'a Value,
+) -> Result<Option<StageFault<'a>>, AllocError> {
+    let Some((member, name)) = unknown_feed(known, edit) else {
+        return Ok(None);
+    };
+    let near = known.near(name)?;
+    Ok(Some(StageFault::NoSource { member, name, near }))
 }
 
 /// What the version shows of a refused edit or report.
@@ -110,29 +142,20 @@ fn stage_fault<'a>(
     number: u32,
 ) -> Result<Option<StageFault<'a>>, AllocError> {
     match number {
-        10 => match stage_of(edit) {
-            Some(name) => {
-                let near = nearest(known.alloc(), name, known.candidates()?.as_slice())?;
-                Ok(Some(StageFault::NoStage { name, near }))
-            }
-            None => Ok(None),
-        },
-        14 => match unknown_feed(known, edit) {
-            Some((member, name)) => {
-                let near = nearest(known.alloc(), name, known.candidates()?.as_slice())?;
-                Ok(Some(StageFault::NoSource { member, name, near }))
-            }
-            None => Ok(None),
-        },
+        10 => no_stage(known, edit),
+        14 => no_source(known, edit),
         _ => Ok(None),
     }
 }
 
 /// The version that a step names.
 fn version_of(step: &Value) -> Option<u64> {
-    ["version", "base", "against"]
-        .iter()
-        .find_map(|member| step.get(*member)?.as_u64())
+    for member in ["version", "base", "against"] {
+        if let Some(version) = step.get(member).and_then(Value::as_u64) {
+            return Some(version);
+        }
+    }
+    None
 }
 
 /// Why a step was refused: `findings` are those of its line.
@@ -155,7 +178,7 @@ pub fn explain_step<'a>(
         detail: refusal.detail,
         session: step.get("session").and_then(Value::as_u64),
         version: version_of(step),
-        stage: stage_of(edit).or(edit.get("new").and_then(name_of)),
+        stage: stage_of(edit).or(edit.get("new").and_then(|stage| name_of(stage))),
     })
 }
 
@@ -164,7 +187,7 @@ fn plain_text(number: u32) -> &'static str {
     match number {
         10 => "no stage of the version has the name",
         11 => "a stage of the version has the name already",
-        12 => "a name is 1 to 64 of the characters A-Z a-z 0-9 _ - . and begins with no - or .",
+        12 => BAD_NAME,
         13 =>
             "the operation takes another number of sources, picks no inner stage, or has no action",
         14 => "a source or an inner stage is no stage of the version",
@@ -192,6 +215,17 @@ fn write_number<W: fmt::Write>(
     }
 }
 
+/// Writes that a session stands at another version than the base of a step.
+fn write_base<W: fmt::Write>(
+    head: Option<&str>,
+    base: Option<u64>,
+    f: &mut fmt::Formatter<W>,
+) -> fmt::Result {
+    let head = head.unwrap_or("another");
+    write!(f, " stands at version {head} by now, and the base is ")?;
+    write_number("version", base, f)
+}
+
 /// Writes what is told of a session.
 fn write_session<W: fmt::Write>(
     number: u32,
@@ -200,25 +234,44 @@ fn write_session<W: fmt::Write>(
     detail: Option<&str>,
     f: &mut fmt::Formatter<W>,
 ) -> fmt::Result {
+    if number == 52 {
+        f.write_str("there is no ")?;
+        return write_number("version", version, f);
+    }
+    write_number("session", session, f)?;
     match number {
-        50 => {
-            write_number("session", session, f)?;
-            f.write_str(" is open already: close it first, or take another number")
+        50 => f.write_str(" is open already: close it first, or take another number"),
+        51 => f.write_str(" is not open: open it first"),
+        _ => write_base(detail, version, f),
+    }
+}
+
+/// Writes the stage that a step or an edit names, before what is told of it.
+fn write_stage<W: fmt::Write>(stage: Option<&str>, f: &mut fmt::Formatter<W>) -> fmt::Result {
+    match stage {
+        Some(stage) => {
+            let stage = Quoted(stage);
+            write!(f, "stage {stage}: ")
         }
-        51 => {
-            write_number("session", session, f)?;
-            f.write_str(" is not open: open it first")
+        None => Ok(()),
+    }
+}
+
+/// Writes what a number tells, with the stage that a stage feeds where it may not be removed.
+fn write_reason<W: fmt::Write>(
+    number: u32,
+    detail: Option<&str>,
+    f: &mut fmt::Formatter<W>,
+) -> fmt::Result {
+    match (number, detail) {
+        (18, Some(fed)) => {
+            let fed = Quoted(fed);
+            write!(
+                f,
+                "it feeds stage {fed}: take it out of the sources and inner stages there first"
+            )
         }
-        52 => {
-            f.write_str("there is no ")?;
-            write_number("version", version, f)
-        }
-        _ => {
-            write_number("session", session, f)?;
-            let head = detail.unwrap_or("another");
-            write!(f, " stands at version {head} by now, and the base is ")?;
-            write_number("version", version, f)
-        }
+        _ => f.write_str(plain_text(number)),
     }
 }
 
@@ -240,20 +293,8 @@ impl fmt::Display for RefusedStep<'_> {
                 stage,
                 ..
             } => {
-                if let Some(stage) = stage {
-                    let stage = Quoted(stage);
-                    write!(f, "stage {stage}: ")?;
-                }
-                match detail {
-                    Some(other) if number == 18 => {
-                        let other = Quoted(other);
-                        write!(
-                            f,
-                            "it feeds stage {other}: take it out of the sources and inner stages there first"
-                        )
-                    }
-                    _ => f.write_str(plain_text(number)),
-                }
+                write_stage(stage, f)?;
+                write_reason(number, detail, f)
             }
         }
     }

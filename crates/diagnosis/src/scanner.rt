@@ -5,7 +5,7 @@ use crate::syntax::Expected;
 const DEEPEST: usize = 127;
 
 /// An array or an object that is not closed yet.
-#[derive(Clone, Copy, Debug, PartialEq, Eq)]
+#[derive(Clone, Copy)]
 pub(crate) enum Open {
     Array,
     Object,
@@ -82,7 +82,7 @@ fn after_number(bytes: &[u8]) -> Result<&[u8], Scanned<'_>> {
 }
 
 /// What a byte of a text may be.
-#[derive(Clone, Copy, PartialEq, Eq)]
+#[derive(Clone, Copy)]
 enum Inside {
     Plain,
     Escape,
@@ -117,7 +117,7 @@ fn go_on(inside: Inside, byte: u8) -> Result<Inside, Expected> {
 fn after_text(bytes: &[u8]) -> Result<&[u8], Scanned<'_>> {
     let mut inside = Inside::Plain;
     for (index, byte) in bytes.iter().enumerate() {
-        if *byte == b'"' && inside == Inside::Plain {
+        if let (Inside::Plain, b'"') = (inside, *byte) {
             return Ok(&bytes[index + 1..]);
         }
         match go_on(inside, *byte) {

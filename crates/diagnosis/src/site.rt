@@ -54,48 +54,70 @@ impl<'a> Site<'a> {
         }
     }
 
-    /// Writes the front of a path, and whether a member's name follows a point.
-    fn write_front<W: fmt::Write>(self, f: &mut fmt::Formatter<W>) -> Result<bool, fmt::Error> {
-        match self {
-            Site::Recording | Site::Step { .. } => return Ok(false),
-            Site::Stage { place, .. } => write!(f, "stages[{place}]")?,
-            Site::New { .. } => f.write_str("new")?,
-            Site::Edit { index, .. } => write!(f, "edits[{index}]")?,
-            Site::NewOfEdit { index, .. } => write!(f, "edits[{index}].new")?,
-        }
-        Ok(true)
+    /// Whether a path in it begins with a member's name, and not with the place of a stage or of an edit.
+    fn is_whole(self) -> bool {
+        matches!(self, Site::Recording | Site::Step { .. })
     }
+
+    /// Writes the front of a path.
+    fn write_front<W: fmt::Write>(self, f: &mut fmt::Formatter<W>) -> fmt::Result {
+        match self {
+            Site::Recording | Site::Step { .. } => Ok(()),
+            Site::Stage { place, .. } => write!(f, "stages[{place}]"),
+            Site::New { .. } => f.write_str("new"),
+            Site::Edit { index, .. } => write!(f, "edits[{index}]"),
+            Site::NewOfEdit { index, .. } => write!(f, "edits[{index}].new"),
+        }
+    }
+}
+
+/// Writes `stage "tax"` behind what stands before it.
+fn write_stage<W: fmt::Write>(before: &str, name: &str, f: &mut fmt::Formatter<W>) -> fmt::Result {
+    let name = Quoted(name);
+    write!(f, "{before}stage {name}")
 }
 
 /// `stage "tax" (place 16)`, or what else stands for it.
 impl fmt::Display for Site<'_> {
     fn fmt<W: fmt::Write>(&self, f: &mut fmt::Formatter<W>) -> fmt::Result {
         match *self {
-            Site::Recording => return f.write_str("the recording"),
+            Site::Recording => f.write_str("the recording"),
+            Site::Stage {
+                place,
+                name: Some(name),
+                ..
+            } => {
+                write_stage("", name, f)?;
+                write!(f, " (place {place})")
+            }
             Site::Stage {
                 place,
                 name: None,
                 before,
             } => {
                 write!(f, "the stage at place {place}")?;
-                return write_before(before, f);
+                write_before(before, f)
             }
-            Site::Step { stage: None } => return f.write_str("the step"),
-            Site::New { name: None } => return f.write_str("the new stage"),
-            Site::Edit { index, stage: None } => return write!(f, "edits[{index}]"),
-            Site::NewOfEdit { index, .. } => write!(f, "edits[{index}], new ")?,
-            Site::Edit { index, .. } => write!(f, "edits[{index}], ")?,
-            Site::New { .. } => f.write_str("new ")?,
-            Site::Stage { .. } | Site::Step { .. } => {}
-        }
-        f.write_str("stage")?;
-        if let Some(name) = self.name() {
-            let name = Quoted(name);
-            write!(f, " {name}")?;
-        }
-        match self.place() {
-            Some(place) => write!(f, " (place {place})"),
-            None => Ok(()),
+            Site::Step { stage: None } => f.write_str("the step"),
+            Site::Step { stage: Some(stage) } => write_stage("", stage, f),
+            Site::New { name: None } => f.write_str("the new stage"),
+            Site::New { name: Some(name) } => write_stage("new ", name, f),
+            Site::Edit { index, stage: None } => write!(f, "edits[{index}]"),
+            Site::Edit {
+                index,
+                stage: Some(stage),
+            } => {
+                write!(f, "edits[{index}], ")?;
+                write_stage("", stage, f)
+            }
+            Site::NewOfEdit { index, name: None } => write!(f, "edits[{index}], new stage"),
+            Site::NewOfEdit {
+                index,
+                name: Some(name),
+            } => {
+                write!(f, "edits[{index}], ")?;
+                write_stage("new ", name, f)
+            }
         }
     }
 }
@@ -120,14 +142,6 @@ impl<'a> Path<'a> {
         }
     }
 
-    /// A member.
-    pub(crate) fn member(site: Site<'a>, member: &'static str) -> Path<'a> {
-        Path {
-            member: Some(member),
-            ..Path::of(site)
-        }
-    }
-
     /// An element of it.
     pub(crate) fn item(self, index: usize) -> Path<'a> {
         Path {
@@ -137,26 +151,33 @@ impl<'a> Path<'a> {
     }
 
     /// A member of it.
-    pub(crate) fn inner(self, inner: &'static str) -> Path<'a> {
-        Path {
-            inner: Some(inner),
-            ..self
+    pub(crate) fn to(self, name: &'static str) -> Path<'a> {
+        match self.member {
+            None => Path {
+                member: Some(name),
+                ..self
+            },
+            Some(_) => Path {
+                inner: Some(name),
+                ..self
+            },
         }
     }
 
     /// Writes the path alone, as `stages[4].ends[0].delay`.
-    pub(crate) fn write_path<W: fmt::Write>(&self, f: &mut fmt::Formatter<W>) -> fmt::Result {
-        let follows = self.site.write_front(f)?;
-        let Some(member) = self.member else {
-            return match self.site {
-                Site::Recording => f.write_str("the recording"),
-                Site::Step { .. } => f.write_str("the step"),
-                _ => Ok(()),
-            };
-        };
-        if follows {
-            f.write_str(".")?;
+    fn write_path<W: fmt::Write>(&self, f: &mut fmt::Formatter<W>) -> fmt::Result {
+        self.site.write_front(f)?;
+        match (self.member, self.site) {
+            (Some(member), _) => self.write_member(member, f),
+            (None, Site::Recording) => f.write_str("the recording"),
+            (None, Site::Step { .. }) => f.write_str("the step"),
+            (None, _) => Ok(()),
         }
+    }
+
+    /// Writes a member, its element and the member of that, behind the front.
+    fn write_member<W: fmt::Write>(&self, member: &str, f: &mut fmt::Formatter<W>) -> fmt::Result {
+        f.write_str(if self.site.is_whole() { "" } else { "." })?;
         f.write_str(member)?;
         if let Some(index) = self.index {
             write!(f, "[{index}]")?;

@@ -1,10 +1,6 @@
 //! The members of a stage, of a recording or of a step that adds it.
 use crate::findings::Findings;
-use crate::members::{
-    look_at_action, look_at_ends, look_at_exception, look_at_moment, look_at_names,
-    look_at_outcome, look_at_ticks_of, look_at_value, required,
-};
-use crate::operation::operation_of;
+use crate::members::{Member, MemberOf, look_at_all, look_at_members_of, name_in};
 use crate::site::{Path, Site};
 use crate::unread::{Unread, Warning};
 use crate::wanted::Wanted;
@@ -30,8 +26,53 @@ const STAGE_MEMBERS: &[&str] = &[
     "span",
 ];
 
+/// The members that each stage has.
+const FIRST_MEMBERS: &[Member] = &[
+    Member::Needed("name", Wanted::Text),
+    Member::Needed("op", Wanted::Operation),
+];
+
+/// The members that only stages of an operation have.
+const MEMBERS_OF_OPERATIONS: &[MemberOf] = &[
+    MemberOf {
+        name: "value",
+        wanted: Wanted::Value,
+        owners: &["completed"],
+    },
+    MemberOf {
+        name: "throws",
+        wanted: Wanted::Exception,
+        owners: &["failed"],
+    },
+];
+
+/// The further members up to the times.
+const MEMBERS_BEFORE_TIMES: &[Member] = &[
+    Member::Optional("sources", Wanted::Names),
+    Member::Optional("inner", Wanted::Names),
+    Member::Optional("created", Wanted::Ticks),
+];
+
+/// The times in form 1. That it has no `queued` and `runs` is told of the recording as a whole.
+const TIMES_OF_FORM_ONE: &[Member] = &[Member::Optional("takes", Wanted::Ticks)];
+
+/// The times in form 2.
+const TIMES_OF_FORM_TWO: &[Member] = &[
+    Member::Optional("takes", Wanted::NoTakes),
+    Member::Optional("queued", Wanted::Ticks),
+    Member::Optional("runs", Wanted::Ticks),
+];
+
+/// What stands in place of what a stage computes.
+const LAST_MEMBERS: &[Member] = &[
+    Member::Optional("action", Wanted::Action),
+    Member::Optional("pinResult", Wanted::OutcomeOrNull),
+    Member::Optional("pinMoment", Wanted::TicksOrNull),
+    Member::Optional("ends", Wanted::Ends),
+];
+
 /// How a stage gives its times.
-#[derive(Clone, Copy, PartialEq, Eq, Debug)]
+#[derive(Clone, Copy)]
 pub(crate) enum TimeForm {
     /// By `takes`.
     One,
@@ -39,122 +80,13 @@ pub(crate) enum TimeForm {
     Two,
 }
 
-/// Looks at the name.
-fn look_at_name<'a>(
-    findings: &mut Findings<'a>,
-    site: Site<'a>,
-    stage: &'a Value,
-) -> Result<(), AllocError> {
-    let path = Path::member(site, "name");
-    match required(findings, path, stage.get("name"), Wanted::Text)? {
-        Some(name) if !name.is_string() => findings.wrong(path, name, Wanted::Text),
-        _ => Ok(()),
-    }
-}
-
-/// Looks at the value of `completed`, which no other operation has.
-fn look_at_completed<'a>(
-    findings: &mut Findings<'a>,
-    site: Site<'a>,
-    stage: &'a Value,
-    name: &'a str,
-) -> Result<(), AllocError> {
-    if name != "completed" {
-        return findings.unread_beside(Path::of(site), stage, "value", name);
-    }
-    let path = Path::member(site, "value");
-    match required(findings, path, stage.get("value"), Wanted::Value)? {
-        Some(value) => look_at_value(findings, path, value),
-        None => Ok(()),
-    }
-}
-
-/// Looks at the exception of `failed`, which no other operation has.
-fn look_at_failed<'a>(
-    findings: &mut Findings<'a>,
-    site: Site<'a>,
-    stage: &'a Value,
-    name: &'a str,
-) -> Result<(), AllocError> {
-    if name != "failed" {
-        return findings.unread_beside(Path::of(site), stage, "throws", name);
-    }
-    let path = Path::member(site, "throws");
-    match required(findings, path, stage.get("throws"), Wanted::Exception)? {
-        Some(value) => look_at_exception(findings, path, value),
-        None => Ok(()),
-    }
-}
-
-/// Looks at the operation.
-fn look_at_operation<'a>(
-    findings: &mut Findings<'a>,
-    site: Site<'a>,
-    stage: &'a Value,
-) -> Result<(), AllocError> {
-    let path = Path::member(site, "op");
-    let Some(value) = required(findings, path, stage.get("op"), Wanted::Operation)? else {
-        return Ok(());
-    };
-    match value.as_str() {
-        Some(name) if operation_of(name).is_some() => {
-            look_at_completed(findings, site, stage, name)?;
-            look_at_failed(findings, site, stage, name)
+impl TimeForm {
+    /// The members that are times.
+    fn times(self) -> &'static [Member] {
+        match self {
+            TimeForm::One => TIMES_OF_FORM_ONE,
+            TimeForm::Two => TIMES_OF_FORM_TWO,
         }
-        _ => findings.wrong(path, value, Wanted::Operation),
-    }
-}
-
-/// Looks at the times. Form 1 has no `queued` and `runs`, which is told of the recording as a whole.
-fn look_at_times<'a>(
-    findings: &mut Findings<'a>,
-    site: Site<'a>,
-    form: TimeForm,
-    stage: &'a Value,
-) -> Result<(), AllocError> {
-    if form == TimeForm::One {
-        return look_at_ticks_of(findings, site, stage, "takes", false);
-    }
-    if let Some(takes) = stage.get("takes") {
-        let path = Path::member(site, "takes");
-        findings.wrong(path, takes, Wanted::NoTakes)?;
-    }
-    look_at_ticks_of(findings, site, stage, "queued", false)?;
-    look_at_ticks_of(findings, site, stage, "runs", false)
-}
-
-/// Looks at the names of feeds, and at the action.
-fn look_at_feeds<'a>(
-    findings: &mut Findings<'a>,
-    site: Site<'a>,
-    stage: &'a Value,
-) -> Result<(), AllocError> {
-    for member in ["sources", "inner"] {
-        if let Some(names) = stage.get(member) {
-            look_at_names(findings, Path::member(site, member), names)?;
-        }
-    }
-    Ok(())
-}
-
-/// Looks at what stands in place of what a stage computes.
-fn look_at_pins<'a>(
-    findings: &mut Findings<'a>,
-    site: Site<'a>,
-    stage: &'a Value,
-) -> Result<(), AllocError> {
-    if let Some(action) = stage.get("action") {
-        look_at_action(findings, Path::member(site, "action"), action)?;
-    }
-    if let Some(outcome) = stage.get("pinResult") {
-        look_at_outcome(findings, Path::member(site, "pinResult"), outcome)?;
-    }
-    if let Some(moment) = stage.get("pinMoment") {
-        look_at_moment(findings, Path::member(site, "pinMoment"), moment)?;
-    }
-    match stage.get("ends") {
-        Some(ends) => look_at_ends(findings, Path::member(site, "ends"), ends),
-        None => Ok(()),
     }
 }
 
@@ -165,31 +97,30 @@ pub(crate) fn look_at_members<'a>(
     form: TimeForm,
     stage: &'a Value,
 ) -> Result<(), AllocError> {
-    look_at_name(findings, site, stage)?;
-    look_at_operation(findings, site, stage)?;
-    look_at_feeds(findings, site, stage)?;
-    look_at_ticks_of(findings, site, stage, "created", false)?;
-    look_at_times(findings, site, form, stage)?;
-    look_at_pins(findings, site, stage)?;
-    findings.unread(Path::of(site), stage, STAGE_MEMBERS)
+    let path = Path::of(site);
+    look_at_all(findings, path, stage, FIRST_MEMBERS)?;
+    if let Some(name) = name_in(stage, "op", Wanted::Operation) {
+        look_at_members_of(findings, path, stage, name, MEMBERS_OF_OPERATIONS)?;
+    }
+    for members in [MEMBERS_BEFORE_TIMES, form.times(), LAST_MEMBERS] {
+        look_at_all(findings, path, stage, members)?;
+    }
+    findings.unread(path, stage, STAGE_MEMBERS)
 }
 
 /// Which of the times of form 2 a stage has, if one.
 pub(crate) fn time_of_form_two(stage: &Value) -> Option<&'static str> {
-    ["queued", "runs"]
-        .iter()
-        .copied()
-        .find(|member| stage.get(*member).is_some())
+    match (stage.get("queued"), stage.get("runs")) {
+        (Some(_), _) => Some("queued"),
+        (None, Some(_)) => Some("runs"),
+        (None, None) => None,
+    }
 }
 
 /// The warning that stages have times which form 1 does not read.
 pub(crate) fn form_warning<'a>(site: Site<'a>, member: &'static str, more: usize) -> Warning<'a> {
     Warning {
-        site,
-        within: None,
-        index: None,
-        member,
-        why: Unread::OfFormTwo,
         more,
+        ..Warning::at(Path::of(site), member, Unread::OfFormTwo)
     }
 }

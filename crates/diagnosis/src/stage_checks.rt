@@ -1,18 +1,19 @@
 //! The checks that a stage has to pass in its graph.
 use crate::finding::StageFault;
 use crate::findings::Findings;
-use crate::operation::operation_of;
+use crate::operation::{Operation, operation_of};
 use crate::site::Site;
 use crate::stage::TimeForm;
 use json_names::items_of;
 use serde_json::Value;
 use std::alloc::AllocError;
 
-/// The most sources and the most inner stages.
-const MOST_FEEDS: usize = 1024;
-
-/// The most ends.
-const MOST_ENDS: usize = 16;
+/// The members of a stage that are lists, what is told of the length of each, and the most that it may be.
+const LISTS: &[(&str, &str, u64)] = &[
+    ("sources", "the number of sources", 1024),
+    ("inner", "the number of inner stages", 1024),
+    ("ends", "the number of ends", 16),
+];
 
 fn is_name_byte(byte: u8) -> bool {
     byte.is_ascii_alphanumeric() || matches!(byte, b'_' | b'-' | b'.')
@@ -29,94 +30,68 @@ pub(crate) fn is_name(text: &str) -> bool {
 
 /// How large a member is, and 0 where it is not there.
 fn count_of(object: &Value, member: &str) -> u64 {
-    object.get(member).and_then(Value::as_u64).unwrap_or(0)
+    match object.get(member) {
+        Some(count) => count.as_u64().unwrap_or(0),
+        None => 0,
+    }
 }
 
-/// Looks at how many sources, inner stages and actions there are.
-pub(crate) fn look_at_arity<'a>(
-    findings: &mut Findings<'a>,
-    site: Site<'a>,
-    stage: &'a Value,
-    name: &'a str,
-) -> Result<(), AllocError> {
-    let Some(taken) = operation_of(name) else {
-        return Ok(());
-    };
+/// That a text is no name of a stage.
+fn name_fault<'a>(name: Option<&str>) -> Option<StageFault<'a>> {
+    match name {
+        Some(name) if !is_name(name) => Some(StageFault::BadName),
+        _ => None,
+    }
+}
+
+/// That an operation takes other sources, inner stages or actions than a stage has.
+fn arity_fault<'a>(stage: &Value, operation: &'a str, taken: Operation) -> Option<StageFault<'a>> {
     let given = items_of(stage, "sources").len();
     let inner = items_of(stage, "inner").len();
-    let has_action = stage.get("action").is_some();
-    let fault = match taken.sources {
-        Some(wanted) if wanted != given => StageFault::Sources {
-            operation: name,
+    let acts = stage.get("action").is_some();
+    match taken.sources {
+        Some(wanted) if wanted != given => Some(StageFault::Sources {
+            operation,
             wanted,
             given,
-        },
-        _ if inner > 0 && !taken.picks => StageFault::Inner {
-            operation: name,
+        }),
+        _ if inner > 0 && !taken.picks => Some(StageFault::Inner {
+            operation,
             given: inner,
-        },
-        _ if taken.acts && !has_action => StageFault::ActionMissing { operation: name },
-        _ if !taken.acts && has_action => StageFault::ActionGiven { operation: name },
-        _ => return Ok(()),
-    };
-    findings.stage_fault(site, fault)
-}
-
-/// Looks at how many of something there are.
-fn look_at_number<'a>(
-    findings: &mut Findings<'a>,
-    site: Site<'a>,
-    what: &'static str,
-    number: usize,
-    most: usize,
-) -> Result<(), AllocError> {
-    if number <= most {
-        return Ok(());
+        }),
+        _ if taken.acts && !acts => Some(StageFault::ActionMissing { operation }),
+        _ if acts && !taken.acts => Some(StageFault::ActionGiven { operation }),
+        _ => None,
     }
-    let fault = StageFault::Limit {
-        what,
-        number: number as u64,
-        most: most as u64,
-    };
-    findings.stage_fault(site, fault)
 }
 
 /// Looks at how many sources, inner stages and ends there are.
 pub(crate) fn look_at_numbers<'a>(
     findings: &mut Findings<'a>,
     site: Site<'a>,
-    object: &'a Value,
+    object: &Value,
 ) -> Result<(), AllocError> {
-    let sources = items_of(object, "sources").len();
-    look_at_number(findings, site, "the number of sources", sources, MOST_FEEDS)?;
-    let inner = items_of(object, "inner").len();
-    look_at_number(
-        findings,
-        site,
-        "the number of inner stages",
-        inner,
-        MOST_FEEDS,
-    )?;
-    let ends = items_of(object, "ends").len();
-    look_at_number(findings, site, "the number of ends", ends, MOST_ENDS)
-}
-
-/// Looks at whether an end is set before the creation.
-fn look_at_creation<'a>(
-    findings: &mut Findings<'a>,
-    site: Site<'a>,
-    stage: &'a Value,
-) -> Result<(), AllocError> {
-    let created = count_of(stage, "created");
-    for (index, end) in items_of(stage, "ends").iter().enumerate() {
-        if let Some(at) = end.get("at").and_then(Value::as_u64) {
-            if at < created {
-                let fault = StageFault::EndBeforeCreated { index, at, created };
-                return findings.stage_fault(site, fault);
-            }
+    for (member, what, most) in LISTS {
+        let number = items_of(object, member).len() as u64;
+        if number > *most {
+            findings.limit(site, what, number, *most)?;
         }
     }
     Ok(())
+}
+
+/// That an end is set before the creation.
+fn creation_fault<'a>(stage: &Value) -> Option<StageFault<'a>> {
+    let created = count_of(stage, "created");
+    for (index, end) in items_of(stage, "ends").iter().enumerate() {
+        match end.get("at").and_then(Value::as_u64) {
+            Some(at) if at < created => {
+                return Some(StageFault::EndBeforeCreated { index, at, created });
+            }
+            _ => {}
+        }
+    }
+    None
 }
 
 /// Whether the stage takes time.
@@ -127,6 +102,20 @@ fn takes_time(form: TimeForm, stage: &Value) -> bool {
     }
 }
 
+/// That a stage whose operation has no action takes time.
+fn time_fault<'a>(
+    form: TimeForm,
+    stage: &Value,
+    operation: &'a str,
+    taken: Operation,
+) -> Option<StageFault<'a>> {
+    if !taken.acts && takes_time(form, stage) {
+        Some(StageFault::NoAction { operation })
+    } else {
+        None
+    }
+}
+
 /// Looks at the checks of a stage by itself: its name, its numbers, its ends, its times.
 pub(crate) fn look_at_checks<'a>(
     findings: &mut Findings<'a>,
@@ -134,21 +123,17 @@ pub(crate) fn look_at_checks<'a>(
     form: TimeForm,
     stage: &'a Value,
 ) -> Result<(), AllocError> {
-    if let Some(name) = site.name() {
-        if !is_name(name) {
-            findings.stage_fault(site, StageFault::BadName)?;
-        }
-    }
+    findings.stage_fault(site, name_fault(site.name()))?;
     look_at_numbers(findings, site, stage)?;
-    look_at_creation(findings, site, stage)?;
+    findings.stage_fault(site, creation_fault(stage))?;
     let Some(name) = stage.get("op").and_then(Value::as_str) else {
         return Ok(());
     };
-    look_at_arity(findings, site, stage, name)?;
     match operation_of(name) {
-        Some(taken) if !taken.acts && takes_time(form, stage) => {
-            findings.stage_fault(site, StageFault::NoAction { operation: name })
+        Some(taken) => {
+            findings.stage_fault(site, arity_fault(stage, name, taken))?;
+            findings.stage_fault(site, time_fault(form, stage, name, taken))
         }
-        _ => Ok(()),
+        None => Ok(()),
     }
 }

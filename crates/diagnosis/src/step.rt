@@ -1,14 +1,12 @@
 //! What is found in a step of a script.
 use crate::finding::Finding;
 use crate::findings::Findings;
-use crate::members::{
-    look_at_action, look_at_ends, look_at_moment, look_at_names, look_at_outcome, look_at_ticks_of,
-    required,
-};
+use crate::members::{Member, look_at_all, look_at_member, name_in};
 use crate::site::{Path, Site};
 use crate::stage::{TimeForm, look_at_members, time_of_form_two};
 use crate::stage_checks::{look_at_checks, look_at_numbers};
-use crate::wanted::{EDIT_NAMES, REPORTS, STEP_NAMES, Wanted};
+use crate::step_members::{members_of, members_of_edit, members_of_report};
+use crate::wanted::{EDIT_NAMES, Wanted};
 use json_names::{is_among, name_of};
 use serde_json::Value;
 use std::alloc::{AllocError, Global};
@@ -16,97 +14,24 @@ use std::alloc::{AllocError, Global};
 /// The most edits of a list.
 const MOST_EDITS: usize = 64;
 
+/// The reports that name a stage.
+const REPORTS_OF_STAGE: &[&str] = &["one", "blame", "path", "sweep"];
+
 /// The stage that a step or an edit names.
 pub(crate) fn stage_of(object: &Value) -> Option<&str> {
     object.get("stage")?.as_str()
 }
 
-/// The members that a step of a name has.
-pub(crate) fn members_of(name: &str) -> &'static [&'static str] {
-    match name {
-        "open" => &["do", "session", "version"],
-        "head" | "undo" | "close" => &["do", "session"],
-        "edits" => &["do", "session", "base", "edits"],
-        "pinResult" => &["do", "session", "base", "stage", "result"],
-        "pinMoment" => &["do", "session", "base", "stage", "at"],
-        "setTakes" => &["do", "session", "base", "stage", "takes"],
-        "setTimes" => &["do", "session", "base", "stage", "queued", "runs"],
-        "setAction" => &["do", "session", "base", "stage", "action"],
-        "setEnds" => &["do", "session", "base", "stage", "ends"],
-        "add" => &["do", "session", "base", "new"],
-        "remove" => &["do", "session", "base", "stage"],
-        _ => &["do", "session", "base", "stage", "sources", "inner"],
-    }
-}
-
-/// The members that an edit of a list has.
-pub(crate) fn members_of_edit(name: &str) -> &'static [&'static str] {
-    match name {
-        "pinResult" => &["do", "stage", "result"],
-        "pinMoment" => &["do", "stage", "at"],
-        "setTakes" => &["do", "stage", "takes"],
-        "setTimes" => &["do", "stage", "queued", "runs"],
-        "setAction" => &["do", "stage", "action"],
-        "setEnds" => &["do", "stage", "ends"],
-        "add" => &["do", "new"],
-        "remove" => &["do", "stage"],
-        _ => &["do", "stage", "sources", "inner"],
-    }
-}
-
-/// The members that a report of a name has.
-pub(crate) fn members_of_report(name: &str) -> &'static [&'static str] {
-    match name {
-        "one" | "blame" | "path" | "sweep" => &["do", "session", "version", "what", "stage"],
-        "changes" | "drift" => &["do", "session", "version", "what", "against"],
-        _ => &["do", "session", "version", "what"],
-    }
-}
-
-/// Looks at a count below 2^32.
-fn look_at_count<'a>(
-    findings: &mut Findings<'a>,
-    site: Site<'a>,
-    step: &'a Value,
-    member: &'static str,
-    is_needed: bool,
-) -> Result<(), AllocError> {
-    let path = Path::member(site, member);
-    match step.get(member) {
-        None if is_needed => findings.missing(path, Wanted::Count),
-        Some(count) if !count.as_u64().is_some_and(|count| count <= 4_294_967_295) => {
-            findings.wrong(path, count, Wanted::Count)
-        }
-        _ => Ok(()),
-    }
-}
-
-/// Looks at the stage that is named.
-fn look_at_stage_name<'a>(
-    findings: &mut Findings<'a>,
-    site: Site<'a>,
-    step: &'a Value,
-) -> Result<(), AllocError> {
-    let path = Path::member(site, "stage");
-    match required(findings, path, step.get("stage"), Wanted::Text)? {
-        Some(name) if !name.is_string() => findings.wrong(path, name, Wanted::Text),
-        _ => Ok(()),
-    }
-}
-
-/// Looks at the stage that is added.
+/// Looks at what stands in the stage that is added.
 fn look_at_new<'a>(
     findings: &mut Findings<'a>,
     site: Site<'a>,
     step: &'a Value,
 ) -> Result<(), AllocError> {
-    let path = Path::member(site, "new");
-    let Some(new) = required(findings, path, step.get("new"), Wanted::Stage)? else {
-        return Ok(());
+    let new = match step.get("new") {
+        Some(new) if new.is_object() => new,
+        _ => return Ok(()),
     };
-    if !new.is_object() {
-        return findings.wrong(path, new, Wanted::Stage);
-    }
     let name = name_of(new);
     let inside = match site {
         Site::Edit { index, .. } => Site::NewOfEdit { index, name },
@@ -120,55 +45,17 @@ fn look_at_new<'a>(
     look_at_checks(findings, inside, form, new)
 }
 
-/// Looks at a member that an edit sets, by the name of the edit.
-fn look_at_set<'a>(
-    findings: &mut Findings<'a>,
-    site: Site<'a>,
-    step: &'a Value,
-    member: &'static str,
-    wanted: Wanted,
-) -> Result<(), AllocError> {
-    let path = Path::member(site, member);
-    let Some(value) = required(findings, path, step.get(member), wanted)? else {
-        return Ok(());
-    };
-    match wanted {
-        Wanted::OutcomeOrNull => look_at_outcome(findings, path, value),
-        Wanted::TicksOrNull => look_at_moment(findings, path, value),
-        Wanted::Action => look_at_action(findings, path, value),
-        Wanted::Ends => look_at_ends(findings, path, value),
-        _ => look_at_names(findings, path, value),
-    }
-}
-
-/// Looks at the members of an edit.
+/// Looks at an edit, but for its members by themselves.
 fn look_at_edit<'a>(
     findings: &mut Findings<'a>,
     site: Site<'a>,
-    step: &'a Value,
+    edit: &'a Value,
     name: &str,
 ) -> Result<(), AllocError> {
-    if name == "add" {
-        return look_at_new(findings, site, step);
-    }
-    look_at_stage_name(findings, site, step)?;
     match name {
-        "pinResult" => look_at_set(findings, site, step, "result", Wanted::OutcomeOrNull)?,
-        "pinMoment" => look_at_set(findings, site, step, "at", Wanted::TicksOrNull)?,
-        "setTakes" => look_at_ticks_of(findings, site, step, "takes", true)?,
-        "setTimes" => {
-            look_at_ticks_of(findings, site, step, "queued", true)?;
-            look_at_ticks_of(findings, site, step, "runs", true)?;
-        }
-        "setAction" => look_at_set(findings, site, step, "action", Wanted::Action)?,
-        "setEnds" => look_at_set(findings, site, step, "ends", Wanted::Ends)?,
-        "rewire" => {
-            look_at_set(findings, site, step, "sources", Wanted::Names)?;
-            look_at_set(findings, site, step, "inner", Wanted::Names)?;
-        }
-        _ => {}
+        "add" => look_at_new(findings, site, edit),
+        _ => look_at_numbers(findings, site, edit),
     }
-    look_at_numbers(findings, site, step)
 }
 
 /// Looks at an edit of a list.
@@ -177,120 +64,109 @@ fn look_at_listed<'a>(
     index: usize,
     edit: &'a Value,
 ) -> Result<(), AllocError> {
-    let site = Site::Edit {
-        index,
-        stage: stage_of(edit),
-    };
+    let stage = stage_of(edit);
+    let site = Site::Edit { index, stage };
+    let path = Path::of(site);
     if !edit.is_object() {
-        return findings.wrong(Path::of(site), edit, Wanted::Edit);
+        return findings.wrong(path, edit, Wanted::Edit);
     }
-    let path = Path::member(site, "do");
-    let Some(value) = required(findings, path, edit.get("do"), Wanted::EditName)? else {
-        return Ok(());
-    };
-    match value.as_str() {
-        Some(name) if is_among(name, EDIT_NAMES) => {
+    look_at_member(findings, path, edit, Member::Needed("do", Wanted::EditName))?;
+    match name_in(edit, "do", Wanted::EditName) {
+        Some(name) => {
+            let members = members_of_edit(name);
+            look_at_all(findings, path, edit, members)?;
             look_at_edit(findings, site, edit, name)?;
-            findings.unread(Path::of(site), edit, members_of_edit(name))
+            findings.unread_beside_do(path, edit, members)
         }
-        _ => findings.wrong(path, value, Wanted::EditName),
+        None => Ok(()),
     }
 }
 
-/// Looks at a list of edits.
-fn look_at_edits<'a>(
-    findings: &mut Findings<'a>,
-    site: Site<'a>,
-    step: &'a Value,
-) -> Result<(), AllocError> {
-    let path = Path::member(site, "edits");
-    let Some(value) = required(findings, path, step.get("edits"), Wanted::Edits)? else {
+/// Looks at what stands in a list of edits.
+fn look_at_edits<'a>(findings: &mut Findings<'a>, step: &'a Value) -> Result<(), AllocError> {
+    let Some(Value::Array(edits)) = step.get("edits") else {
         return Ok(());
-    };
-    let Some(edits) = value.as_array() else {
-        return findings.wrong(path, value, Wanted::Edits);
     };
     for (index, edit) in edits.as_slice().iter().enumerate() {
         look_at_listed(findings, index, edit)?;
     }
-    let given = edits.len();
-    if given == 0 || given > MOST_EDITS {
-        findings.fault(Finding::ListSize { given })?;
+    match edits.len() {
+        1..=MOST_EDITS => Ok(()),
+        given => findings.fault(Finding::ListSize { given }),
     }
-    Ok(())
+}
+
+/// What says of which session or version a report is; it is of one of them.
+fn subject_of_report(step: &Value) -> Member {
+    match (step.get("session"), step.get("version")) {
+        (Some(_), Some(_)) => Member::Needed("session", Wanted::SessionAlone),
+        (Some(_), None) => Member::Needed("session", Wanted::Count),
+        (None, _) => Member::Needed("version", Wanted::Count),
+    }
 }
 
 /// Looks at a report.
 fn look_at_report<'a>(
     findings: &mut Findings<'a>,
-    site: Site<'a>,
+    path: Path<'a>,
     step: &'a Value,
 ) -> Result<(), AllocError> {
-    match step.get("session") {
-        Some(session) if step.get("version").is_some() => {
-            findings.wrong(Path::member(site, "session"), session, Wanted::SessionAlone)?;
-        }
-        Some(_) => look_at_count(findings, site, step, "session", true)?,
-        None => look_at_count(findings, site, step, "version", true)?,
-    }
-    let path = Path::member(site, "what");
-    let Some(value) = required(findings, path, step.get("what"), Wanted::Report)? else {
+    let first = [
+        subject_of_report(step),
+        Member::Needed("what", Wanted::Report),
+    ];
+    look_at_all(findings, path, step, &first)?;
+    let Some(name) = name_in(step, "what", Wanted::Report) else {
         return Ok(());
     };
-    let name = match value.as_str() {
-        Some(name) if is_among(name, REPORTS) => name,
-        _ => return findings.wrong(path, value, Wanted::Report),
-    };
-    if is_among(name, &["one", "blame", "path", "sweep"]) {
-        look_at_stage_name(findings, site, step)?;
+    if is_among(name, REPORTS_OF_STAGE) {
+        look_at_member(findings, path, step, Member::Needed("stage", Wanted::Text))?;
     }
-    look_at_count(findings, site, step, "against", false)?;
-    findings.unread(Path::of(site), step, members_of_report(name))
+    look_at_member(
+        findings,
+        path,
+        step,
+        Member::Optional("against", Wanted::Count),
+    )?;
+    findings.unread_beside_do(path, step, members_of_report(name))
 }
 
-/// Looks at the members of a step of a name.
-fn look_at_step<'a>(
+/// Looks at the members of a step of a name, which is no report.
+fn look_at_change<'a>(
     findings: &mut Findings<'a>,
     site: Site<'a>,
     step: &'a Value,
     name: &str,
 ) -> Result<(), AllocError> {
-    if name == "report" {
-        return look_at_report(findings, site, step);
+    let (path, members) = (Path::of(site), members_of(name));
+    look_at_all(findings, path, step, members)?;
+    if name == "edits" {
+        look_at_edits(findings, step)?;
+    } else if is_among(name, EDIT_NAMES) {
+        look_at_edit(findings, site, step, name)?;
     }
-    look_at_count(findings, site, step, "session", true)?;
-    match name {
-        "open" => look_at_count(findings, site, step, "version", true)?,
-        "head" | "undo" | "close" => {}
-        _ => look_at_count(findings, site, step, "base", false)?,
+    findings.unread_beside_do(path, step, members)
+}
+
+/// Looks at a step.
+fn look_at_step<'a>(findings: &mut Findings<'a>, step: &'a Value) -> Result<(), AllocError> {
+    let stage = stage_of(step);
+    let site = Site::Step { stage };
+    let path = Path::of(site);
+    if !step.is_object() {
+        return findings.wrong(path, step, Wanted::Step);
     }
-    match name {
-        "edits" => look_at_edits(findings, site, step)?,
-        _ if is_among(name, EDIT_NAMES) => look_at_edit(findings, site, step, name)?,
-        _ => {}
+    look_at_member(findings, path, step, Member::Needed("do", Wanted::StepName))?;
+    match name_in(step, "do", Wanted::StepName) {
+        Some("report") => look_at_report(findings, path, step),
+        Some(name) => look_at_change(findings, site, step, name),
+        None => Ok(()),
     }
-    findings.unread(Path::of(site), step, members_of(name))
 }
 
 /// Every fault of a step that its line alone shows, and every member that nothing reads.
 pub fn examine_step<'a>(alloc: Global, step: &'a Value) -> Result<Findings<'a>, AllocError> {
     let mut findings = Findings::new(alloc);
-    let site = Site::Step {
-        stage: stage_of(step),
-    };
-    if !step.is_object() {
-        findings.wrong(Path::of(Site::Step { stage: None }), step, Wanted::Step)?;
-        return Ok(findings);
-    }
-    let path = Path::member(site, "do");
-    let Some(value) = required(&mut findings, path, step.get("do"), Wanted::StepName)? else {
-        return Ok(findings);
-    };
-    match value.as_str() {
-        Some(name) if is_among(name, STEP_NAMES) => {
-            look_at_step(&mut findings, site, step, name)?;
-        }
-        _ => findings.wrong(path, value, Wanted::StepName)?,
-    }
+    look_at_step(&mut findings, step)?;
     Ok(findings)
 }

@@ -1,8 +1,8 @@
 //! A glance at a step: whether any of its members could be one that nothing reads.
-use crate::members::OUTCOME_MEMBERS;
+use crate::members::{Member, PARTS_OF_OUTCOME};
 use crate::passing::{Passing, all_pass};
-use crate::step::{members_of, members_of_edit, members_of_report};
-use crate::wanted::{EDIT_NAMES, REPORTS, STEP_NAMES};
+use crate::step_members::{members_of, members_of_edit, members_of_report};
+use crate::wanted::{EDIT_NAMES, REPORTS, STEP_NAMES, Wanted};
 use json_names::is_among;
 
 /// The depth of the members of a step, of an outcome in it, of an edit of its list, and of an outcome in that.
@@ -15,10 +15,10 @@ const OF_EDIT: usize = 3;
 const OF_OUTCOME_OF_EDIT: usize = 4;
 
 /// The member that says what a step or an edit does, which comes before the others.
-const FIRST: &[&str] = &["do"];
+const FIRST: &[Member] = &[Member::Needed("do", Wanted::StepName)];
 
 /// What the next text decides.
-#[derive(Clone, Copy, PartialEq, Eq)]
+#[derive(Clone, Copy)]
 enum Awaited {
     Nothing,
     /// What the step does.
@@ -38,50 +38,47 @@ struct StepGlance<'a> {
     text: &'a [u8],
     awaited: Awaited,
     /// The members that the step is known to have further, by what stands before.
-    members: &'static [&'static str],
+    members: &'static [Member],
     /// The member with which each edit of the step's list begins, if the step has one.
-    first_of_edit: &'static [&'static str],
+    first_of_edit: &'static [Member],
     /// The members that the edit is known to have further, by what stands before.
-    edit_members: &'static [&'static str],
+    edit_members: &'static [Member],
 }
 
-/// Whether a text is one of the names.
-fn is_one_of(text: &[u8], names: &[&str]) -> bool {
-    str::from_utf8(text).is_ok_and(|text| is_among(text, names))
+/// Whether a text is the name of one of the members.
+fn is_one_of(text: &[u8], members: &[Member]) -> bool {
+    members
+        .iter()
+        .any(|member| member.name().as_bytes() == text)
 }
 
-/// The members without the first one, which says what is done.
-fn further(members: &'static [&'static str]) -> &'static [&'static str] {
-    match members {
-        [_, others @ ..] => others,
-        [] => &[],
-    }
+/// Whether a step or an edit of a name has members of a stage or of ends in its members.
+fn has_inner_members(name: &str) -> bool {
+    is_among(name, &["add", "setEnds"])
 }
 
-/// The further members of a step of a name, as far as they are known without what it reports; none of a step with members of a
-/// stage or of ends in its members.
-fn members_by_name(name: &[u8]) -> &'static [&'static str] {
+/// The members that a step of a name has further, as far as they are known without what it reports and none is of a stage or of
+/// ends.
+fn members_by_name(name: &[u8]) -> &'static [Member] {
     match str::from_utf8(name) {
-        Ok("report") => &["session", "version", "what"],
-        Ok("add") | Ok("setEnds") | Err(_) => &[],
-        Ok(name) if is_among(name, STEP_NAMES) => further(members_of(name)),
-        Ok(_) => &[],
+        Ok("report") => members_of_report("all"),
+        Ok(name) if is_among(name, STEP_NAMES) && !has_inner_members(name) => members_of(name),
+        _ => &[],
     }
 }
 
 /// The further members of an edit of a name, as above.
-fn members_by_edit_name(name: &[u8]) -> &'static [&'static str] {
+fn members_by_edit_name(name: &[u8]) -> &'static [Member] {
     match str::from_utf8(name) {
-        Ok("add") | Ok("setEnds") | Err(_) => &[],
-        Ok(name) if is_among(name, EDIT_NAMES) => further(members_of_edit(name)),
-        Ok(_) => &[],
+        Ok(name) if is_among(name, EDIT_NAMES) && !has_inner_members(name) => members_of_edit(name),
+        _ => &[],
     }
 }
 
 /// The further members of a step that reports this.
-fn members_by_report(what: &[u8]) -> &'static [&'static str] {
+fn members_by_report(what: &[u8]) -> &'static [Member] {
     match str::from_utf8(what) {
-        Ok(what) if is_among(what, REPORTS) => further(members_of_report(what)),
+        Ok(what) if is_among(what, REPORTS) => members_of_report(what),
         _ => &[],
     }
 }
@@ -135,7 +132,7 @@ impl<'a> Passing<'a> for StepGlance<'a> {
         match self.depth {
             OF_STEP => is_one_of(self.text, self.members),
             OF_EDIT => is_one_of(self.text, self.edit_members),
-            OF_OUTCOME | OF_OUTCOME_OF_EDIT => is_one_of(self.text, OUTCOME_MEMBERS),
+            OF_OUTCOME | OF_OUTCOME_OF_EDIT => is_one_of(self.text, PARTS_OF_OUTCOME),
             _ => false,
         }
     }

@@ -4,7 +4,7 @@ use std::alloc::{AllocError, Global};
 use std::fmt;
 
 /// What JSON could have gone on with.
-#[derive(Clone, Copy, Debug, PartialEq, Eq)]
+#[derive(Clone, Copy)]
 pub enum Expected {
     Value,
     ValueOrBracket,
@@ -28,7 +28,7 @@ pub enum Expected {
 }
 
 /// Where bytes stop being JSON, and what was expected there.
-#[derive(Clone, Copy, Debug, PartialEq, Eq)]
+#[derive(Clone, Copy)]
 pub struct JsonFault {
     /// The line, from 1.
     pub line: usize,

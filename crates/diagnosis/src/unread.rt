@@ -1,6 +1,6 @@
 //! Members that nothing reads.
 use crate::quoted::Quoted;
-use crate::site::Site;
+use crate::site::{Path, Site};
 use std::fmt;
 
 /// Why nothing reads a member.
@@ -28,6 +28,20 @@ pub struct Warning<'a> {
     pub more: usize,
 }
 
+impl<'a> Warning<'a> {
+    /// The warning of one member of what stands at a path.
+    pub(crate) fn at(path: Path<'a>, member: &'a str, why: Unread<'a>) -> Warning<'a> {
+        Warning {
+            site: path.site,
+            within: path.member,
+            index: path.index,
+            member,
+            why,
+            more: 0,
+        }
+    }
+}
+
 impl fmt::Display for Unread<'_> {
     fn fmt<W: fmt::Write>(&self, f: &mut fmt::Formatter<W>) -> fmt::Result {
         match *self {
@@ -47,17 +61,10 @@ impl fmt::Display for Unread<'_> {
     }
 }
 
-impl fmt::Display for Warning<'_> {
-    fn fmt<W: fmt::Write>(&self, f: &mut fmt::Formatter<W>) -> fmt::Result {
-        let Warning {
-            site,
-            within,
-            index,
-            member,
-            why,
-            more,
-        } = *self;
-        f.write_str("warning: ")?;
+impl Warning<'_> {
+    /// Writes which stages have the member, or what else has it.
+    fn write_sites<W: fmt::Write>(&self, f: &mut fmt::Formatter<W>) -> fmt::Result {
+        let site = self.site;
         match site.name() {
             Some(name) => {
                 let name = Quoted(name);
@@ -65,16 +72,30 @@ impl fmt::Display for Warning<'_> {
             }
             None => write!(f, "{site}")?,
         }
-        if more > 0 {
-            write!(f, " and {more} more")?;
+        match self.more {
+            0 => Ok(()),
+            more => write!(f, " and {more} more"),
         }
-        if let Some(within) = within {
+    }
+
+    /// Writes the member and the element that it stands in.
+    fn write_within<W: fmt::Write>(&self, f: &mut fmt::Formatter<W>) -> fmt::Result {
+        if let Some(within) = self.within {
             write!(f, ", {within}")?;
         }
-        if let Some(index) = index {
-            write!(f, "[{index}]")?;
+        match self.index {
+            Some(index) => write!(f, "[{index}]"),
+            None => Ok(()),
         }
-        let member = Quoted(member);
+    }
+}
+
+impl fmt::Display for Warning<'_> {
+    fn fmt<W: fmt::Write>(&self, f: &mut fmt::Formatter<W>) -> fmt::Result {
+        f.write_str("warning: ")?;
+        self.write_sites(f)?;
+        self.write_within(f)?;
+        let (member, why) = (Quoted(self.member), self.why);
         write!(f, ": nothing reads {member}{why}")
     }
 }

@@ -1,9 +1,11 @@
 //! What a member may be.
-use crate::operation::OPERATIONS;
+use crate::operation::{OPERATIONS, operation_of};
+use json_names::is_among;
+use serde_json::Value;
 use std::fmt;
 
 /// What a member may be.
-#[derive(Clone, Copy, Debug, PartialEq, Eq)]
+#[derive(Clone, Copy)]
 pub enum Wanted {
     Recording,
     Form,
@@ -19,7 +21,6 @@ pub enum Wanted {
     Ticks,
     /// A count below 2^32.
     Count,
-    Outcome,
     OutcomeOrNull,
     TicksOrNull,
     Ends,
@@ -113,7 +114,68 @@ pub(crate) const WORDS: &[&str] = &[
     "throw",
 ];
 
+fn is_exception_byte(byte: u8) -> bool {
+    byte.is_ascii_alphanumeric() || matches!(byte, b'.' | b'_' | b'$')
+}
+
+/// Whether it is the name of an exception that a stage may hold.
+fn is_exception(value: &Value) -> bool {
+    match value.as_str() {
+        Some("java.util.concurrent.CompletionException") | None => false,
+        Some(text) => {
+            let bytes = text.as_bytes();
+            !bytes.is_empty()
+                && bytes.len() <= 128
+                && bytes.iter().all(|byte| is_exception_byte(*byte))
+        }
+    }
+}
+
+/// Whether a value has exactly one of the members of an outcome.
+fn is_outcome(value: &Value) -> bool {
+    matches!(
+        (value.get("value"), value.get("bare"), value.get("wrapped")),
+        (Some(_), None, None) | (None, Some(_), None) | (None, None, Some(_))
+    )
+}
+
 impl Wanted {
+    /// Whether a value is what is wanted, but for what stands in it.
+    pub(crate) fn is_met_by(self, value: &Value) -> bool {
+        match self {
+            Wanted::Recording | Wanted::Stage | Wanted::End | Wanted::Step | Wanted::Edit => {
+                value.is_object()
+            }
+            Wanted::Stages | Wanted::Names | Wanted::Ends | Wanted::Edits => value.is_array(),
+            Wanted::Form => matches!(value.as_i64(), Some(1 | 2)),
+            Wanted::Text => value.is_string(),
+            Wanted::Value => value.is_null() || value.is_i64(),
+            Wanted::Exception => is_exception(value),
+            Wanted::Ticks => value.is_u64(),
+            Wanted::TicksOrNull => value.is_null() || value.is_u64(),
+            Wanted::Count => matches!(value.as_u64(), Some(0..=4_294_967_295)),
+            Wanted::OutcomeOrNull => value.is_null() || is_outcome(value),
+            Wanted::NoTakes | Wanted::SessionAlone => false,
+            Wanted::Action | Wanted::Position | Wanted::Operands => true,
+            Wanted::Operation
+            | Wanted::Wrap
+            | Wanted::Kind
+            | Wanted::StepName
+            | Wanted::EditName
+            | Wanted::Report => self.has_name(value),
+        }
+    }
+
+    /// Whether a value is one of the names that it may be.
+    fn has_name(self, value: &Value) -> bool {
+        match (self, value.as_str()) {
+            // (of operations more have a name than are told)
+            (Wanted::Operation, Some(name)) => operation_of(name).is_some(),
+            (_, Some(name)) => is_among(name, self.names()),
+            (_, None) => false,
+        }
+    }
+
     /// The names that it may be, where there are few.
     pub(crate) fn names(self) -> &'static [&'static str] {
         match self {
@@ -144,8 +206,6 @@ impl Wanted {
             Wanted::Names => "it is an array of names of stages",
             Wanted::Ticks => "it is whole ticks, from 0",
             Wanted::Count => "it is a whole number from 0 to 4294967295",
-            Wanted::Outcome =>
-                "it is an object with exactly one of \"value\", \"bare\" and \"wrapped\"",
             Wanted::OutcomeOrNull =>
                 "it is null, or an object with exactly one of \"value\", \"bare\" and \"wrapped\"",
             Wanted::TicksOrNull => "it is null, or whole ticks, from 0",

@@ -14,37 +14,70 @@
 
 mod graphs;
 mod reports;
+mod runners;
 mod scene;
 
 use anyhow::{Result, bail};
-use level_pool::{NoGate, OneThread, Pooled, Scoped};
+use runners::AnyRunner;
 use scene::told;
 use stage_graph::{InFlat, InShared};
 use std::alloc::Global;
 use std::io::Read;
 use std::thread::Threads;
 
-/// Two ways tell the same.
-fn alike(found: &String, wanted: &String, way: &str) -> Result<()> {
-    if found.as_str() != wanted.as_str() {
+/// What is told in the representation of the program.
+fn told_shared<H: Threads + Sync>(
+    alloc: Global,
+    runner: &AnyRunner<'_, H>,
+    table: &str,
+) -> Result<String> {
+    told::<InShared, AnyRunner<'_, H>>(alloc, runner, table)
+}
+
+/// What is told in the representation whose lists are vectors.
+fn told_flat<H: Threads + Sync>(
+    alloc: Global,
+    runner: &AnyRunner<'_, H>,
+    table: &str,
+) -> Result<String> {
+    told::<InFlat, AnyRunner<'_, H>>(alloc, runner, table)
+}
+
+/// A way tells what is wanted.
+fn alike(found: Result<String>, wanted: &str, way: &str) -> Result<()> {
+    if found?.as_str() != wanted {
         bail!("{way} tells something else");
     }
     Ok(())
 }
 
+/// Each runner tells what is wanted in each representation.
+fn all_alike<H: Threads + Sync>(rt: &H, alloc: Global, table: &str, wanted: &str) -> Result<()> {
+    let flat = |runner: &AnyRunner<'_, H>| told_flat(alloc, runner, table);
+    let shared = |runner: &AnyRunner<'_, H>| told_shared(alloc, runner, table);
+    alike(
+        flat(&AnyRunner::in_one_thread(rt)),
+        wanted,
+        "the flat representation",
+    )?;
+    alike(shared(&AnyRunner::by_one_worker(rt)), wanted, "one worker")?;
+    alike(
+        shared(&AnyRunner::by_two_workers(rt)),
+        wanted,
+        "two workers",
+    )?;
+    alike(
+        flat(&AnyRunner::by_sixteen_workers(rt)),
+        wanted,
+        "sixteen workers",
+    )?;
+    alike(shared(&AnyRunner::in_the_pool(rt)), wanted, "the pool")
+}
+
 /// What is told, which is the same in each representation and by each runner.
 fn told_in_each<H: Threads + Sync>(rt: &H, alloc: Global, table: &str) -> Result<String> {
-    let wanted = told::<InShared, _>(alloc, &OneThread::new(rt), table)?;
-    let flat = told::<InFlat, _>(alloc, &OneThread::new(rt), table)?;
-    alike(&flat, &wanted, "the flat representation")?;
-    let one = told::<InShared, _>(alloc, &Scoped::new(rt, 1, NoGate), table)?;
-    alike(&one, &wanted, "one worker")?;
-    let two = told::<InShared, _>(alloc, &Scoped::new(rt, 2, NoGate), table)?;
-    alike(&two, &wanted, "two workers")?;
-    let many = told::<InFlat, _>(alloc, &Scoped::new(rt, 16, NoGate), table)?;
-    alike(&many, &wanted, "sixteen workers")?;
-    let pooled = told::<InShared, _>(alloc, &Pooled::new(rt), table)?;
-    alike(&pooled, &wanted, "the pool")?;
+    let wanted = told_shared(alloc, &AnyRunner::in_one_thread(rt), table)?;
+    all_alike(rt, alloc, table, wanted.as_str())?;
     Ok(wanted)
 }
 

@@ -8,6 +8,7 @@ use share_tree::{Again, Held};
 use stage_graph::{Edits, Fault};
 use stage_ops::Meter;
 use std::alloc::Global;
+use std::fmt::Write;
 use test_kit::edits_of;
 use version_store::{Draft, StateRepresentation, Version};
 
@@ -35,7 +36,7 @@ fn opened<R: StateRepresentation>(
             Ok(Some(Scene { first, last }))
         }
         Err(fault) => {
-            text.push_str(format!(in alloc; "{fault}\n")?.as_str())?;
+            write!(text, "{fault}\n")?;
             Ok(None)
         }
     }
@@ -56,28 +57,26 @@ fn drafted<R: StateRepresentation, W: Runner>(
 
 /// Tells the version that was made.
 fn push_version<R: StateRepresentation>(
-    alloc: Global,
     version: &Version<R>,
     computed: u64,
     text: &mut String,
 ) -> Result<()> {
-    push_graph(alloc, version.graph(), text)?;
-    push_order(alloc, version, text)?;
+    push_graph(version.graph(), text)?;
+    push_order(version, text)?;
     let touched = version.touched();
-    text.push_str(format!(in alloc; "touched {touched:?}, computed {computed}\n")?.as_str())?;
+    write!(text, "touched {touched:?}, computed {computed}\n")?;
     Ok(())
 }
 
 /// Tells what a draft makes of the last version, which it is from then on; a refused one changes nothing.
 fn settle<R: StateRepresentation>(
-    alloc: Global,
     scene: &mut Scene<R>,
     draft: &Draft<R>,
     computed: u64,
     text: &mut String,
 ) -> Result<()> {
     scene.last = draft.numbered(scene.last.number().wrapping_add(1))?;
-    push_version(alloc, &scene.last, computed, text)
+    push_version(&scene.last, computed, text)
 }
 
 /// Edits the last version, and tells what came of it.
@@ -90,8 +89,8 @@ fn edit<R: StateRepresentation, W: Runner>(
 ) -> Result<()> {
     let (draft, computed) = drafted(alloc, runner, scene, edits)?;
     match draft {
-        Ok(draft) => settle(alloc, scene, &draft, computed, text),
-        Err(fault) => push_fault(alloc, &fault, text),
+        Ok(draft) => settle(scene, &draft, computed, text),
+        Err(fault) => push_fault(&fault, text),
     }
 }
 
@@ -106,7 +105,7 @@ fn step<R: StateRepresentation, W: Runner>(
     match edits_of(alloc, step) {
         Ok(edits) => edit(alloc, runner, scene, edits, text),
         Err(fault) => {
-            text.push_str(format!(in alloc; "{fault}\n")?.as_str())?;
+            write!(text, "{fault}\n")?;
             Ok(())
         }
     }
@@ -147,6 +146,21 @@ fn answer_line<R: StateRepresentation, W: Runner>(
     Ok(())
 }
 
+/// Tells the lines of a table, each with its answer.
+fn tell_lines<R: StateRepresentation, W: Runner>(
+    alloc: Global,
+    runner: &W,
+    table: &str,
+    scene: &mut Option<Scene<R>>,
+    text: &mut String,
+) -> Result<()> {
+    for line in table.lines() {
+        write!(text, "{line}\n")?;
+        answer_line(alloc, runner, scene, line, text)?;
+    }
+    Ok(())
+}
+
 /// What is told of a table of examples.
 pub(crate) fn told<R: StateRepresentation, W: Runner>(
     alloc: Global,
@@ -155,10 +169,8 @@ pub(crate) fn told<R: StateRepresentation, W: Runner>(
 ) -> Result<String> {
     let mut text = String::new(alloc);
     let mut scene: Option<Scene<R>> = None;
-    for line in table.lines() {
-        text.push_str(line)?;
-        text.push_str("\n")?;
-        answer_line(alloc, runner, &mut scene, line, &mut text)?;
-    }
+    let is_told = tell_lines(alloc, runner, table, &mut scene, &mut text);
+    drop(scene);
+    is_told?;
     Ok(text)
 }

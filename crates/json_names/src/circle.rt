@@ -1,5 +1,8 @@
 //! Stages that wait for each other.
-ghost use Rattle.std.specs.Prelude.{◌≡◌, IfOk, IfSome, length, vec_len};
+ghost use Rattle.std.specs.Prelude.{◌≡◌, IfOk, map, option_map, slice_get, take};
+ghost use Rattle.std.specs.List.{list_any};
+ghost use Rattle.serde_json.specs.View.{view};
+ghost use Rattle.json_names.specs.Circles.{circle_names, is_awaited, is_text, waits_for};
 
 use crate::members::{items_of, name_of};
 use serde_json::Value;
@@ -15,10 +18,42 @@ pub struct Circle<'a> {
     pub names: Vec<&'a str>,
 }
 
+/// Whether a value is this text.
+fn is_text(value: &Value, text: &str) -> bool
+    ensures { result ≡ is_text text.now (view value.now) }
+{
+    value.as_str() == Some(text)
+}
+
+/// Whether one of the items is this text.
+fn has_text(items: &[Value], text: &str) -> bool
+    ensures { result ≡ list_any (λ item. is_text text.now (view item)) items.now }
+{
+    items.iter().any(|item| is_text(item, text))
+}
+
 /// Whether a stage names another one as its source or as an inner stage.
-fn waits_for(stage: &Value, name: &str) -> bool {
-    let names_it = |item: &Value| item.as_str() == Some(name);
-    items_of(stage, "sources").iter().any(names_it) || items_of(stage, "inner").iter().any(names_it)
+fn waits_for(stage: &Value, name: &str) -> bool
+    ensures { result ≡ waits_for (view stage.now) name.now }
+{
+    has_text(items_of(stage, "sources"), name) || has_text(items_of(stage, "inner"), name)
+}
+
+/// Whether the stage before, if there is one, waits for the one of this name.
+fn is_awaited(before: Option<&Value>, name: &str) -> bool
+    ensures { result ≡ is_awaited (option_map (λ stage. view stage.now) before.entry) name.now }
+{
+    match before {
+        Some(stage) => waits_for(stage, name),
+        None => true,
+    }
+}
+
+/// The stage at a place.
+fn stage_at(stages: &[Value], place: u32) -> Option<&Value>
+    ensures { option_map (λ stage. view stage.now) result ≡ slice_get (map view stages.now) place }
+{
+    stages.get(place as usize)
 }
 
 /// The stages of these places, if each of them waits for the next one.
@@ -27,19 +62,19 @@ pub fn circle_of<'a>(
     recording: &'a Value,
     places: &[u32],
 ) -> Result<Option<Circle<'a>>, AllocError>
-    ensures { IfOk result (λ found. IfSome found (λ circle. vec_len circle.names ≡ length places.now)) }
+    ensures { IfOk result (λ found. option_map (λ circle. map (λ name. name.now) circle.names.items) found ≡ circle_names (view recording.now) places.now) }
 {
     let stages = items_of(recording, "stages");
     let mut names = Vec::new(alloc);
     let mut before: Option<&Value> = None;
     for place in places {
-        let Some(stage) = stages.get(*place as usize) else {
+        let Some(stage) = stage_at(stages, *place) else {
             return Ok(None);
         };
         let Some(name) = name_of(stage) else {
             return Ok(None);
         };
-        if before.is_some_and(|before| !waits_for(before, name)) {
+        if !is_awaited(before, name) {
             return Ok(None);
         }
         names.push(name)?;
@@ -48,18 +83,51 @@ pub fn circle_of<'a>(
     Ok(Some(Circle { names }))
 }
 
-impl fmt::Display for Circle<'_> {
+/// Names, with a comma between each two.
+#[derive(Clone, Copy)]
+struct Listed<'a>(&'a [&'a str]);
+
+impl fmt::Display for Listed<'_> {
+    ghost use Rattle.std.specs.Prelude.{Some, map};
+    ghost use Rattle.json_names.specs.Circles.{listed};
+
+    ghost output = { λ names. Some (listed (map (λ name. name.now) names.0.now)) };
+
     fn fmt<W: fmt::Write>(&self, f: &mut fmt::Formatter<W>) -> fmt::Result {
-        f.write_str("these stages wait for each other: ")?;
-        let mut between = "";
-        let names = self.names.as_slice();
-        let told = names.get(..MOST_TOLD).unwrap_or(names);
-        for name in told {
-            f.write_str(between)?;
+        let Some((first, rest)) = self.0.split_first() else {
+            return Ok(());
+        };
+        f.write_str(first)?;
+        for name in rest {
+            f.write_str(", ")?;
             f.write_str(name)?;
-            between = ", ";
         }
-        let all = self.names.len();
+        Ok(())
+    }
+}
+
+/// The first names, which are told.
+fn told<'a, 'b>(names: &'a [&'b str]) -> &'a [&'b str]
+    ensures { result.now ≡ take MOST_TOLD names.now }
+{
+    if names.len() > MOST_TOLD {
+        &names[..MOST_TOLD]
+    } else {
+        names
+    }
+}
+
+impl fmt::Display for Circle<'_> {
+    ghost use Rattle.std.specs.Prelude.{Some, map};
+    ghost use Rattle.json_names.specs.Circles.{circle_text};
+
+    ghost output = { λ circle. Some (circle_text (map (λ name. name.now) circle.names.items)) };
+
+    fn fmt<W: fmt::Write>(&self, f: &mut fmt::Formatter<W>) -> fmt::Result {
+        let names = self.names.as_slice();
+        let told = Listed(told(names));
+        write!(f, "these stages wait for each other: {told}")?;
+        let all = names.len();
         if all > MOST_TOLD {
             write!(f, ", and so on: {all} in all")?;
         }

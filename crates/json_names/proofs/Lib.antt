@@ -1,0 +1,4 @@
+pub mod Along
+pub mod CircleTexts
+pub mod Items
+pub mod Unread
