@@ -13,7 +13,8 @@ use anyhow::{Result, bail};
 use desk::{Client, Desk, Known, Naming};
 use level_pool::Runner;
 use session_core::Event;
-use share_tree::Again;
+use share_tree::{Again, Held};
+use stage_graph::Edits;
 use std::alloc::Global;
 use std::sync::Wait;
 use version_store::{StateRepresentation, Version};
@@ -68,7 +69,9 @@ fn made_of<R: StateRepresentation, W: Runner>(
     number: u32,
 ) -> Result<Version<R>> {
     let draft = drafted(alloc, runner, version, step)?;
-    Ok(draft.numbered(number)?)
+    let made = draft.numbered(number);
+    drop(draft);
+    Ok(made?)
 }
 
 impl<N: Naming, R: StateRepresentation, X: Wait + Drop, H: Wait, W: Runner> Seats<
@@ -93,42 +96,59 @@ impl<N: Naming, R: StateRepresentation, X: Wait + Drop, H: Wait, W: Runner> Seat
         Some(self.trial.make(&self.desk, client, call))
     }
 
+    /// The client whose turn this is makes a call.
+    fn make(&mut self, turn: usize, call: Call<N, R>) {
+        let _ = self.made(turn, &call);
+    }
+
+    /// The call that edits the version with this number, which the client reads whose turn this is.
+    fn editing(
+        &mut self,
+        reader: usize,
+        session: u32,
+        base: u32,
+        edits: Held<Edits>,
+    ) -> Result<Call<N, R>> {
+        Ok(Call::EditKnown {
+            session,
+            base: self.read(reader, base)?,
+            edits,
+        })
+    }
+
     /// The call of an event. The base of a commit is read by the client whose turn this is.
     fn call_of(&mut self, event: Event, reader: usize) -> Result<Call<N, R>> {
-        Ok(match event {
-            Event::Open { session, version } => Call::Open { session, version },
-            Event::Head { session } => Call::Snapshot(session),
-            Event::Undo { session } => Call::Undo(session),
-            Event::Close { session } => Call::CloseSession(session),
+        match event {
+            Event::Open { session, version } => Ok(Call::Open { session, version }),
+            Event::Head { session } => Ok(Call::Snapshot(session)),
+            Event::Undo { session } => Ok(Call::Undo(session)),
+            Event::Close { session } => Ok(Call::CloseSession(session)),
             Event::Commit {
                 session,
                 base,
                 edit,
-            } => Call::EditKnown {
-                session,
-                base: self.read(reader, base)?,
-                edits: edit,
-            },
-        })
+            } => self.editing(reader, session, base, edit),
+        }
+    }
+
+    /// The call of a step. The base of a commit is read by the client whose turn this is.
+    fn call_of_step(&mut self, step: &str, reader: usize) -> Result<Call<N, R>> {
+        let event = event_of(self.trial.alloc, step)?;
+        self.call_of(event, reader)
     }
 
     /// The client whose turn it is takes the step of this index.
     fn take(&mut self, index: usize) -> Result<()> {
-        let event = event_of(self.trial.alloc, self.trial.scene.step_at(index))?;
-        let call = self.call_of(event, index)?;
-        let _ = self.made(index, &call);
+        let call = self.call_of_step(self.trial.scene.step_at(index), index)?;
+        self.make(index, call);
         Ok(())
     }
 
     /// The first client makes a version of this one, by the edits of the last step.
     fn add_version(&mut self, base: u32) -> Result<()> {
         let (_, _, edits) = commit_of(self.trial.alloc, self.trial.scene.step())?;
-        let call = Call::EditKnown {
-            session: MAKING,
-            base: self.read(0, base)?,
-            edits,
-        };
-        let _ = self.made(0, &call);
+        let call = self.editing(0, MAKING, base, edits)?;
+        self.make(0, call);
         Ok(())
     }
 
@@ -138,7 +158,7 @@ impl<N: Naming, R: StateRepresentation, X: Wait + Drop, H: Wait, W: Runner> Seat
             session: MAKING,
             version: 0,
         };
-        let _ = self.made(0, &open);
+        self.make(0, open);
         for base in 0..count {
             self.add_version(base)?;
         }
@@ -170,7 +190,9 @@ impl<N: Naming, R: StateRepresentation, X: Wait + Drop, H: Wait, W: Runner> Seat
         let reader = self.earlier().saturating_add(1);
         let known = self.read(reader, number)?;
         let version: &Version<R> = &known;
-        Ok(version.again()?)
+        let copied = version.again();
+        drop(known);
+        Ok(copied?)
     }
 
     /// A version of another desk: what the last step makes of version 0, under this number.
@@ -194,21 +216,27 @@ impl<N: Naming, R: StateRepresentation, X: Wait + Drop, H: Wait, W: Runner> Seat
         })
     }
 
+    /// The call about the desk's version with the number.
+    fn call_about_own(&mut self) -> Result<Call<N, R>> {
+        let version = self.own(self.trial.scene.number)?;
+        self.call_about(version)
+    }
+
+    /// The call about a version of another desk.
+    fn call_about_foreign(&mut self) -> Result<Call<N, R>> {
+        let version = self.foreign(self.trial.scene.number)?;
+        self.call_about(version)
+    }
+
     /// The call of the last step, or of the number.
     fn call(&mut self) -> Result<Call<N, R>> {
-        let (alloc, scene, turn) = (self.trial.alloc, self.trial.scene, self.earlier());
+        let (scene, turn) = (self.trial.scene, self.earlier());
         match scene.call {
             "version" => Ok(Call::Version(scene.number)),
-            "edit" | "recognize" => {
-                let version = self.own(scene.number)?;
-                self.call_about(version)
-            }
-            "foreign" | "strange" => {
-                let version = self.foreign(scene.number)?;
-                self.call_about(version)
-            }
-            "lent" => self.call_of(event_of(alloc, scene.step())?, turn.saturating_add(1)),
-            _ => self.call_of(event_of(alloc, scene.step())?, turn),
+            "edit" | "recognize" => self.call_about_own(),
+            "foreign" | "strange" => self.call_about_foreign(),
+            "lent" => self.call_of_step(scene.step(), turn.saturating_add(1)),
+            _ => self.call_of_step(scene.step(), turn),
         }
     }
 
@@ -234,6 +262,12 @@ impl<N: Naming, R: StateRepresentation, X: Wait + Drop, H: Wait, W: Runner> Seat
         }
     }
 
+    /// The client whose turn this is makes a call, and its answer is told.
+    fn tell(&mut self, text: &mut Told, turn: usize, call: Call<N, R>) {
+        let answer = self.made(turn, &call);
+        push_answer(self.trial.alloc, text, answer);
+    }
+
     /// Tells the versions that the clients find, and where sessions stand and what they are taken back to, for which they
     /// ask in turn.
     fn push_versions(&mut self, text: &mut Told) {
@@ -242,8 +276,8 @@ impl<N: Naming, R: StateRepresentation, X: Wait + Drop, H: Wait, W: Runner> Seat
             push_versions(alloc, text, client);
         }
         for session in [0, 1, 1, 2, 2, 3] {
-            push_answer(alloc, text, self.made(0, &Call::Snapshot(session)));
-            push_answer(alloc, text, self.made(1, &Call::Undo(session)));
+            self.tell(text, 0, Call::Snapshot(session));
+            self.tell(text, 1, Call::Undo(session));
         }
     }
 
@@ -256,12 +290,11 @@ impl<N: Naming, R: StateRepresentation, X: Wait + Drop, H: Wait, W: Runner> Seat
         push_answer(window.alloc, text, answer)
     }
 
-    /// Makes the call in each window, and tells the last answer and what is left.
-    fn make_call(&mut self, windows: &mut [Window], shown: &mut Shown) -> Result<()> {
-        let call = self.call()?;
+    /// Makes a call in each window, and tells the last answer and what is left.
+    fn make_in(&mut self, windows: &mut [Window], shown: &mut Shown, call: &Call<N, R>) {
         let seen = self.seen();
         for window in windows.iter_mut() {
-            shown.out_of_memory = self.push_made(window, &mut shown.answer, &call);
+            shown.out_of_memory = self.push_made(window, &mut shown.answer, call);
         }
         let before = if shown.out_of_memory {
             Some(seen)
@@ -269,6 +302,12 @@ impl<N: Naming, R: StateRepresentation, X: Wait + Drop, H: Wait, W: Runner> Seat
             None
         };
         self.push_seen(&mut shown.after, before);
+    }
+
+    /// Makes the call in each window, and tells the last answer and what is left.
+    fn make_call(&mut self, windows: &mut [Window], shown: &mut Shown) -> Result<()> {
+        let call = self.call()?;
+        self.make_in(windows, shown, &call);
         Ok(())
     }
 
