@@ -1,5 +1,5 @@
 -- Lists of dependents, one dependent and one list at a time.
-use Rattle.std.proofs.Common.{◌≡◌, ℕ, zero, suc, ◌+◌, ◌-◌, ◌<◌, ◌≤◌, ◌≢◌, Bool, true, false, List, [], ◌∷◌, ◌++◌, length, map, take, get_or, set, refl, ap, sym, ◌∙◌, subst, inl, inr, arith, length-set, get_or-set_same, get_or-set_other}
+use Rattle.std.proofs.Common.{◌≡◌, ℕ, zero, suc, ◌+◌, ◌-◌, ◌<◌, ◌≤◌, ◌≢◌, Bool, true, false, List, [], ◌∷◌, ◌++◌, length, map, take, get_or, set, refl, ap, sym, ◌∙◌, subst, inl, inr, arith, length-set, length-append, append-nil, get_or-set_same, get_or-set_other}
 use Rattle.std.specs.Prelude.{All, Contains, ◌||◌, ◌&&◌, ◌==◌, nat_lt, Vec, Option}
 use Rattle.std.specs.Global.{Global}
 use Rattle.std.proofs.lemmas.Bool.{cases_eq, cases_lt, false≢true, eq-eqb, ne_eqb, eqb-true, or_cases, or_left, or_right, and_parts, and_from, ltb-true, lt-ltb}
@@ -216,12 +216,15 @@ module _ (places : List (Option Stage)) where
   inner_within sources inner live k d short =
       place_from_live places (get_or inner k d) (All-contains (IsLive places) (sources ++ inner) (get_or inner k d) live (Contains-append_right sources inner (get_or inner k d) (Contains-get_or inner k d short)))
 
-  -- the lists of the first vectors are fewer than a graph has places
-  pub listed_short : (vectors : List (Vec ℕ Global)) (i : ℕ) → AreDependentLists (uses_by_feeds places) (length places) (listed vectors) → length places ≤ 65536 → i < length vectors
-      → (lists : List (List ℕ)) → lists ≡ listed (take i vectors) → length lists < 65536
-  listed_short vectors i are few short lists is =
-      omega (arith, ap length is, are.long, length-map vectors (λ (v : Vec ℕ Global). v.items), length-map (take i vectors) (λ (v : Vec ℕ Global). v.items), length-take i vectors)
+  -- the lists of the vectors before another one are fewer than a graph has places
+  pub listed_short : (vectors yielded : List (Vec ℕ Global)) (next : Vec ℕ Global) (rest : List (Vec ℕ Global)) → vectors ≡ yielded ++ next ∷ rest
+      → AreDependentLists (uses_by_feeds places) (length places) (listed vectors) → length places ≤ 65536
+      → (lists : List (List ℕ)) → lists ≡ listed yielded → length lists < 65536
+  listed_short vectors yielded next rest split are few lists is =
+      omega (arith, ap length is, are.long, ap length split, length-append yielded (next ∷ rest), length-map vectors (λ (v : Vec ℕ Global). v.items), length-map yielded (λ (v : Vec ℕ Global). v.items))
 
-  pub listed_all : (vectors : List (Vec ℕ Global)) (i : ℕ) → AreDependentLists (uses_by_feeds places) (length places) (listed vectors) → length vectors ≤ i
-      → (lists : List (List ℕ)) → lists ≡ listed (take i vectors) → lists ≡ map (dependents places) (all_places places)
-  listed_all vectors i are past lists is = dependents_from_lists lists (subst (AreDependentLists (uses_by_feeds places) (length places)) (sym (is ∙ ap listed (take_all i vectors past))) are)
+  pub listed_all : (vectors yielded rest : List (Vec ℕ Global)) → vectors ≡ yielded ++ rest → length rest ≡ 0 → AreDependentLists (uses_by_feeds places) (length places) (listed vectors)
+      → (lists : List (List ℕ)) → lists ≡ listed yielded → lists ≡ map (dependents places) (all_places places)
+  listed_all vectors yielded [] split none are lists is =
+      dependents_from_lists lists (subst (AreDependentLists (uses_by_feeds places) (length places)) (ap listed (split ∙ append-nil yielded) ∙ sym is) are)
+  listed_all vectors yielded (next ∷ rest) split none are lists is = absurd (omega arith)

@@ -80,7 +80,7 @@ fn lists_of<R: OrderRepresentation>(
 ) -> Result<Vec<Vec<u32>>, AllocError>
     ensures { IfOk result (λ lists. AreDependentLists (uses_by_feeds graph.now.places) (length graph.now.places) (listed lists.items)) }
 {
-    let mut lists = Vec::new(alloc);
+    let mut lists = Vec::with_capacity(alloc, graph.len())?;
     for _place in 0..graph.len() {
         lists.push(Vec::new(alloc))?;
     }
@@ -101,9 +101,11 @@ pub(crate) fn dependents_of<R: OrderRepresentation>(
     let _ = graph.len();
     let lists = lists_of(alloc, graph)?;
     let mut kept = R::Dependents::empty(alloc);
-    for its_dependents in &lists {
-        let its_dependents = Places::from_vec(Vec::from_slice(alloc, its_dependents)?);
-        add(&mut kept, Held::new(alloc, its_dependents)?)?;
+    for its_dependents in lists {
+        add(
+            &mut kept,
+            Held::new(alloc, Places::from_vec(its_dependents))?,
+        )?;
     }
     Ok(kept)
 }

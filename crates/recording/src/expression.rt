@@ -1,8 +1,8 @@
 //! Expressions, read from JSON.
 ghost use Rattle.std.specs.Prelude.{◌≡◌, Option, IfOk};
-ghost use Rattle.serde_json.specs.View.{view};
+ghost use Rattle.serde_json.specs.View.{view, items_view};
 ghost use Rattle.recording.specs.Tables.{beside};
-ghost use Rattle.recording.specs.ExpressionOf.{words, word_in, position_in, exception_in, expression_of};
+ghost use Rattle.recording.specs.ExpressionOf.{words, word_in, position_in, exception_in, expression_of, expressions_of, form_of};
 ghost use Rattle.recording.specs.Reads.{Reads};
 
 use crate::from_json::FromJson;
@@ -78,7 +78,53 @@ impl FromJson for ExName {
     }
 }
 
+/// The expression of a word and the items after it.
+#[cycle(expression)]
+fn read_form(alloc: Global, word: Word, rest: &[Value]) -> Result<Expr, Unread>
+    ensures { Reads result (form_of word (items_view rest.now) (expressions_of (items_view rest.now))) }
+{
+    match (word, rest) {
+        (Word::Argument, [position]) => {
+            let Some(position) = position_in(position) else {
+                return Err(Unread::Shape);
+            };
+            Ok(Expr::new(alloc, Form::Argument(position))?)
+        }
+        (Word::Binary(operator), [left, right]) => {
+            let left = read_expression(alloc, left)?;
+            let right = read_expression(alloc, right)?;
+            Ok(Expr::new(alloc, Form::Binary(operator, left, right))?)
+        }
+        (Word::If, [condition, first, second]) => {
+            let condition = read_expression(alloc, condition)?;
+            let first = read_expression(alloc, first)?;
+            let second = read_expression(alloc, second)?;
+            Ok(Expr::new(alloc, Form::If(condition, first, second))?)
+        }
+        (Word::IsNull, [operand]) => {
+            let operand = read_expression(alloc, operand)?;
+            Ok(Expr::new(alloc, Form::IsNull(operand))?)
+        }
+        (Word::Failed, []) => Ok(Expr::new(alloc, Form::Failed)?),
+        (Word::IsWrapped, []) => Ok(Expr::new(alloc, Form::IsWrapped)?),
+        (Word::CauseIs, [name]) => {
+            let Some(name) = exception_in(name) else {
+                return Err(Unread::Shape);
+            };
+            Ok(Expr::new(alloc, Form::CauseIs(name))?)
+        }
+        (Word::Throw, [name]) => {
+            let Some(name) = exception_in(name) else {
+                return Err(Unread::Shape);
+            };
+            Ok(Expr::new(alloc, Form::Throw(name))?)
+        }
+        _ => Err(Unread::Shape),
+    }
+}
+
 /// The expression that a JSON value is. It recurses no deeper than JSON is nested, which is 127 levels.
+#[cycle(expression)]
 fn read_expression(alloc: Global, value: &Value) -> Result<Expr, Unread>
     ensures { Reads result (expression_of (view value.now)) }
 {
@@ -92,49 +138,12 @@ fn read_expression(alloc: Global, value: &Value) -> Result<Expr, Unread>
             Ok(Expr::new(alloc, Form::Literal(literal))?)
         }
         Value::Array(items) => {
-            let [head, operands @ ..] = items.as_slice() else {
+            let [head, rest @ ..] = items.as_slice() else {
                 return Err(Unread::Shape);
             };
-            let Some(word) = word_in(head) else {
-                return Err(Unread::Shape);
-            };
-            match (word, operands) {
-                (Word::Argument, [position]) => {
-                    let Some(position) = position_in(position) else {
-                        return Err(Unread::Shape);
-                    };
-                    Ok(Expr::new(alloc, Form::Argument(position))?)
-                }
-                (Word::Binary(operator), [left, right]) => {
-                    let left = read_expression(alloc, left)?;
-                    let right = read_expression(alloc, right)?;
-                    Ok(Expr::new(alloc, Form::Binary(operator, left, right))?)
-                }
-                (Word::If, [condition, first, second]) => {
-                    let condition = read_expression(alloc, condition)?;
-                    let first = read_expression(alloc, first)?;
-                    let second = read_expression(alloc, second)?;
-                    Ok(Expr::new(alloc, Form::If(condition, first, second))?)
-                }
-                (Word::IsNull, [operand]) => {
-                    let operand = read_expression(alloc, operand)?;
-                    Ok(Expr::new(alloc, Form::IsNull(operand))?)
-                }
-                (Word::Failed, []) => Ok(Expr::new(alloc, Form::Failed)?),
-                (Word::IsWrapped, []) => Ok(Expr::new(alloc, Form::IsWrapped)?),
-                (Word::CauseIs, [name]) => {
-                    let Some(name) = exception_in(name) else {
-                        return Err(Unread::Shape);
-                    };
-                    Ok(Expr::new(alloc, Form::CauseIs(name))?)
-                }
-                (Word::Throw, [name]) => {
-                    let Some(name) = exception_in(name) else {
-                        return Err(Unread::Shape);
-                    };
-                    Ok(Expr::new(alloc, Form::Throw(name))?)
-                }
-                _ => Err(Unread::Shape),
+            match word_in(head) {
+                Some(word) => read_form(alloc, word, rest),
+                None => Err(Unread::Shape),
             }
         }
         Value::Bool(_) | Value::String(_) | Value::Object(_) => Err(Unread::Shape),

@@ -74,7 +74,7 @@ fn read_stages(alloc: Global, form: FormNumber, object: &Value) -> Result<Specs,
     let Some(items) = value.as_array() else {
         return Err(Fault::Shape(Member::Stages));
     };
-    let mut stages = Specs::new(alloc);
+    let mut stages = Specs::with_capacity(alloc, items.as_slice().len())?;
     for item in items.as_slice() {
         let stage = read_stage(alloc, form, item)?;
         stages.push(stage)?;

@@ -1,5 +1,5 @@
 //! The answers of evaluation, by place.
-ghost use Rattle.std.specs.Prelude.{◌≡◌, ◌<◌, None, Some, length, slice_set, replicate, IfOk};
+ghost use Rattle.std.specs.Prelude.{◌≡◌, ◌<◌, None, Some, length, map, slice_set, replicate, IfOk};
 ghost use Rattle.std.specs.Option.{option_copied};
 ghost use Rattle.scratch_eval.specs.Answers.{StatesFollowRanks};
 
@@ -61,7 +61,7 @@ impl Failures for Answers {
 }
 
 impl Answers {
-    ghost use Rattle.scratch_eval.specs.Answers.{answer_at, rank_at, states_of, told_state, told_rank};
+    ghost use Rattle.scratch_eval.specs.Answers.{answer_at, rank_at, rank_of, states_of, told_state, told_rank};
 
     /// This many empty places.
     pub(crate) fn empty(alloc: Global, places: usize) -> Result<Self, AllocError>
@@ -106,6 +106,19 @@ impl Answers {
             Some(answer) => answer.rank,
             None => 0,
         }
+    }
+
+    /// The ranks by place, and 0 where there is no answer.
+    pub fn ranks(&self, alloc: Global) -> Result<Vec<u32>, AllocError>
+        ensures { IfOk result (λ ranks. ranks.items ≡ map rank_of self.now) }
+    {
+        self.items
+            .iter()
+            .map(|answer| match answer {
+                Some(answer) => answer.rank,
+                None => 0,
+            })
+            .collect(alloc)
     }
 
     /// The state of a live stage. Where the answers are those of a completion stage's graph, it completes no later than

@@ -22,7 +22,7 @@ use text_io::{Sink, Source};
 use version_store::{StateRepresentation, Version};
 
 /// The most bytes that are read at once.
-const AT_ONCE: usize = 65_536;
+const AT_ONCE: usize = 8_192;
 
 /// The most bytes that are read in total.
 const MOST: usize = 1_073_741_824;

@@ -7,6 +7,7 @@ pub mod Changing
 pub mod Vacating
 pub mod Making
 pub mod Loads
+pub mod Feeds
 pub mod Following
 pub mod Ranked
 pub mod Searching

@@ -1,5 +1,5 @@
 -- A stage with names that passes each check makes a lawful stage.
-use Rattle.std.proofs.Common.{Bool, true, ◌&&◌, ◌≡◌, ◌<◌, ℕ, List, length, Option, Some, None, is_some, unwrap_or, not, sym, refl, ap, ◌∙◌, subst}
+use Rattle.std.proofs.Common.{Bool, true, ◌&&◌, ◌≡◌, ◌<◌, ℕ, List, length, Option, Some, None, Err, is_some, unwrap_or, not, sym, refl, ap, ◌∙◌, subst}
 use Rattle.std.proofs.lemmas.List.{length-map}
 use Rattle.std.proofs.lemmas.Bool.{ltb-true}
 use Rattle.stage_graph.specs.declared.stage.Stage.{Stage}
@@ -12,7 +12,9 @@ use Rattle.std.specs.Prelude.{All, ◌++◌}
 use Rattle.stage_graph.specs.declared.fault.Refusal.{Refusal}
 use Rattle.stage_graph.specs.Plain.{PlainGraph, IsLive}
 use Rattle.stage_graph.specs.Checks.{are_known, first_refusal}
-use Rattle.stage_graph.specs.Edits.{added, appended, allowed, unless_refused}
+use Rattle.stage_graph.specs.declared.fault.EditFault.{EditFault}
+use Rattle.stage_graph.specs.declared.fault.EditFault.TheVariants.{Refused, Memory}
+use Rattle.stage_graph.specs.Edits.{IsAnswer, IsFaultOf, added, appended, allowed, unless_refused}
 use Rattle.stage_graph.proofs.Lists.{same_function}
 use Rattle.stage_graph.proofs.Keeping.{Passes, both, known_live}
 
@@ -84,3 +86,10 @@ add_answer graph spec find free place same is end refusal checked =
     ∙ ap (λ (free : Bool). allowed (checks_of free find (length graph.places) spec) (appended graph (stage_of find (length graph.places) spec))) (sym is)
     ∙ ap (λ (place : ℕ). allowed (checks_of free find place spec) (appended graph (stage_of find place spec))) (sym end)
     ∙ ap (λ (refusal : Option Refusal). unless_refused refusal (appended graph (stage_of find place spec))) (sym checked)
+
+-- a refused addition
+pub add_refused : (graph : PlainGraph) (spec : Spec) (find : List ℕ → Option ℕ) (free : Bool) (place : ℕ) → ((name : List ℕ) → find name ≡ place_named graph.places name)
+    → free ≡ not (is_some (place_named graph.places spec.name)) → place ≡ length graph.places → (fault : EditFault) → IsFaultOf (first_refusal (checks_of free find place spec)) fault
+    → IsAnswer {A = PlainGraph} (Err fault) (added spec graph)
+add_refused graph spec find free place same is end (Refused refusal) checked = add_answer graph spec find free place same is end (Some refusal) (sym checked)
+add_refused graph spec find free place same is end Memory checked = tt

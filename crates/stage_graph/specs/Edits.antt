@@ -25,6 +25,11 @@ unless_refused (Some refusal) value = Err refusal
 abbrev pub allowed : {A : Type 0} → Checks → A → Result A Refusal
 allowed checks value = unless_refused (first_refusal checks) value
 
+-- the fault is the refusal, or out of memory
+abbrev pub IsFaultOf : Option Refusal → EditFault → Type 0
+IsFaultOf first (Refused refusal) = first ≡ Some refusal
+IsFaultOf first Memory = Unit {0}
+
 -- ---- the stage that an edit names, with the edit applied
 
 abbrev pub with_result : Option Outcome → Stage → Result Stage Refusal

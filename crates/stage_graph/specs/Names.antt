@@ -1,9 +1,11 @@
 -- Stages by name, and stages whose names are replaced by places.
-use Rattle.std.specs.Prelude.{ℕ, ◌≡◌, List, map, Option, unwrap_or, position}
+use Rattle.std.specs.Prelude.{ℕ, ◌≡◌, ◌&&◌, if◌then◌else◌, List, map, Option, Some, None, unwrap_or, position}
 use Rattle.std.specs.Str.{bytes_eq}
 use Rattle.indexmap.specs.IndexMap.{get_by_text}
 use Rattle.stage_graph.specs.declared.stage.Stage.{Stage}
+use Rattle.stage_graph.specs.declared.stage.Feeds.{Feeds}
 use Rattle.stage_graph.specs.declared.stage.Spec.{Spec}
+use Rattle.stage_graph.specs.Checks.{are_known}
 use Rattle.stage_graph.specs.declared.name_table.FirstPlaces.{FirstPlaces}
 use Rattle.stage_graph.specs.declared.name_table.NameTable.{NameTable}
 use Rattle.stage_graph.specs.NameTrees.{told}
@@ -17,14 +19,26 @@ place_of specs name = position (λ spec. bytes_eq spec.name name) specs
 abbrev pub places_of : (List ℕ → Option ℕ) → List (List ℕ) → List ℕ
 places_of find names = map (λ name. unwrap_or (find name) 0) names
 
--- the stage that stands at a place, with places for names
-abbrev pub stage_of : (List ℕ → Option ℕ) → ℕ → Spec → Stage
-stage_of find place spec = record {
+-- the places of names, if each of them has one
+abbrev pub known_places : (List ℕ → Option ℕ) → List (List ℕ) → Option (List ℕ)
+known_places find names = if are_known find names then Some (places_of find names) else None
+
+-- the places of a stage's feeds
+abbrev pub feeds_of : (List ℕ → Option ℕ) → Spec → Feeds
+feeds_of find spec = record { sources = places_of find spec.sources; inner = places_of find spec.inner }
+
+-- those, if each of the feeds has one
+abbrev pub known_feeds : (List ℕ → Option ℕ) → Spec → Option Feeds
+known_feeds find spec = if are_known find spec.sources && are_known find spec.inner then Some (feeds_of find spec) else None
+
+-- the stage at a place, where its feeds have these places
+abbrev pub placed : ℕ → Feeds → Spec → Stage
+placed place feeds spec = record {
   place = place;
   name = spec.name;
   op = spec.op;
-  sources = places_of find spec.sources;
-  inner = places_of find spec.inner;
+  sources = feeds.sources;
+  inner = feeds.inner;
   created = spec.created;
   queued = spec.queued;
   runs = spec.runs;
@@ -33,6 +47,10 @@ stage_of find place spec = record {
   pin_moment = spec.pin_moment;
   ends = spec.ends;
 }
+
+-- the stage that stands at a place, with places for names
+abbrev pub stage_of : (List ℕ → Option ℕ) → ℕ → Spec → Stage
+stage_of find place spec = placed place (feeds_of find spec) spec
 
 -- the first place of a name of a list
 abbrev pub first_place : FirstPlaces → List ℕ → Option ℕ

@@ -47,12 +47,10 @@ impl<R: Representation> Graph<R> {
         let place = self.len();
         let free = self.place_of(&spec.name).is_none();
         let names = self.names();
-        let checks = names.checks_of(free, place, spec);
-        if let Some(refusal) = checks.first_refusal() {
-            return Err(EditFault::Refused(refusal));
+        match names.checked_stage(alloc, free, place as u32, spec) {
+            Ok(stage) => Ok(self.append(alloc, stage)?),
+            Err(fault) => Err(fault),
         }
-        let stage = names.stage_of(alloc, place as u32, spec)?;
-        Ok(self.append(alloc, stage)?)
     }
 
     /// The first dependent of a place: the first of the known dependents, or else found by a search.

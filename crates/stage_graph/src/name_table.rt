@@ -1,16 +1,17 @@
 //! A table of names.
-ghost use Rattle.std.specs.Prelude.{◌≡◌, ℕ, ◌<◌, ◌^◌, List, Some, None, if◌then◌else◌, IfOk, OnOk, unwrap_or};
+ghost use Rattle.std.specs.Prelude.{◌≡◌, ℕ, ◌<◌, ◌^◌, List, Some, None, if◌then◌else◌, IfOk, IfErr, OnOk, unwrap_or};
 ghost use Rattle.std.specs.Str.{bytes_eq};
 ghost use Rattle.stage_graph.specs.Checks.{are_known};
 ghost use Rattle.stage_graph.specs.Hashers.{after_names, hashes_begin};
-ghost use Rattle.stage_graph.specs.Names.{first_place, found, places_of, stage_of};
+ghost use Rattle.stage_graph.specs.Names.{first_place, found, known_feeds, known_places, places_of, stage_of};
 
 use crate::checks::{Checks, MOST_PLACES, checks_of};
+use crate::fault::EditFault;
 use crate::list_hasher::ListHasher;
 use crate::name::{Name, NameList};
 use crate::name_tree::NameTree;
 use crate::places::Places;
-use crate::stage::{Spec, Stage, action_again};
+use crate::stage::{Feeds, Spec, Stage};
 use indexmap::IndexMap;
 use share_tree::{Again, Held};
 use std::alloc::{AllocError, Global};
@@ -118,6 +119,8 @@ impl NameTable {
 
 impl NameTable {
     ghost use Rattle.stage_graph.specs.Checks.{checks_of};
+    ghost use Rattle.stage_graph.specs.Checks.{first_refusal};
+    ghost use Rattle.stage_graph.specs.Edits.{IsFaultOf};
 
     /// The checks of a whole stage that is to stand at a place.
     pub(crate) fn checks_of(&self, free: bool, place: usize, spec: &Spec) -> Checks
@@ -128,29 +131,57 @@ impl NameTable {
         checks_of(free, known, place, spec)
     }
 
-    /// The stage that stands at a place, with places for names.
-    pub(crate) fn stage_of(
+    /// The places of names, if each of them has one.
+    fn known_places(&self, alloc: Global, names: &NameList) -> Result<Option<Places>, AllocError>
+        requires { (name : List ℕ) → unwrap_or (found self.now name) 0 < 2 ^ 32 }
+        ensures { IfOk result (λ places. places ≡ known_places (found self.now) names.now) }
+    {
+        let mut places = Vec::with_capacity(alloc, names.as_slice().len())?;
+        for name in names.as_slice() {
+            let Some(place) = self.get(name.as_str()) else {
+                return Ok(None);
+            };
+            places.push(place as u32)?;
+        }
+        Ok(Some(Places::from_vec(places)))
+    }
+
+    /// The places of a stage's feeds, if each of them has one.
+    fn known_feeds(&self, alloc: Global, spec: &Spec) -> Result<Option<Feeds>, AllocError>
+        requires { (name : List ℕ) → unwrap_or (found self.now name) 0 < 2 ^ 32 }
+        ensures { IfOk result (λ feeds. feeds ≡ known_feeds (found self.now) spec.now) }
+    {
+        let Some(sources) = self.known_places(alloc, &spec.sources)? else {
+            return Ok(None);
+        };
+        let Some(inner) = self.known_places(alloc, &spec.inner)? else {
+            return Ok(None);
+        };
+        Ok(Some(Feeds { sources, inner }))
+    }
+
+    /// The stage that is to stand at a place, with places for names, where it is known whether its name is free; or the first
+    /// check that it fails. Each name is looked up once.
+    pub(crate) fn checked_stage(
         &self,
         alloc: Global,
+        free: bool,
         place: u32,
         spec: &Spec,
-    ) -> Result<Stage, AllocError>
+    ) -> Result<Stage, EditFault>
         requires { (name : List ℕ) → unwrap_or (found self.now name) 0 < 2 ^ 32 }
-        ensures { IfOk result (λ stage. stage ≡ stage_of (found self.now) place spec.now) }
+        ensures stage { IfOk result (λ stage. stage ≡ stage_of (found self.now) place spec.now) }
+        ensures passes { OnOk result (first_refusal (checks_of free (found self.now) place spec.now) ≡ None) }
+        ensures fault { IfErr result (IsFaultOf (first_refusal (checks_of free (found self.now) place spec.now))) }
     {
-        Ok(Stage {
-            place,
-            name: spec.name.again()?,
-            op: spec.op,
-            sources: self.places_of(alloc, &spec.sources)?,
-            inner: self.places_of(alloc, &spec.inner)?,
-            created: spec.created,
-            queued: spec.queued,
-            runs: spec.runs,
-            action: action_again(&spec.action)?,
-            pin_result: spec.pin_result,
-            pin_moment: spec.pin_moment,
-            ends: spec.ends.again()?,
-        })
+        let feeds = self.known_feeds(alloc, spec)?;
+        let checks = checks_of(free, feeds.is_some(), place as usize, spec);
+        if let Some(refusal) = checks.first_refusal() {
+            return Err(EditFault::Refused(refusal));
+        }
+        match feeds {
+            Some(feeds) => Ok(spec.placed(place, feeds)?),
+            None => unreachable!(),
+        }
     }
 }

@@ -1,7 +1,9 @@
 //! Stages with places, and stages with names.
 ghost use Rattle.std.specs.Prelude.{◌≡◌, [], ◌∷◌, ◌++◌, Some, IfOk, OnOk, OnErr};
 ghost use Rattle.stage_graph.specs.Plain.{uses};
+ghost use Rattle.stage_graph.specs.Names.{placed};
 
+use crate::checks::MOST_PLACES;
 use crate::end::Ends;
 use crate::name::{Name, NameList};
 use crate::op::Op;
@@ -97,6 +99,35 @@ impl Stage {
     }
 }
 
+/// The places of a stage's feeds.
+#[derive(Drop)]
+pub(crate) struct Feeds {
+    pub(crate) sources: Places,
+    pub(crate) inner: Places,
+}
+
+impl Spec {
+    /// The stage that it is at a place, where its feeds have these places.
+    pub(crate) fn placed(&self, place: u32, feeds: Feeds) -> Result<Stage, AllocError>
+        ensures { IfOk result (λ stage. stage ≡ placed place feeds self.now) }
+    {
+        Ok(Stage {
+            place,
+            name: self.name.again()?,
+            op: self.op,
+            sources: feeds.sources,
+            inner: feeds.inner,
+            created: self.created,
+            queued: self.queued,
+            runs: self.runs,
+            action: action_again(&self.action)?,
+            pin_result: self.pin_result,
+            pin_moment: self.pin_moment,
+            ends: self.ends.again()?,
+        })
+    }
+}
+
 /// Stages with names, in order.
 #[derive(Drop)]
 pub struct Specs {
@@ -125,6 +156,15 @@ impl Specs {
         Specs {
             items: Vec::new(alloc),
         }
+    }
+
+    /// No stages, with room for this many, as far as a graph may have as many.
+    pub fn with_capacity(alloc: Global, count: usize) -> Result<Specs, AllocError>
+        ensures { IfOk result (λ specs. specs ≡ []) }
+    {
+        Ok(Specs {
+            items: Vec::with_capacity(alloc, count.min(MOST_PLACES))?,
+        })
     }
 
     /// Adds a stage at the end; if out of memory, the stages stay as they are.

@@ -6,3 +6,4 @@ pub mod ByPlace
 pub mod Keeping
 pub mod Reasoning
 pub mod PathsOf
+pub mod Ranking

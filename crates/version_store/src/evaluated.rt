@@ -69,8 +69,9 @@ impl<R: StateRepresentation> Evaluated<R> {
         let mut meter = Meter::new(FirstEvaluation);
         let answers = evaluate(alloc, &graph, &JavaOps, &mut meter)?;
         let states = States::from_answers(alloc, &graph, &answers)?;
+        let ranks = answers.ranks(alloc)?;
         let graph = Held::new(alloc, graph)?;
-        let order = Order::build(alloc, &graph)?;
+        let order = Order::with_ranks(alloc, &graph, ranks.as_slice())?;
         Ok(Evaluated {
             graph,
             order,

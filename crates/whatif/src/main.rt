@@ -37,7 +37,7 @@ use trace_import::{Options, Unit, import};
 use version_store::StateRepresentation;
 
 /// The most bytes of a script that are read at once.
-pub(crate) const AT_ONCE: usize = 65_536;
+pub(crate) const AT_ONCE: usize = 8_192;
 
 fn main(rt: HostRuntime) -> ExitCode {
     let format = Cell::new(Format::Text);

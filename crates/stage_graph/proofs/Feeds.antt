@@ -1,0 +1,13 @@
+-- Feeds that are known.
+use Rattle.std.proofs.Common.{◌≡◌, ℕ, Bool, true, false, ◌&&◌, if◌then◌else◌, List, Option, Some, None, is_some, refl}
+use Rattle.stage_graph.specs.declared.stage.Spec.{Spec}
+use Rattle.stage_graph.specs.Checks.{are_known}
+use Rattle.stage_graph.specs.Names.{feeds_of, known_feeds}
+
+is_some-if : {A : Type 0} (holds : Bool) (x : A) → is_some (if holds then Some x else None) ≡ holds
+is_some-if true x = refl
+is_some-if false x = refl
+
+-- their places are known exactly where each of them is
+pub is_some-known_feeds : (find : List ℕ → Option ℕ) (spec : Spec) → is_some (known_feeds find spec) ≡ (are_known find spec.sources && are_known find spec.inner)
+is_some-known_feeds find spec = is_some-if (are_known find spec.sources && are_known find spec.inner) (feeds_of find spec)
