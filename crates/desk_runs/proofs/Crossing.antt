@@ -6,7 +6,6 @@ use denote.Param.SendFields.{declared_send}
 use Rattle.std.proofs.Crossing.{crosses}
 use Rattle.std.specs.declared.sync.ledger.Ledger as Ledger
 use Rattle.stage_graph.proofs.Crossing.{edits_send, edits_sync}
-use Rattle.session_core.proofs.Crossing.{event_send, reply_send}
 use Rattle.desk.proofs.Crossing.{client_send, desk_sync}
 use Rattle.desk.proofs.SharedCrossing.{states_send, states_sync, ranks_send, ranks_sync, dependents_send, dependents_sync, stages_send, stages_sync}
 use Rattle.desk.specs.declared.name.Naming as Naming
@@ -17,10 +16,10 @@ use Rattle.desk_runs.specs.contracts.steps.Script as script
 use Rattle.desk_runs.specs.contracts.steps.Step as step
 
 request_send : IsSend request.the_row
-request_send = search (sendable, crosses, event_send, edits_send, edits_sync) depth 60 fits 100000
+request_send = search (sendable, crosses, edits_send, edits_sync) depth 60 fits 100000
 
 answer_send : IsSend answer.the_row
-answer_send = search (sendable, crosses, reply_send) depth 60 fits 100000
+answer_send = search (sendable, crosses) depth 60 fits 100000
 
 step_send : IsSend step.the_row
 step_send = declared_send step.the_type (search sendable, (request_send, (search sendable, (answer_send, tt))))

@@ -2,7 +2,7 @@
 use crate::signals::Signals;
 use crate::stages::{ONE_STAGE, opened};
 use crate::steps::{Answer, Request, Step};
-use desk::{Client, Desk, Known, Naming};
+use desk::{Client, Desk, EditFault, Known, Naming};
 use level_pool::Runner;
 use session_core::{Event, Reply};
 use share_tree::Held;
@@ -20,6 +20,11 @@ pub(crate) struct Access<'a, N: Naming, K: StateRepresentation, H: Wait + Drop, 
     pub(crate) desk: &'a Desk<N, K, H>,
     pub(crate) signals: &'a Signals,
     pub(crate) runner: &'a W,
+}
+
+/// The number of a version that is dropped.
+fn number_of<N: Naming, K: StateRepresentation>(known: Known<N, K>) -> u32 {
+    known.number()
 }
 
 fn open<N: Naming, K: StateRepresentation, H: Wait + Drop, W>(
@@ -40,7 +45,7 @@ fn head<N: Naming, K: StateRepresentation, H: Wait + Drop, W>(
     session: u32,
 ) -> Answer {
     match access.desk.snapshot(access.rt, client, session) {
-        Ok(version) => Answer::of_table(Reply::At(version.number())),
+        Ok(version) => Answer::of_table(Reply::At(number_of(version))),
         Err(fault) => Answer::of_fault(fault),
     }
 }
@@ -67,26 +72,33 @@ fn close<N: Naming, K: StateRepresentation, H: Wait + Drop, W>(
     }
 }
 
-/// A commit of a version that is known.
+/// The answer to a commit, which drops the new version.
+fn committed<N: Naming, K: StateRepresentation>(made: Result<Known<N, K>, EditFault>) -> Answer {
+    match made {
+        Ok(known) => Answer::of_table(Reply::Committed(number_of(known))),
+        Err(fault) => Answer::of_edit(fault),
+    }
+}
+
+/// A commit of a version that is known, and is dropped.
 fn commit_known<N: Naming, K: StateRepresentation, H: Wait + Drop, W: Runner>(
     access: &Access<'_, N, K, H, W>,
     client: &mut Client<N, K>,
     session: u32,
-    base: &Known<N, K>,
+    base: Known<N, K>,
     edits: &Held<Edits>,
 ) -> Answer {
-    match access.desk.edit_known(
-        access.rt,
-        access.alloc,
-        client,
-        session,
-        base,
-        edits,
-        access.runner,
-    ) {
-        Ok(made) => Answer::of_table(Reply::Committed(made.number())),
-        Err(fault) => Answer::of_edit(fault),
-    }
+    committed(
+        access.desk.edit_known(
+            access.rt,
+            access.alloc,
+            client,
+            session,
+            &base,
+            edits,
+            access.runner,
+        ),
+    )
 }
 
 /// A commit of the version with this number.
@@ -98,31 +110,30 @@ fn commit<N: Naming, K: StateRepresentation, H: Wait + Drop, W: Runner>(
     edits: &Held<Edits>,
 ) -> Answer {
     match client.version(base) {
-        Ok(known) => commit_known(access, client, session, &known, edits),
+        Ok(known) => commit_known(access, client, session, known, edits),
         Err(fault) => Answer::of_read(Err(fault)),
     }
 }
 
-/// A commit of a version that may be of another desk.
+/// A commit of a version that may be of another desk, and is dropped.
 fn commit_other<N: Naming, K: StateRepresentation, H: Wait + Drop, W: Runner>(
     access: &Access<'_, N, K, H, W>,
     client: &mut Client<N, K>,
     session: u32,
-    other: &Version<K>,
+    other: Version<K>,
     edits: &Held<Edits>,
 ) -> Answer {
-    match access.desk.edit(
-        access.rt,
-        access.alloc,
-        client,
-        session,
-        other,
-        edits,
-        access.runner,
-    ) {
-        Ok(made) => Answer::of_table(Reply::Committed(made.number())),
-        Err(fault) => Answer::of_edit(fault),
-    }
+    committed(
+        access.desk.edit(
+            access.rt,
+            access.alloc,
+            client,
+            session,
+            &other,
+            edits,
+            access.runner,
+        ),
+    )
 }
 
 /// A commit of another recording's version 0.
@@ -133,7 +144,7 @@ fn edit_other<N: Naming, K: StateRepresentation, H: Wait + Drop, W: Runner>(
     edits: &Held<Edits>,
 ) -> Answer {
     match opened(access.alloc, ONE_STAGE) {
-        Ok(other) => commit_other(access, client, session, &other, edits),
+        Ok(other) => commit_other(access, client, session, other, edits),
         Err(_) => Answer::memory(),
     }
 }
@@ -141,7 +152,7 @@ fn edit_other<N: Naming, K: StateRepresentation, H: Wait + Drop, W: Runner>(
 /// A read of the version with this number.
 fn read<N: Naming, K: StateRepresentation>(client: &mut Client<N, K>, number: u32) -> Answer {
     match client.version(number) {
-        Ok(found) => Answer::of_read(Ok(found.number())),
+        Ok(found) => Answer::of_read(Ok(number_of(found))),
         Err(fault) => Answer::of_read(Err(fault)),
     }
 }
@@ -178,6 +189,15 @@ fn answer_to<N: Naming, K: StateRepresentation, H: Wait + Drop, W: Runner>(
     }
 }
 
+/// Whether a version that is dropped has this number, and was made of this one.
+fn is_made_of<N: Naming, K: StateRepresentation>(
+    found: Known<N, K>,
+    number: u32,
+    base: u32,
+) -> bool {
+    found.number() == number && found.parent() == Some(base)
+}
+
 /// Whether a client finds a version, which was made of this one.
 fn finds<N: Naming, K: StateRepresentation>(
     client: &mut Client<N, K>,
@@ -185,7 +205,7 @@ fn finds<N: Naming, K: StateRepresentation>(
     base: u32,
 ) -> bool {
     match client.version(number) {
-        Ok(found) => found.number() == number && found.parent() == Some(base),
+        Ok(found) => is_made_of(found, number, base),
         Err(_) => false,
     }
 }

@@ -5,7 +5,7 @@ use crate::closing::log_of;
 use crate::stages::{MANY_STAGES, opened};
 use crate::steps::Script;
 use crate::walks::all_agree;
-use desk::{Client, Desk, Known, Naming, ReadFault};
+use desk::{Client, CloseFault, Desk, Known, Log, Naming, ReadFault};
 use level_pool::OneThread;
 use scratch_eval::{Answers, evaluate};
 use session_core::{Entry, Table};
@@ -92,18 +92,42 @@ fn are_of_machine<N: Naming, K: StateRepresentation>(
     same && table.version(count).is_err()
 }
 
-/// All versions that are published, as a client reads them.
+/// A version that is read is added, if there is one.
+fn add_read<V: Drop>(
+    versions: &mut Vec<V>,
+    read: Result<V, ReadFault>,
+) -> Result<bool, AllocError> {
+    match read {
+        Ok(known) => {
+            versions.push(known)?;
+            Ok(true)
+        }
+        Err(ReadFault::NoVersion) => Ok(false),
+        Err(ReadFault::Memory) => Err(AllocError),
+    }
+}
+
+/// Adds all versions that are published, as a client reads them.
 fn read_all<N: Naming, K: StateRepresentation>(
-    alloc: Global,
     client: &mut Client<N, K>,
+    versions: &mut Vec<Known<N, K>>,
+) -> Result<(), AllocError> {
+    for number in 0..MOST {
+        if !add_read(versions, client.version(number))? {
+            return Ok(());
+        }
+    }
+    Ok(())
+}
+
+/// All versions that are published, as the first client reads them.
+fn versions_of<N: Naming, K: StateRepresentation>(
+    alloc: Global,
+    clients: &mut [Client<N, K>],
 ) -> Result<Vec<Known<N, K>>, AllocError> {
     let mut versions = Vec::new(alloc);
-    for number in 0..MOST {
-        match client.version(number) {
-            Ok(known) => versions.push(known)?,
-            Err(ReadFault::NoVersion) => return Ok(versions),
-            Err(ReadFault::Memory) => return Err(AllocError),
-        }
+    if let Some(client) = clients.first_mut() {
+        read_all(client, &mut versions)?;
     }
     Ok(versions)
 }
@@ -146,19 +170,17 @@ fn text_by_machine<N: Naming, K: StateRepresentation, H: Threads + Sync>(
     }
 }
 
-/// What is told of walks on a desk, which is closed then.
-fn text_of_closed<N: Naming, K: StateRepresentation, H: Threads + Wait + Drop + Sync>(
+/// What is told of walks on a desk that is closed, of which the versions were read before.
+fn text_of_closed<N: Naming, K: StateRepresentation, H: Threads + Sync>(
     rt: &H,
     alloc: Global,
-    desk: Desk<N, K, H>,
-    clients: Vec<Client<N, K>>,
+    log: Result<Log<K>, CloseFault>,
     scripts: &[Script],
-    versions: &[Known<N, K>],
-) -> Result<&'static str, AllocError>
-    requires { N.clients ≡ N.parts }
-{
-    match log_of(desk, clients) {
-        Ok(log) => text_by_machine(rt, alloc, log.entries(), scripts, versions),
+    versions: Result<Vec<Known<N, K>>, AllocError>,
+) -> Result<&'static str, AllocError> {
+    let versions = versions?;
+    match log {
+        Ok(log) => text_by_machine(rt, alloc, log.entries(), scripts, &versions),
         Err(_) => Ok("not closed"),
     }
 }
@@ -174,10 +196,7 @@ pub(crate) fn text_of_walks<N: Naming, K: StateRepresentation, H: Threads + Wait
     requires { N.clients ≡ N.parts }
 {
     let mut clients = clients;
-    let versions = match clients.first_mut() {
-        Some(client) => read_all(alloc, client)?,
-        None => Vec::new(alloc),
-    };
-    let told = text_of_closed(rt, alloc, desk, clients, scripts, versions.as_slice())?;
+    let versions = versions_of(alloc, &mut clients);
+    let told = text_of_closed(rt, alloc, log_of(desk, clients), scripts, versions)?;
     String::from_str(alloc, told)
 }

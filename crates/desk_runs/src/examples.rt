@@ -15,8 +15,11 @@ const EDITED: u64 = 2;
 const COMMITS: u32 = 100;
 
 /// The first client opens session 1 at version 0 and edits that, and its edit waits at the gate.
-pub(crate) fn edits_at_gate(alloc: Global, way: Way) -> Result<Script, AllocError> {
-    let mut script = Script::new(alloc);
+pub(crate) fn edits_at_gate(
+    alloc: Global,
+    way: Way,
+    script: &mut Script,
+) -> Result<(), AllocError> {
     script.way = way;
     script.waits = true;
     script.push(Step::ask(Event::Open {
@@ -24,14 +27,16 @@ pub(crate) fn edits_at_gate(alloc: Global, way: Way) -> Result<Script, AllocErro
         version: 0,
     }))?;
     script.push(Step::after(0, Request::Ask(Event::Head { session: 1 }), true))?;
-    script.push(Step::after(EDITED, edit(1, set_times(alloc, "b", 1)?), false))?;
-    Ok(script)
+    script.push(Step::after(EDITED, edit(1, set_times(alloc, "b", 1)?), false))
 }
 
 /// The second client edits version 0 before the first one does. Once that one's edit has begun, it undoes its own, or reads
 /// it.
-pub(crate) fn undoes_meanwhile(alloc: Global, undoes: bool) -> Result<Script, AllocError> {
-    let mut script = Script::new(alloc);
+pub(crate) fn undoes_meanwhile(
+    alloc: Global,
+    undoes: bool,
+    script: &mut Script,
+) -> Result<(), AllocError> {
     let head = Request::Ask(Event::Head { session: 1 });
     script.push(Step::after(OPENED, head, false))?;
     script.push(Step::after(0, edit(1, set_times(alloc, "a", 20)?), true))?;
@@ -40,13 +45,11 @@ pub(crate) fn undoes_meanwhile(alloc: Global, undoes: bool) -> Result<Script, Al
     } else {
         Request::Read(1)
     };
-    script.push(Step::after(ENTERED, last, true))?;
-    Ok(script)
+    script.push(Step::after(ENTERED, last, true))
 }
 
 /// A client of a desk of one version asks for what it is refused.
-pub(crate) fn asks_in_vain(alloc: Global) -> Result<Script, AllocError> {
-    let mut script = Script::new(alloc);
+pub(crate) fn asks_in_vain(alloc: Global, script: &mut Script) -> Result<(), AllocError> {
     script.push(Step::ask(Event::Open {
         session: 1,
         version: 0,
@@ -58,13 +61,15 @@ pub(crate) fn asks_in_vain(alloc: Global) -> Result<Script, AllocError> {
         edits: set_times(alloc, "a", 20)?,
     }))?;
     script.push(Step::ask(Event::Close { session: 1 }))?;
-    script.push(Step::ask(Event::Undo { session: 1 }))?;
-    Ok(script)
+    script.push(Step::ask(Event::Undo { session: 1 }))
 }
 
 /// A client commits a hundred times, on a session of its own from version 0 on.
-pub(crate) fn commits_often(alloc: Global, session: u32) -> Result<Script, AllocError> {
-    let mut script = Script::new(alloc);
+pub(crate) fn commits_often(
+    alloc: Global,
+    session: u32,
+    script: &mut Script,
+) -> Result<(), AllocError> {
     script.push(Step::ask(Event::Open {
         session,
         version: 0,
@@ -72,7 +77,7 @@ pub(crate) fn commits_often(alloc: Global, session: u32) -> Result<Script, Alloc
     for _commit in 0..COMMITS {
         script.push(Step::new(edit(session, set_times(alloc, "a", 20)?)))?;
     }
-    Ok(script)
+    Ok(())
 }
 
 /// What a refusal is called, with the version that it names.

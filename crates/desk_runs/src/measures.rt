@@ -81,25 +81,28 @@ impl<'a> Plan<'a> {
         script.push(Step::after(self.all(times), Request::Read(0), false))
     }
 
-    /// The client with this number: it edits, it reads, and then the first one reads while the others edit.
-    pub(crate) fn script(self, alloc: Global, session: u32) -> Result<Script, AllocError> {
-        let mut script = Script::new(alloc);
+    /// Adds the steps of the client with this number: it edits, it reads, and then the first one reads while the others edit.
+    pub(crate) fn add_steps(
+        self,
+        alloc: Global,
+        session: u32,
+        script: &mut Script,
+    ) -> Result<(), AllocError> {
         script.push(Step::ask(Event::Open {
             session,
             version: 0,
         }))?;
-        self.add_meeting(&mut script, 1)?;
-        self.add_edits(alloc, &mut script, session)?;
-        self.add_meeting(&mut script, 2)?;
-        self.add_reads(&mut script)?;
-        self.add_meeting(&mut script, 3)?;
+        self.add_meeting(script, 1)?;
+        self.add_edits(alloc, script, session)?;
+        self.add_meeting(script, 2)?;
+        self.add_reads(script)?;
+        self.add_meeting(script, 3)?;
         script.push(Step::ask(Event::Head { session }))?;
         if session == 1 {
-            self.add_reads(&mut script)?;
+            self.add_reads(script)
         } else {
-            self.add_edits(alloc, &mut script, session)?;
+            self.add_edits(alloc, script, session)
         }
-        Ok(script)
     }
 }
 

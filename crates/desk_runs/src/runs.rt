@@ -70,17 +70,24 @@ impl<'a> Run<'a> {
         }
     }
 
-    /// What the client with this number does.
-    pub(crate) fn script(self, alloc: Global, number: u32) -> Result<Script, AllocError> {
+    /// Adds what the client with this number does to its script.
+    fn add_steps(self, alloc: Global, number: u32, script: &mut Script) -> Result<(), AllocError> {
         match self {
-            Run::TwoClients { way, .. } if number == 1 => edits_at_gate(alloc, way),
-            Run::TwoClients { undoes, .. } => undoes_meanwhile(alloc, undoes),
-            Run::Refusals if number == 1 => asks_in_vain(alloc),
-            Run::Refusals => Ok(Script::new(alloc)),
-            Run::OwnCommits => commits_often(alloc, number),
-            Run::Soak => walks(alloc, number),
-            Run::Measure(plan) => plan.script(alloc, number),
+            Run::TwoClients { way, .. } if number == 1 => edits_at_gate(alloc, way, script),
+            Run::TwoClients { undoes, .. } => undoes_meanwhile(alloc, undoes, script),
+            Run::Refusals if number == 1 => asks_in_vain(alloc, script),
+            Run::Refusals => Ok(()),
+            Run::OwnCommits => commits_often(alloc, number, script),
+            Run::Soak => walks(alloc, number, script),
+            Run::Measure(plan) => plan.add_steps(alloc, number, script),
         }
+    }
+
+    /// What the client with this number does.
+    fn script(self, alloc: Global, number: u32) -> Result<Script, AllocError> {
+        let mut script = Script::new(alloc);
+        self.add_steps(alloc, number, &mut script)?;
+        Ok(script)
     }
 }
 
@@ -113,29 +120,67 @@ fn text_of_end<N: Naming, K: StateRepresentation, H: Threads + Wait + Drop + Syn
     }
 }
 
+/// What is told of scripts, and of the end of their desk.
+fn joined(
+    alloc: Global,
+    told: Result<String, AllocError>,
+    end: Result<String, AllocError>,
+) -> Result<String, AllocError> {
+    let mut text = told?;
+    let end = end?;
+    text.push_str("; ")?;
+    text.push_str(end.as_str())?;
+    Ok(text)
+}
+
+/// What is told of a run whose clients have played, and of their desk's end.
+fn text_of_played<N: Naming, K: StateRepresentation, H: Threads + Wait + Drop + Sync>(
+    rt: &H,
+    alloc: Global,
+    desk: Desk<N, K, H>,
+    played: Played<Client<N, K>>,
+    run: Run<'_>,
+) -> Result<String, AllocError>
+    requires { N.clients ≡ N.parts }
+{
+    let Played { clients, scripts } = played;
+    let end = text_of_end(rt, alloc, desk, clients, run, &scripts);
+    joined(alloc, text_of_scripts(alloc, run, &scripts), end)
+}
+
 /// What is told of a run once its clients have played, and of their desk's end.
 fn text_of_run<N: Naming, K: StateRepresentation, H: Threads + Wait + Drop + Sync>(
     rt: &H,
     alloc: Global,
     desk: Desk<N, K, H>,
-    played: Result<Played<N, K>, AllocError>,
+    played: Result<Played<Client<N, K>>, AllocError>,
     run: Run<'_>,
 ) -> Result<String, AllocError>
     requires { N.clients ≡ N.parts }
 {
-    let Played { clients, scripts } = played?;
-    let end = text_of_end(rt, alloc, desk, clients, run, scripts.as_slice())?;
-    let told = text_of_scripts(alloc, run, scripts.as_slice())?;
-    format!(in alloc; "{told}; {end}")
+    match played {
+        Ok(played) => text_of_played(rt, alloc, desk, played, run),
+        Err(fault) => Err(fault),
+    }
 }
 
-/// What is told of a run on the new desk that has this name.
+/// The script of each client in a run, where there are so many.
+fn scripts_of(alloc: Global, run: Run<'_>, count: u32) -> Result<Vec<Script>, AllocError> {
+    let mut scripts = Vec::new(alloc);
+    for before in 0..count {
+        scripts.push(run.script(alloc, before + 1)?)?;
+    }
+    Ok(scripts)
+}
+
+/// What is told of a run with these scripts, on the new desk that has this name.
 fn on_named_desk<N: Naming + Send + Sync, H: Threads + Wait + Clock + Copy + Drop + Send + Sync>(
     rt: H,
     alloc: Global,
     blank: Blank,
     archive: NewArchive<InShared>,
     first: Version<InShared>,
+    scripts: Vec<Script>,
     run: Run<'_>,
     count: u32,
     most: u32,
@@ -149,7 +194,7 @@ fn on_named_desk<N: Naming + Send + Sync, H: Threads + Wait + Clock + Copy + Dro
     requires opening { N.opening ≡ opening first most }
 {
     let (desk, clients) = start::<N, InShared, H>(rt, alloc, blank, archive, first, count, most)?;
-    let played = play_all(&rt, alloc, &desk, &Signals::new(), clients, run);
+    let played = play_all(&rt, alloc, &desk, &Signals::new(), clients, scripts);
     text_of_run(&rt, alloc, desk, played, run)
 }
 
@@ -161,8 +206,9 @@ pub(crate) fn on_new_desk<H: Threads + Wait + Clock + Copy + Drop + Send + Sync>
 ) -> Result<String, AllocError> {
     let count = run.clients();
     let most = run.most();
+    let scripts = scripts_of(alloc, run, count)?;
     let first = opened::<InShared>(alloc, run.recording())?;
     let blank = Blank::new(u64::from(count));
     let archive = NewArchive::new();
-    on_named_desk::<Brand, H>(rt, alloc, blank, archive, first, run, count, most)
+    on_named_desk::<Brand, H>(rt, alloc, blank, archive, first, scripts, run, count, most)
 }

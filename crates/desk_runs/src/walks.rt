@@ -119,47 +119,46 @@ fn random_step(alloc: Global, numbers: &mut Numbers, session: u32) -> Result<Ste
     }
 }
 
-/// The version at which a session stands is taken, and then a commit of it.
-fn head_and_commit(
+/// Adds two steps: the version at which a session stands is taken, and then a commit of it.
+fn add_head_and_commit(
     alloc: Global,
     numbers: &mut Numbers,
     session: u32,
-) -> Result<(Step, Step), AllocError> {
-    let commit = random_commit(alloc, numbers, session)?;
-    Ok((Step::ask(Event::Head { session }), commit))
+    script: &mut Script,
+) -> Result<(), AllocError> {
+    script.push(Step::ask(Event::Head { session }))?;
+    script.push(random_commit(alloc, numbers, session)?)
 }
 
-/// Two steps: a commit of the version at which a session stands, as often as two random ones.
-fn random_turn(alloc: Global, numbers: &mut Numbers) -> Result<(Step, Step), AllocError> {
+/// Adds two random steps.
+fn add_two_steps(
+    alloc: Global,
+    numbers: &mut Numbers,
+    session: u32,
+    script: &mut Script,
+) -> Result<(), AllocError> {
+    script.push(random_step(alloc, numbers, session)?)?;
+    script.push(random_step(alloc, numbers, session)?)
+}
+
+/// Adds two steps: a commit of the version at which a session stands, as often as two random ones.
+fn add_turn(alloc: Global, numbers: &mut Numbers, script: &mut Script) -> Result<(), AllocError> {
     let session = numbers.session();
     match numbers.below(2) {
-        0 => head_and_commit(alloc, numbers, session),
-        _ => two_steps(alloc, numbers, session),
+        0 => add_head_and_commit(alloc, numbers, session, script),
+        _ => add_two_steps(alloc, numbers, session, script),
     }
 }
 
-fn two_steps(
-    alloc: Global,
-    numbers: &mut Numbers,
-    session: u32,
-) -> Result<(Step, Step), AllocError> {
-    let one = random_step(alloc, numbers, session)?;
-    let other = random_step(alloc, numbers, session)?;
-    Ok((one, other))
-}
-
-/// The 500 random steps of the client with this number.
-pub(crate) fn walks(alloc: Global, who: u32) -> Result<Script, AllocError> {
-    let mut script = Script::new(alloc);
+/// Adds the 500 random steps of the client with this number.
+pub(crate) fn walks(alloc: Global, who: u32, script: &mut Script) -> Result<(), AllocError> {
     let mut numbers = Numbers {
         state: u64::from(who),
     };
     for _turn in 0..TURNS {
-        let (one, other) = random_turn(alloc, &mut numbers)?;
-        script.push(one)?;
-        script.push(other)?;
+        add_turn(alloc, &mut numbers, script)?;
     }
-    Ok(script)
+    Ok(())
 }
 
 /// Whether all answers hold, and the versions that the client has seen never shrink.

@@ -1,4 +1,5 @@
 //! Calls of a desk's clients, and their answers.
+use crate::refusals::Window;
 use crate::scene::Scene;
 use crate::tables::push_reply;
 use crate::texts::push_version;
@@ -12,101 +13,81 @@ use std::alloc::Global;
 use std::sync::Wait;
 use version_store::{StateRepresentation, Version};
 
-/// A call that a client is to make.
+/// A call that a client is to make. It borrows what it is about.
 #[derive(Drop)]
-pub(crate) enum Call<N: Naming, R: StateRepresentation> {
+pub(crate) enum Call<'a, N: Naming, R: StateRepresentation> {
     Open {
         session: u32,
         version: u32,
     },
-    Snapshot(u32),
     Undo(u32),
     CloseSession(u32),
+    Snapshot(u32),
     /// A commit on a version of the desk.
     EditKnown {
         session: u32,
-        base: Known<N, R>,
-        edits: Held<Edits>,
+        base: &'a Known<N, R>,
+        edits: &'a Held<Edits>,
     },
     /// A commit on a version that may be of another desk.
     Edit {
         session: u32,
-        version: Version<R>,
-        edits: Held<Edits>,
+        version: &'a Version<R>,
+        edits: &'a Held<Edits>,
     },
-    Recognize(Version<R>),
+    Recognize(&'a Version<R>),
     /// A read of the version with this number.
     Version(u32),
 }
 
-/// The answer to a call: a reply, or a version of the desk.
-#[derive(Drop)]
-pub(crate) enum Answer<N: Naming, R: StateRepresentation> {
-    Reply(Reply),
-    Version(Known<N, R>),
+/// Tells a version that was found.
+pub(crate) fn push_known<N: Naming, R: StateRepresentation>(
+    alloc: Global,
+    text: &mut Told,
+    known: Known<N, R>,
+) {
+    push_version(alloc, text, &known);
 }
 
-impl<N: Naming, R: StateRepresentation> Answer<N, R> {
-    /// The reply, or the table's fault.
-    fn of_reply(answer: Result<(), TableFault>, reply: Reply) -> Answer<N, R> {
-        match answer {
-            Ok(()) => Answer::Reply(reply),
-            Err(fault) => Answer::Reply(fault.reply()),
-        }
+/// Tells the version, or the reply in its place, unless memory ran out.
+fn push_found<N: Naming, R: StateRepresentation>(
+    alloc: Global,
+    text: &mut Told,
+    answer: Result<Known<N, R>, Reply>,
+) -> bool {
+    match answer {
+        Ok(known) => push_known(alloc, text, known),
+        Err(reply) => return push_reply(text, reply),
     }
+    false
+}
 
-    /// The version that a session is taken back to, or the table's fault.
-    fn of_undo(answer: Result<u32, TableFault>) -> Answer<N, R> {
-        match answer {
-            Ok(number) => Answer::Reply(Reply::Undone(number)),
-            Err(fault) => Answer::Reply(fault.reply()),
-        }
-    }
-
-    /// The version, or the table's fault.
-    fn of_table(answer: Result<Known<N, R>, TableFault>) -> Answer<N, R> {
-        match answer {
-            Ok(version) => Answer::Version(version),
-            Err(fault) => Answer::Reply(fault.reply()),
-        }
-    }
-
-    /// The version, or the fault of an edit.
-    fn of_edit(answer: Result<Known<N, R>, EditFault>) -> Answer<N, R> {
-        match answer {
-            Ok(version) => Answer::Version(version),
-            Err(fault) => Answer::Reply(reply_of_edit(fault)),
-        }
-    }
-
-    /// The version, or the fault of a read.
-    fn of_read(answer: Result<Known<N, R>, ReadFault>) -> Answer<N, R> {
-        match answer {
-            Ok(version) => Answer::Version(version),
-            Err(ReadFault::NoVersion) => Answer::Reply(Reply::Refused(Refusal::NoVersion)),
-            Err(ReadFault::Memory) => Answer::Reply(Reply::Memory),
-        }
-    }
-
-    /// Tells the answer, unless memory ran out.
-    pub(crate) fn push(&self, alloc: Global, text: &mut Told) -> bool {
-        match self {
-            Answer::Reply(reply) => push_reply(text, *reply),
-            Answer::Version(version) => {
-                push_version(alloc, text, version);
-                false
-            }
-        }
+/// The version, or the reply by which the table's fault is told.
+fn of_table<V>(answer: Result<V, TableFault>) -> Result<V, Reply> {
+    match answer {
+        Ok(value) => Ok(value),
+        Err(fault) => Err(fault.reply()),
     }
 }
 
-/// The reply by which the fault of an edit is told. Of the two refusals only the table's is in the history.
-fn reply_of_edit(fault: EditFault) -> Reply {
-    match fault {
-        EditFault::NoVersion => Reply::Refused(Refusal::NoVersion),
-        EditFault::Foreign(number) => Reply::Refused(Refusal::Foreign(number)),
-        EditFault::Edits(refusal) | EditFault::Table(refusal) => Reply::Refused(refusal),
-        EditFault::Memory => Reply::Memory,
+/// The version, or the reply by which the fault of an edit is told. Of the two refusals only the table's is in the history.
+fn of_edit<V>(answer: Result<V, EditFault>) -> Result<V, Reply> {
+    match answer {
+        Ok(value) => Ok(value),
+        Err(EditFault::NoVersion) => Err(Reply::Refused(Refusal::NoVersion)),
+        Err(EditFault::Foreign(number)) => Err(Reply::Refused(Refusal::Foreign(number))),
+        Err(EditFault::Edits(refusal)) => Err(Reply::Refused(refusal)),
+        Err(EditFault::Table(refusal)) => Err(Reply::Refused(refusal)),
+        Err(EditFault::Memory) => Err(Reply::Memory),
+    }
+}
+
+/// The version, or the reply by which the fault of a read is told.
+fn of_read<V>(answer: Result<V, ReadFault>) -> Result<V, Reply> {
+    match answer {
+        Ok(value) => Ok(value),
+        Err(ReadFault::NoVersion) => Err(Reply::Refused(Refusal::NoVersion)),
+        Err(ReadFault::Memory) => Err(Reply::Memory),
     }
 }
 
@@ -120,37 +101,86 @@ pub(crate) struct Trial<'a, H, W> {
 }
 
 impl<H: Wait, W: Runner> Trial<'_, H, W> {
-    /// A client makes a call.
-    pub(crate) fn make<N: Naming, R: StateRepresentation, X: Wait + Drop>(
+    /// The reply to a session's start.
+    fn opened<N: Naming, R: StateRepresentation>(
         &self,
-        desk: &Desk<N, R, X>,
+        desk: &Desk<N, R, &H>,
         client: &mut Client<N, R>,
-        call: &Call<N, R>,
-    ) -> Answer<N, R> {
+        session: u32,
+        version: u32,
+    ) -> Reply {
+        match desk.open(self.rt, client, session, version) {
+            Ok(()) => Reply::Opened(version),
+            Err(fault) => fault.reply(),
+        }
+    }
+
+    /// The reply to an undo.
+    fn undone<N: Naming, R: StateRepresentation>(
+        &self,
+        desk: &Desk<N, R, &H>,
+        client: &mut Client<N, R>,
+        session: u32,
+    ) -> Reply {
+        match desk.undo(self.rt, client, session) {
+            Ok(number) => Reply::Undone(number),
+            Err(fault) => fault.reply(),
+        }
+    }
+
+    /// The reply to a session's end.
+    fn closed<N: Naming, R: StateRepresentation>(
+        &self,
+        desk: &Desk<N, R, &H>,
+        client: &mut Client<N, R>,
+        session: u32,
+    ) -> Reply {
+        match desk.close_session(self.rt, client, session) {
+            Ok(()) => Reply::Closed,
+            Err(fault) => fault.reply(),
+        }
+    }
+
+    /// A client makes a call: the version that it is answered, or the reply in its place.
+    fn answer<N: Naming, R: StateRepresentation>(
+        &self,
+        desk: &Desk<N, R, &H>,
+        client: &mut Client<N, R>,
+        call: &Call<'_, N, R>,
+    ) -> Result<Known<N, R>, Reply> {
         let (rt, alloc, runner) = (self.rt, self.alloc, self.runner);
         match call {
-            Call::Open { session, version } => {
-                let answer = desk.open(rt, client, *session, *version);
-                Answer::of_reply(answer, Reply::Opened(*version))
-            }
-            Call::Snapshot(session) => Answer::of_table(desk.snapshot(rt, client, *session)),
-            Call::Undo(session) => Answer::of_undo(desk.undo(rt, client, *session)),
-            Call::CloseSession(session) => {
-                let answer = desk.close_session(rt, client, *session);
-                Answer::of_reply(answer, Reply::Closed)
-            }
+            Call::Open { session, version } => Err(self.opened(desk, client, *session, *version)),
+            Call::Undo(session) => Err(self.undone(desk, client, *session)),
+            Call::CloseSession(session) => Err(self.closed(desk, client, *session)),
+            Call::Snapshot(session) => of_table(desk.snapshot(rt, client, *session)),
             Call::EditKnown {
                 session,
                 base,
                 edits,
-            } => Answer::of_edit(desk.edit_known(rt, alloc, client, *session, base, edits, runner)),
+            } => of_edit(desk.edit_known(rt, alloc, client, *session, base, edits, runner)),
             Call::Edit {
                 session,
                 version,
                 edits,
-            } => Answer::of_edit(desk.edit(rt, alloc, client, *session, version, edits, runner)),
-            Call::Recognize(version) => Answer::of_edit(client.recognize(version)),
-            Call::Version(number) => Answer::of_read(client.version(*number)),
+            } => of_edit(desk.edit(rt, alloc, client, *session, version, edits, runner)),
+            Call::Recognize(version) => of_edit(client.recognize(version)),
+            Call::Version(number) => of_read(client.version(*number)),
         }
+    }
+
+    /// A client makes a call in the window, and its answer is told, unless memory ran out.
+    pub(crate) fn push_answer<N: Naming, R: StateRepresentation>(
+        &self,
+        desk: &Desk<N, R, &H>,
+        client: &mut Client<N, R>,
+        call: &Call<'_, N, R>,
+        window: &mut Window,
+        text: &mut Told,
+    ) -> bool {
+        window.begin();
+        let answer = self.answer(desk, client, call);
+        window.end();
+        push_found(self.alloc, text, answer)
     }
 }

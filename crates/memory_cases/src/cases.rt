@@ -3,10 +3,7 @@ use crate::refusals::{Refused, Window};
 use crate::scene::{Scene, step_count};
 use crate::sweep::Sweep;
 use crate::turn::Turn;
-use crate::{
-    desks, drafts, graphs, imports, lists, makers, orders, planted, recorded, runs, serves, tables,
-    versions,
-};
+use crate::{desks, drafts, graphs, lists, makers, orders, planted, runs, tables, writers};
 use anyhow::Result;
 use level_pool::{OneThread, Runner};
 use share_tree::Keeps;
@@ -25,12 +22,8 @@ fn show_by<R: StateRepresentation, W: Runner>(
     match scene.group {
         "table" => tables::show::<R, W>(window, scene, turn, runner),
         "run" => runs::show::<R, W>(window, scene, turn, runner),
-        "serve" => serves::show::<R, W>(window, scene, turn, runner),
-        "recorded" => {
-            recorded::show::<R, W>(window, scene, turn, runner);
-            Ok(())
-        }
-        _ => versions::show::<R, W>(window, scene, turn, runner),
+        "serve" | "recorded" | "import" => writers::show::<R, W>(window, scene, turn, runner),
+        _ => drafts::show_by::<R, W>(window, scene, turn, runner),
     }
 }
 
@@ -49,10 +42,6 @@ fn show<F: Keeps<u32>, R: StateRepresentation, H: Threads + Wait + Sync>(
         "order" => orders::show::<R>(window, scene, turn),
         "draft" => drafts::show::<R, H>(rt, window, scene, turn),
         "desk" => desks::show::<R, H>(rt, window, scene, turn),
-        "import" => {
-            imports::show(window, scene, turn);
-            Ok(())
-        }
         "wrong" => planted::show(window, scene.call, turn),
         _ => show_by::<R, _>(window, scene, turn, &OneThread::new(rt)),
     }

@@ -4,10 +4,11 @@ ghost use Rattle.version_store.specs.Plain.{opening_version};
 ghost use Rattle.session_core.specs.Machine.{opening};
 
 use crate::calls::Trial;
+use crate::closing::Started;
 use crate::drafts::loaded;
 use crate::refusals::Window;
 use crate::scene::Scene;
-use crate::seats::{CLIENTS, Seats};
+use crate::seats::CLIENTS;
 use crate::turn::{Shown, Turn};
 use anyhow::Result;
 use desk::{Naming, NewArchive, start};
@@ -54,12 +55,12 @@ fn show_on_named<N: Naming, R: StateRepresentation, H: Wait, W: Runner>(
         shown.out_of_memory = true;
         return Ok(());
     };
-    let seats = Seats {
+    let started = Started {
         trial,
         desk,
         clients,
     };
-    seats.show(calls, shown)
+    started.show(calls, shown)
 }
 
 /// Starts a new desk in the window, and plays a case on it.

@@ -8,6 +8,7 @@ use crate::sources::{graph_of, held_edits_of};
 use crate::texts::{push_fault, push_version};
 use crate::told::Told;
 use crate::turn::{Turn, shown};
+use crate::versions;
 use anyhow::Result;
 use level_pool::{NoGate, OneThread, Pooled, Runner, Scoped};
 use session_core::draft_of;
@@ -49,7 +50,7 @@ fn draft<R: StateRepresentation, W: Runner>(
 }
 
 /// The draft that a step makes of a version.
-pub(crate) fn drafted<R: StateRepresentation, W: Runner>(
+fn drafted<R: StateRepresentation, W: Runner>(
     alloc: Global,
     runner: &W,
     version: &Version<R>,
@@ -57,6 +58,20 @@ pub(crate) fn drafted<R: StateRepresentation, W: Runner>(
 ) -> Result<Draft<R>> {
     let edits = held_edits_of(alloc, step)?;
     Ok(draft_of(alloc, version, &edits, runner)?)
+}
+
+/// The version with this number that a step makes of another one.
+pub(crate) fn made_of<R: StateRepresentation, W: Runner>(
+    alloc: Global,
+    runner: &W,
+    version: &Version<R>,
+    step: &str,
+    number: u32,
+) -> Result<Version<R>> {
+    let draft = drafted(alloc, runner, version, step)?;
+    let made = draft.numbered(number);
+    drop(draft);
+    Ok(made?)
 }
 
 /// Tells a draft, as version 1.
@@ -117,15 +132,18 @@ fn show_on<R: StateRepresentation, W: Runner>(
     Ok(())
 }
 
-/// The draft that the step makes of version 0 of the recording, by a runner.
-fn show_by<R: StateRepresentation, W: Runner>(
+/// The draft that the step makes of version 0 of the recording, by a runner; or what is asked of the version that it makes.
+pub(crate) fn show_by<R: StateRepresentation, W: Runner>(
     window: &mut Window,
     scene: Scene<'_>,
     turn: &mut Turn,
     runner: &W,
 ) -> Result<()> {
     let version: Version<R> = loaded(window.alloc, scene.recording())?;
-    show_on(window, scene.step(), turn, runner, &version)
+    match scene.group {
+        "draft" => show_on(window, scene.step(), turn, runner, &version),
+        _ => versions::show(window, scene, turn, runner, &version),
+    }
 }
 
 /// A draft, by the runner that the call names.

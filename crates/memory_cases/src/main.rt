@@ -10,21 +10,19 @@
 
 mod calls;
 mod cases;
+mod closing;
 mod desks;
 mod drafts;
 mod graphs;
-mod imports;
 mod lists;
 mod makers;
 mod orders;
 mod planted;
-mod recorded;
 mod refusals;
 mod reports;
 mod runs;
 mod scene;
 mod seats;
-mod serves;
 mod sources;
 mod sweep;
 mod tables;
@@ -32,6 +30,7 @@ mod texts;
 mod told;
 mod turn;
 mod versions;
+mod writers;
 mod written;
 
 use anyhow::Result;

@@ -61,7 +61,7 @@ fn write<R: StateRepresentation, W: Runner>(
 ) -> Result<(), ReportFault>
     requires { write_failures sink.old ≡ 0 }
 {
-    let (scene, last, form) = (asked.scene, &asked.last, form_named(asked.scene.group));
+    let (scene, last, form) = (asked.scene, asked.last, form_named(asked.scene.group));
     match report_named(scene.call, scene.number) {
         Report::Of(what) => tell_report(alloc, last, what, form, sink),
         Report::Sweep(place) => tell_sweep(alloc, last, place, None, asked.runner, form, sink),

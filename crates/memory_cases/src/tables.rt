@@ -5,15 +5,13 @@ ghost use Rattle.session_core.specs.Adding.{IsOfState};
 use crate::drafts::loaded;
 use crate::refusals::Window;
 use crate::scene::Scene;
-use crate::sources::{commit_of, event_of, graph_of};
+use crate::sources::{event_of, graph_of};
 use crate::texts::{push_edits, push_version};
 use crate::told::Told;
 use crate::turn::{Turn, shown};
 use anyhow::Result;
 use level_pool::Runner;
 use session_core::{Entry, Event, Ready, Reply, Table, TableFault, draft_of};
-use share_tree::Held;
-use stage_graph::Edits;
 use std::alloc::Global;
 use version_store::{Draft, StateRepresentation, Version};
 
@@ -173,57 +171,38 @@ fn reply_by_client<R: StateRepresentation, W: Runner>(
     }
 }
 
-/// An event on a table.
+/// An event on a table, or a commit of a draft that its edits make.
 #[derive(Drop)]
-struct Taking<'a, R: StateRepresentation, W> {
+struct Calling<'a, R: StateRepresentation, W> {
     runner: &'a W,
-    is_by_client: bool,
+    scene: Scene<'a>,
+    session: u32,
     event: Event,
     table: Table<R>,
 }
 
-impl<R: StateRepresentation, W: Runner> Taking<'_, R, W> {
-    /// The call.
-    fn push_answer(&mut self, window: &mut Window, text: &mut Told) -> bool {
+impl<R: StateRepresentation, W: Runner> Calling<'_, R, W> {
+    /// The event.
+    fn push_event(&mut self, window: &mut Window, text: &mut Told) -> bool {
         let (alloc, runner) = (window.alloc, self.runner);
         window.begin();
-        let reply = match self.is_by_client {
-            true => reply_by_client(alloc, &mut self.table, runner, &self.event),
-            false => self.table.take(alloc, &self.event, runner),
+        let reply = match self.scene.call {
+            "client" => reply_by_client(alloc, &mut self.table, runner, &self.event),
+            _ => self.table.take(alloc, &self.event, runner),
         };
         window.end();
         push_reply(text, reply)
     }
 
-    fn show(&mut self, window: &mut Window, turn: &mut Turn) {
-        shown!(
-            turn,
-            window,
-            |text| push_table(window.alloc, text, &self.table),
-            |window, text| self.push_answer(window, text)
-        );
-        push_sessions(window.alloc, &mut turn.end, &mut self.table, self.runner);
-    }
-}
-
-/// A commit of edits on a table.
-#[derive(Drop)]
-struct Committing<'a, R: StateRepresentation, W> {
-    runner: &'a W,
-    scene: Scene<'a>,
-    session: u32,
-    base: u32,
-    edits: Held<Edits>,
-    table: Table<R>,
-}
-
-impl<R: StateRepresentation, W: Runner> Committing<'_, R, W> {
     /// The draft that the edits make of the table's version.
     fn own_draft(&self, alloc: Global) -> Result<Draft<R>, TableFault>
         ensures { IfOk result (λ draft. IsOfState self.now.table.state self.now.session draft) }
     {
-        let version = self.table.version(self.base)?;
-        match draft_of(alloc, version, &self.edits, self.runner) {
+        let Event::Commit { base, edit, .. } = &self.event else {
+            return Err(TableFault::Memory);
+        };
+        let version = self.table.version(*base)?;
+        match draft_of(alloc, version, edit, self.runner) {
             Ok(draft) => Ok(draft),
             Err(fault) => Err(fault),
         }
@@ -272,7 +251,10 @@ impl<R: StateRepresentation, W: Runner> Committing<'_, R, W> {
         text: &mut Told,
         other: &Version<R>,
     ) -> bool {
-        match draft_of(window.alloc, other, &self.edits, self.runner) {
+        let Event::Commit { edit, .. } = &self.event else {
+            return text.lose();
+        };
+        match draft_of(window.alloc, other, edit, self.runner) {
             Ok(draft) => self.push_commit(window, text, &draft),
             Err(_) => text.lose(),
         }
@@ -308,6 +290,7 @@ impl<R: StateRepresentation, W: Runner> Committing<'_, R, W> {
     /// The call.
     fn push_answer(&mut self, window: &mut Window, text: &mut Told) -> bool {
         match self.scene.call {
+            "take" | "client" => self.push_event(window, text),
             "foreign" => self.push_foreign(window, text),
             _ => self.push_own(window, text),
         }
@@ -362,52 +345,21 @@ fn table_before<R: StateRepresentation, W: Runner>(
     Ok(table)
 }
 
-/// A commit, after the steps before it.
-fn show_commit<'a, R: StateRepresentation, W: Runner>(
-    window: &mut Window,
-    scene: Scene<'a>,
-    turn: &mut Turn,
-    runner: &'a W,
-) -> Result<()> {
-    let (session, base, edits) = commit_of(window.alloc, scene.step())?;
-    let mut committing = Committing::<R, W> {
-        runner,
-        scene,
-        session,
-        base,
-        edits,
-        table: table_before(window.alloc, scene, runner)?,
-    };
-    committing.show(window, turn);
-    Ok(())
-}
-
-/// The last step's event, after the steps before it.
-fn show_event<R: StateRepresentation, W: Runner>(
-    window: &mut Window,
-    scene: Scene<'_>,
-    turn: &mut Turn,
-    runner: &W,
-) -> Result<()> {
-    let mut taking = Taking::<R, W> {
-        runner,
-        is_by_client: scene.call == "client",
-        event: event_of(window.alloc, scene.step())?,
-        table: table_before(window.alloc, scene, runner)?,
-    };
-    taking.show(window, turn);
-    Ok(())
-}
-
-/// An event on a table, or a commit.
+/// The last step's event on a table, or a commit of its edits, after the steps before it.
 pub(crate) fn show<R: StateRepresentation, W: Runner>(
     window: &mut Window,
     scene: Scene<'_>,
     turn: &mut Turn,
     runner: &W,
 ) -> Result<()> {
-    match scene.call {
-        "take" | "client" => show_event::<R, W>(window, scene, turn, runner),
-        _ => show_commit::<R, W>(window, scene, turn, runner),
-    }
+    let event = event_of(window.alloc, scene.step())?;
+    let mut calling = Calling::<R, W> {
+        runner,
+        scene,
+        session: event.session(),
+        event,
+        table: table_before(window.alloc, scene, runner)?,
+    };
+    calling.show(window, turn);
+    Ok(())
 }

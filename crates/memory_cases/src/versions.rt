@@ -1,5 +1,5 @@
 //! What is asked of a version, and reports of it.
-use crate::drafts::{drafted, loaded};
+use crate::drafts::made_of;
 use crate::refusals::Window;
 use crate::reports::push_report;
 use crate::scene::Scene;
@@ -9,7 +9,7 @@ use crate::turn::{Turn, shown};
 use anyhow::Result;
 use level_pool::Runner;
 use std::alloc::{AllocError, Global};
-use version_store::{Draft, StateRepresentation, Version};
+use version_store::{StateRepresentation, Version};
 
 /// Version 0 of a recording, the version that a step makes of it, and what is asked of that one.
 #[derive(Drop)]
@@ -17,7 +17,7 @@ pub(crate) struct Asked<'a, R: StateRepresentation, W> {
     pub(crate) runner: &'a W,
     pub(crate) scene: Scene<'a>,
     pub(crate) first: &'a Version<R>,
-    pub(crate) last: Version<R>,
+    pub(crate) last: &'a Version<R>,
 }
 
 /// Tells places that were touched, unless memory ran out.
@@ -63,50 +63,27 @@ impl<R: StateRepresentation, W: Runner> Asked<'_, R, W> {
         shown!(
             turn,
             window,
-            |text| push_version(window.alloc, text, &self.last),
+            |text| push_version(window.alloc, text, self.last),
             |window, text| self.push_answer(window, text)
         )
     }
 }
 
-/// What is asked of a draft as version 1.
-fn show_drafted<'a, R: StateRepresentation, W: Runner>(
-    window: &mut Window,
-    scene: Scene<'a>,
-    turn: &mut Turn,
-    runner: &'a W,
-    first: &'a Version<R>,
-    draft: &Draft<R>,
-) -> Result<()> {
-    let asked = Asked {
-        runner,
-        scene,
-        first,
-        last: draft.numbered(1)?,
-    };
-    asked.show(window, turn);
-    Ok(())
-}
-
 /// What is asked of the version that the step makes of another one.
-fn show_after<R: StateRepresentation, W: Runner>(
+pub(crate) fn show<R: StateRepresentation, W: Runner>(
     window: &mut Window,
     scene: Scene<'_>,
     turn: &mut Turn,
     runner: &W,
     first: &Version<R>,
 ) -> Result<()> {
-    let draft = drafted(window.alloc, runner, first, scene.step())?;
-    show_drafted(window, scene, turn, runner, first, &draft)
-}
-
-/// What is asked of the version that the step makes of version 0 of the recording.
-pub(crate) fn show<R: StateRepresentation, W: Runner>(
-    window: &mut Window,
-    scene: Scene<'_>,
-    turn: &mut Turn,
-    runner: &W,
-) -> Result<()> {
-    let first: Version<R> = loaded(window.alloc, scene.recording())?;
-    show_after(window, scene, turn, runner, &first)
+    let last = made_of(window.alloc, runner, first, scene.step(), 1)?;
+    let asked = Asked {
+        runner,
+        scene,
+        first,
+        last: &last,
+    };
+    asked.show(window, turn);
+    Ok(())
 }
