@@ -4,7 +4,7 @@
 //! (sections 15.17 to 15.21): sums, differences and products wrap at 64 bits, a quotient is truncated
 //! toward zero. Operands are evaluated from left to right, and the first throw is the answer.
 ghost use Rattle.std.specs.Prelude.{◌≡◌, ◌≤◌, ◌↔◌, IfOk, OnOk, IsTrue};
-ghost use Rattle.act_expr.specs.Expression.{depth, nodes};
+ghost use Rattle.act_expr.specs.Expression.{depth, nodes, cause_is, throw};
 ghost use Rattle.act_expr.specs.Forms.{tree, IsMade};
 ghost use Rattle.act_expr.specs.Meaning.{meaning, on_values, on_numbers, check, fault_number};
 ghost use Rattle.act_expr.specs.Throwing.{as_answer, name_of};
@@ -119,9 +119,10 @@ pub enum Form {
     Failed,
     /// 1 if that exception was handed over as the cause of a `CompletionException`, else 0.
     IsWrapped,
-    /// 1 if that exception, wrapped or not, has this name, else 0.
-    CauseIs(ExName),
-    Throw(ExName),
+    /// 1 if that exception, wrapped or not, has this name, else 0. The name lies apart, since it is far larger than what the
+    /// other forms hold.
+    CauseIs(Box<ExName>),
+    Throw(Box<ExName>),
 }
 
 impl Model for Expr {
@@ -261,7 +262,7 @@ impl Expr {
                 None => Ok(Value::truth(false)),
             },
             Form::CauseIs(name) => match &args.failure {
-                Some(failure) => Ok(Value::truth(failure.name == *name)),
+                Some(failure) => Ok(Value::truth(failure.name == **name)),
                 None => Ok(Value::truth(false)),
             },
             Form::Throw(name) => Err(Thrown::Named(name)),
@@ -296,6 +297,20 @@ impl Clone for Expr {
 }
 
 impl Form {
+    /// The test for an exception's name.
+    pub fn cause_is(alloc: Global, name: ExName) -> Result<Form, AllocError>
+        ensures { IfOk result (λ form. tree form ≡ cause_is name) }
+    {
+        Ok(Form::CauseIs(Box::new(alloc, name)?))
+    }
+
+    /// The throw of an exception.
+    pub fn throw(alloc: Global, name: ExName) -> Result<Form, AllocError>
+        ensures { IfOk result (λ form. tree form ≡ throw name) }
+    {
+        Ok(Form::Throw(Box::new(alloc, name)?))
+    }
+
     /// The depth of the expression of this form.
     fn depth(&self) -> u32
         ensures { result ≡ depth (tree self.now) }

@@ -7,8 +7,6 @@
 mod expr;
 mod name;
 mod outcome;
-#[cfg(test)]
-mod tests;
 
 pub use expr::{Answer, Args, Expr, ExprFault, Failure, Form, Operator, Position};
 pub use name::ExName;

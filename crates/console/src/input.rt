@@ -56,7 +56,7 @@ fn bytes(
     most: u64,
 ) -> Result<Vec<u8>, Fault> {
     match path {
-        None | Some("-") => read_whole(rt.alloc(), voice, rt.stdin(), most),
+        None | Some("-") => read_whole(rt.alloc(), voice, rt.stdin(), most, 0),
         Some(path) => bytes_of_file(rt, voice, path, most),
     }
 }
@@ -68,19 +68,25 @@ fn bytes_of_file(
     most: u64,
 ) -> Result<Vec<u8>, Fault> {
     match File::open(rt, path) {
-        Ok(file) => read_whole(rt.alloc(), voice, file, most),
+        Ok(file) => {
+            // (with room for a byte more than the file has, its end is met without further room)
+            let length = file.metadata().map_or(0, |metadata| metadata.len());
+            let room = length.saturating_add(1).min(most) as usize;
+            read_whole(rt.alloc(), voice, file, most, room)
+        }
         Err(error) => Err(Fault::Read(voice.reason(voice.file(), error))),
     }
 }
 
-/// What is read, no more than so many bytes.
+/// What is read, no more than so many bytes, with room for this many at first.
 fn read_whole<R: Read + Drop>(
     alloc: Global,
     voice: Voice<'_>,
     reader: R,
     most: u64,
+    room: usize,
 ) -> Result<Vec<u8>, Fault> {
-    let mut bytes = Vec::new(alloc);
+    let mut bytes = Vec::with_capacity(alloc, room)?;
     match reader.take(most).read_to_end(&mut bytes) {
         Ok(_) => Ok(bytes),
         Err(error) if error.kind() == io::ErrorKind::OutOfMemory => Err(Fault::Memory),

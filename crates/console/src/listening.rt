@@ -2,7 +2,8 @@
 //!
 //! The script is given on line by line, and what a line was answered is known before the next line is asked for. The
 //! answers go out as they would without it.
-ghost use Rattle.std.specs.Prelude.{◌≡◌, ◌≤◌, length, None};
+ghost use Rattle.std.specs.Prelude.{◌≡◌, ℕ, ◌+◌, ◌-◌, ◌^◌, ◌<◌, ◌≤◌, if◌then◌else◌, is_ok, [], ◌++◌, length, take, OnOk};
+ghost use Rattle.std.specs.Io.KnownBytes.{IsAtEnd, Keeps};
 
 use crate::step_telling::StepTeller;
 use memchr::memchr;
@@ -112,16 +113,22 @@ pub struct ListeningSource<'a, 't, R> {
     watch: &'a Watch,
     teller: StepTeller<'t>,
     chunk: Vec<u8>,
+    /// How much of the chunk was given on.
     taken: usize,
+    /// How much of the chunk was read.
     filled: usize,
     /// What was given on of the last line.
     line: Vec<u8>,
     number: u64,
     is_line_done: bool,
+    ghost ordered: { taken ≤ filled },
+    ghost within: { filled ≤ length chunk.items },
 }
 
 impl<'a, 't, R: Read> ListeningSource<'a, 't, R> {
-    ghost use Rattle.console.specs.Listened.{failed_reads};
+    ghost use Rattle.console.specs.Listened.{failed_reads, is_ended, script_left, waiting};
+    ghost use Rattle.console.specs.Stopping.{unless_stopped};
+    ghost use Rattle.text_io.specs.Counted.{reader_of};
 
     /// A source that has read nothing yet, by chunks as long as this one.
     pub fn new(
@@ -131,7 +138,8 @@ impl<'a, 't, R: Read> ListeningSource<'a, 't, R> {
         teller: StepTeller<'t>,
         chunk: Vec<u8>,
     ) -> ListeningSource<'a, 't, R>
-        ensures { failed_reads result ≡ 0 }
+        ensures failures { failed_reads result ≡ 0 }
+        ensures left { script_left R.remaining result ≡ unless_stopped teller.entry (length chunk.items) (R.remaining reader) }
     {
         ListeningSource {
             reader: CountedReader::new(reader),
@@ -148,7 +156,8 @@ impl<'a, 't, R: Read> ListeningSource<'a, 't, R> {
 
     /// Tells what there is to tell of the last line and its answer, and begins the next one.
     pub fn tell(&mut self)
-        ensures { failed_reads self.new ≡ failed_reads self.old }
+        ensures failures { failed_reads self.new ≡ failed_reads self.old }
+        ensures left { Keeps (script_left R.remaining self.old) (script_left R.remaining self.new) }
     {
         let mut answer = self.watch.answer.replace(Vec::new(self.watch.alloc));
         self.teller
@@ -161,20 +170,50 @@ impl<'a, 't, R: Read> ListeningSource<'a, 't, R> {
     }
 
     /// Whether the script was ended at a refused step.
-    pub fn is_stopped(&self) -> bool {
+    pub fn is_stopped(&self) -> bool
+        ensures { result ≡ is_ended self.now }
+    {
         self.teller.is_stopped()
+    }
+
+    /// Tells of the last line, if it was given on whole, and answers whether a refused step has ended the script.
+    fn ends_here(&mut self) -> bool
+        ensures failures { failed_reads self.new ≡ failed_reads self.old }
+        ensures left { Keeps (script_left R.remaining self.old) (script_left R.remaining self.new) }
+        ensures answer { result ≡ is_ended self.new }
+    {
+        if self.is_line_done {
+            self.tell();
+        }
+        self.teller.is_stopped()
+    }
+
+    /// Reads more of the script, if none waits.
+    fn fill(&mut self) -> Result<(), ReadFault>
+        requires { failed_reads self.old < 2 ^ 64 - 1 }
+        ensures teller { self.new.teller ≡ self.old.teller }
+        ensures left { Keeps (script_left R.remaining self.old) (script_left R.remaining self.new) }
+        ensures end { OnOk result (0 < length self.new.chunk.items → waiting self.new ≡ [] → IsAtEnd (R.remaining (reader_of self.new.reader))) }
+        ensures failures { failed_reads self.new ≡ failed_reads self.old + (if is_ok result then 0 else 1) }
+    {
+        if self.taken >= self.filled {
+            let count = self.reader.read(self.chunk.as_mut_slice())?;
+            self.taken = 0;
+            self.filled = count;
+        }
+        Ok(())
     }
 
     /// Gives on what waits, up to the end of a line.
     fn give(&mut self, buffer: &mut [u8]) -> usize
         ensures bound { result ≤ length buffer.new }
-        ensures failures { failed_reads self.new ≡ failed_reads self.old }
+        ensures bytes { waiting self.old ≡ take result buffer.new ++ waiting self.new }
+        ensures none { result ≡ 0 → 0 < length buffer.new → waiting self.new ≡ [] }
+        ensures reader { self.new.reader ≡ self.old.reader }
+        ensures teller { self.new.teller ≡ self.old.teller }
+        ensures room { length self.new.chunk.items ≡ length self.old.chunk.items }
     {
-        let waiting = self
-            .chunk
-            .as_slice()
-            .get(self.taken..self.filled)
-            .unwrap_or(&[]);
+        let waiting = &self.chunk.as_slice()[self.taken..self.filled];
         let end = match memchr(b'\n', waiting) {
             Some(index) => index + 1,
             None => waiting.len(),
@@ -188,31 +227,24 @@ impl<'a, 't, R: Read> ListeningSource<'a, 't, R> {
         if self.line.extend_from_slice(front).is_err() {
             self.line.clear();
         }
-        self.taken = self.taken.saturating_add(count);
+        self.taken += count;
         self.watch.is_more.set(self.taken < self.filled);
         count
     }
 }
 
 impl<R: Read> Source for ListeningSource<'_, '_, R> {
-    ghost use Rattle.console.specs.Listened.{failed_reads};
+    ghost use Rattle.console.specs.Listened.{failed_reads, script_left};
 
-    ghost remaining = { λ _. None };
+    ghost remaining = { script_left R.remaining };
 
     ghost failures = { failed_reads };
 
     fn read(&mut self, buffer: &mut [u8]) -> Result<usize, ReadFault> {
-        if self.is_line_done {
-            self.tell();
-        }
-        if self.teller.is_stopped() {
+        if self.ends_here() {
             return Ok(0);
         }
-        if self.taken >= self.filled {
-            let count = self.reader.read(self.chunk.as_mut_slice())?;
-            self.taken = 0;
-            self.filled = count;
-        }
+        self.fill()?;
         Ok(self.give(buffer))
     }
 }

@@ -1,4 +1,6 @@
 //! What is told of the steps of a script, by line.
+ghost use Rattle.std.specs.Prelude.{◌≡◌, false, IsTrue};
+
 use crate::json_refusal::text_of_refusal;
 use crate::listening::{is_json_refusal, may_be_refusal};
 use crate::voice::Voice;
@@ -21,7 +23,8 @@ pub struct StepTeller<'a> {
     known: KnownStages,
     /// Whether the first refused step ends the script.
     is_strict: bool,
-    is_stopped: bool,
+    /// Whether there was one, where it ends the script.
+    is_refused: bool,
     /// Of how many lines something was told.
     told: usize,
 }
@@ -46,24 +49,34 @@ fn first_line(answer: &[u8]) -> Option<&str> {
 }
 
 impl<'a> StepTeller<'a> {
-    pub fn new(alloc: Global, voice: Voice<'a>, recording: Vec<u8>) -> StepTeller<'a> {
+    ghost use Rattle.console.specs.Stopping.{has_stopped, may_stop};
+
+    pub fn new(alloc: Global, voice: Voice<'a>, recording: Vec<u8>) -> StepTeller<'a>
+        ensures { has_stopped result ≡ false }
+    {
         StepTeller {
             alloc,
             voice,
             recording,
             known: KnownStages::new(alloc),
             is_strict: voice.is_strict(),
-            is_stopped: false,
+            is_refused: false,
             told: 0,
         }
     }
 
-    pub fn is_stopped(&self) -> bool {
-        self.is_stopped
+    /// Whether a refused step has ended the script.
+    pub fn is_stopped(&self) -> bool
+        ensures { result ≡ has_stopped self.now }
+    {
+        self.is_strict && self.is_refused
     }
 
     /// Tells of a line and of what it was answered.
-    pub fn tell(&mut self, number: u64, line: &[u8], answer: &[u8]) {
+    pub fn tell(&mut self, number: u64, line: &[u8], answer: &[u8])
+        ensures may_stop { may_stop self.new ≡ may_stop self.old }
+        ensures stopped { IsTrue (has_stopped self.old) → IsTrue (has_stopped self.new) }
+    {
         // (of most lines there is nothing to tell, and a look at them shows it)
         let may_be_unread = may_step_be_unread(line);
         if may_be_unread || may_be_refusal(answer) {
@@ -72,7 +85,10 @@ impl<'a> StepTeller<'a> {
     }
 
     /// Tells of a line that may be refused, or may have what nothing reads.
-    fn tell_of_answer(&mut self, number: u64, line: &[u8], answer: &[u8], may_be_unread: bool) {
+    fn tell_of_answer(&mut self, number: u64, line: &[u8], answer: &[u8], may_be_unread: bool)
+        ensures may_stop { may_stop self.new ≡ may_stop self.old }
+        ensures stopped { IsTrue (has_stopped self.old) → IsTrue (has_stopped self.new) }
+    {
         let first = first_line(answer).unwrap_or("");
         let read = match first.as_bytes() {
             [b'{', ..] => text_of_refusal(self.alloc, first),
@@ -92,12 +108,15 @@ impl<'a> StepTeller<'a> {
         }
         // (a refusal as JSON is known by its front, as its text takes memory)
         if self.is_strict && (refusal.is_some() || is_json_refusal(answer)) {
-            self.is_stopped = true;
+            self.is_refused = true;
         }
     }
 
     /// Reads the names of the recording's stages, unless that is done.
-    fn read_names(&mut self) -> Result<(), AllocError> {
+    fn read_names(&mut self) -> Result<(), AllocError>
+        ensures strict { self.new.is_strict ≡ self.old.is_strict }
+        ensures refused { self.new.is_refused ≡ self.old.is_refused }
+    {
         if self.recording.is_empty() {
             return Ok(());
         }
@@ -117,7 +136,10 @@ impl<'a> StepTeller<'a> {
         findings: &Findings<'_>,
         step: &Value,
         refusal: Refusal<'_>,
-    ) -> Result<(), AllocError> {
+    ) -> Result<(), AllocError>
+        ensures strict { self.new.is_strict ≡ self.old.is_strict }
+        ensures refused { self.new.is_refused ≡ self.old.is_refused }
+    {
         if refusal.is_of_names() {
             self.read_names()?;
         }
@@ -132,7 +154,10 @@ impl<'a> StepTeller<'a> {
         number: u64,
         line: &[u8],
         refusal: Option<Refusal<'_>>,
-    ) -> Result<(), AllocError> {
+    ) -> Result<(), AllocError>
+        ensures strict { self.new.is_strict ≡ self.old.is_strict }
+        ensures refused { self.new.is_refused ≡ self.old.is_refused }
+    {
         if refusal.is_some_and(|refusal| refusal.number == 72) {
             self.voice
                 .say_of_line(number, "the step has more than 65536 bytes");

@@ -13,8 +13,6 @@ mod pool;
 mod runner;
 mod runners;
 mod several_parts;
-#[cfg(test)]
-mod tests;
 mod workers;
 
 pub use fault::PoolFault;

@@ -1,5 +1,5 @@
 //! A client with its script, which it answers in a thread of its own.
-ghost use Rattle.std.specs.Prelude.{◌≡◌, ◌-◌, ◌^◌, ◌<◌, [], length, IfOk, IfErr};
+ghost use Rattle.std.specs.Prelude.{◌≡◌, ◌-◌, ◌^◌, ◌<◌, [], IfOk, IfErr};
 ghost use Rattle.many_scripts.specs.Playing.{HasHeard};
 ghost use Rattle.many_scripts.specs.Scripts.{EndsReading, IsPlay, IsReady};
 
@@ -13,17 +13,11 @@ use report_json::Format;
 use script_lines::LineReader;
 use serve_script::ServeFault;
 use stage_graph::InShared;
-use std::alloc::{AllocError, Global};
+use std::alloc::Global;
 use std::sync::Wait;
 use std::thread::Threads;
 use text_io::{CountedWriter, Source};
 use version_store::StateRepresentation;
-
-/// The most bytes that are read at once.
-const AT_ONCE: usize = 65_536;
-
-/// The most bytes that are read of a script.
-const MOST: usize = 1_073_741_824;
 
 /// A client with its script, and the text for it.
 #[derive(Drop)]
@@ -89,12 +83,6 @@ pub(crate) fn play_by_workers<
     }
 }
 
-fn filled_buffer(alloc: Global, len: usize) -> Result<Vec<u8>, AllocError>
-    ensures { IfOk result (λ buffer. length buffer.items ≡ len) }
-{
-    vec![in alloc; 0; len]
-}
-
 /// What a new client writes for its script.
 fn play_alone<N: Naming, K: StateRepresentation, H: Wait + Drop, W: Runner, R: Source>(
     access: &Access<'_, N, K, H, W>,
@@ -109,8 +97,7 @@ fn play_alone<N: Naming, K: StateRepresentation, H: Wait + Drop, W: Runner, R: S
     ensures err { IfErr result (EndsReading R.remaining R.failures source.old) }
 {
     let mut sink = CountedWriter::new(script_line(access.alloc, format, client.number())?);
-    let buffer = filled_buffer(access.alloc, AT_ONCE)?;
-    let mut reader = LineReader::new(access.alloc, buffer, MOST);
+    let mut reader = LineReader::new(access.alloc)?;
     match play(access, format, client, &mut reader, source, &mut sink) {
         Ok(()) => Ok(sink.into_inner()),
         Err(ServeFault::Read) => Err(ManyFault::Read),

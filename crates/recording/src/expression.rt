@@ -111,13 +111,13 @@ fn read_form(alloc: Global, word: Word, rest: &[Value]) -> Result<Expr, Unread>
             let Some(name) = exception_in(name) else {
                 return Err(Unread::Shape);
             };
-            Ok(Expr::new(alloc, Form::CauseIs(name))?)
+            Ok(Expr::new(alloc, Form::cause_is(alloc, name)?)?)
         }
         (Word::Throw, [name]) => {
             let Some(name) = exception_in(name) else {
                 return Err(Unread::Shape);
             };
-            Ok(Expr::new(alloc, Form::Throw(name))?)
+            Ok(Expr::new(alloc, Form::throw(alloc, name)?)?)
         }
         _ => Err(Unread::Shape),
     }

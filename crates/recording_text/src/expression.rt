@@ -126,7 +126,7 @@ pub(crate) fn push_expression(line: &mut Line, expression: &Expr) -> Result<(), 
         Form::IsNull(operand) => push_is_null(line, operand),
         Form::Failed => push_only_word(line, "failed"),
         Form::IsWrapped => push_only_word(line, "iswrapped"),
-        Form::CauseIs(name) => push_named_word(line, "causeis", *name),
-        Form::Throw(name) => push_named_word(line, "throw", *name),
+        Form::CauseIs(name) => push_named_word(line, "causeis", **name),
+        Form::Throw(name) => push_named_word(line, "throw", **name),
     }
 }

@@ -8,5 +8,5 @@ mod partial_line;
 
 pub use fault::LineFault;
 pub use line::Line;
-pub use line_reader::LineReader;
+pub use line_reader::{AT_ONCE, LineReader};
 pub use partial_line::{PartialLine, split_line};

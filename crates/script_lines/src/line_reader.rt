@@ -13,6 +13,12 @@ use std::alloc::{AllocError, Global};
 use std::marker::Model;
 use text_io::{ReadFault, Source};
 
+/// The most bytes of a script that are read at once.
+pub const AT_ONCE: usize = 8_192;
+
+/// The most bytes that are read of a script.
+const MOST: usize = 1_073_741_824;
+
 /// Reads the lines of a script one after the other, a piece of the script at a time. Contracts see the line that was read
 /// last, the bytes read after it, and how many bytes may still be read.
 #[derive(Drop)]
@@ -47,20 +53,20 @@ impl Model for LineReader {
 }
 
 impl LineReader {
-    /// A reader of at most this many bytes, through this buffer.
-    pub fn new(alloc: Global, buffer: Vec<u8>, most: usize) -> LineReader
-        requires { 0 < length buffer.items }
-        ensures line { result.line ≡ Some [] }
-        ensures waiting { result.waiting ≡ [] }
-        ensures left { result.left ≡ most }
+    /// A reader of a script, of which 2^30 bytes may be read.
+    pub fn new(alloc: Global) -> Result<LineReader, AllocError>
+        ensures line { IfOk result (λ reader. reader.line ≡ Some []) }
+        ensures waiting { IfOk result (λ reader. reader.waiting ≡ []) }
+        ensures left { IfOk result (λ reader. reader.left ≡ 2 ^ 30) }
     {
-        LineReader {
+        let buffer = vec![in alloc; 0; AT_ONCE]?;
+        Ok(LineReader {
             line: PartialLine::new(alloc),
             buffer,
             taken: 0,
             filled: 0,
-            left: most,
-        }
+            left: MOST,
+        })
     }
 
     /// The line, if it has ended; None where it is a blank one.

@@ -16,16 +16,10 @@ use level_pool::Runner;
 use report_json::Format;
 use script_lines::{Line, LineReader};
 use stage_graph::Graph;
-use std::alloc::{AllocError, Global};
+use std::alloc::Global;
 use std::mem::forget;
 use text_io::{Sink, Source};
 use version_store::{StateRepresentation, Version};
-
-/// The most bytes that are read at once.
-const AT_ONCE: usize = 8_192;
-
-/// The most bytes that are read in total.
-const MOST: usize = 1_073_741_824;
 
 /// Reads a script to its end, and writes the answers to its steps as they come: version 0 has the graph, and 65,536 versions
 /// are allowed. What was written is flushed before each read, so that a reader who waits for an answer gets it.
@@ -121,15 +115,8 @@ fn answer_script<K: StateRepresentation, W: Runner, R: Source, S: Sink>(
         (R.failures source.old) (R.failures source.new) (S.held sink.old) (S.held sink.new)) }
     ensures failures { S.failures sink.new ≡ S.failures sink.old + failed_writes_of_serve result }
 {
-    let buffer = filled_buffer(alloc, AT_ONCE)?;
-    let mut lines = LineReader::new(alloc, buffer, MOST);
+    let mut lines = LineReader::new(alloc)?;
     serve_lines(&mut lines, source, server, format, sink)
-}
-
-fn filled_buffer(alloc: Global, len: usize) -> Result<Vec<u8>, AllocError>
-    ensures { IfOk result (λ buffer. length buffer.items ≡ len) }
-{
-    vec![in alloc; 0; len]
 }
 
 // Answers a script, up to as many bytes as may be read.

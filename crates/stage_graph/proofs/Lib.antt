@@ -15,3 +15,4 @@ pub mod Turning
 pub mod Kept
 pub mod Telling
 pub mod FirstDependent
+pub mod Distinct

@@ -28,6 +28,11 @@ abbrev pub first_refused : (List ℕ → Option ℕ) → ℕ → List Spec → O
 first_refused find place [] = None
 first_refused find place (spec ∷ specs) = or_later place (refusal_of find place spec) (first_refused find (place + 1) specs)
 
+-- each name is found first at the place of its stage, where the first of these stages stands at a place
+abbrev pub AreFirst : (List ℕ → Option ℕ) → ℕ → List Spec → Type 0
+AreFirst find place [] = Unit {0}
+AreFirst find place (spec ∷ specs) = (find spec.name ≡ Some place) × AreFirst find (place + 1) specs
+
 -- the stages, one after the other
 abbrev pub stages_from : (List ℕ → Option ℕ) → ℕ → List Spec → List (Option Stage)
 stages_from find place [] = []

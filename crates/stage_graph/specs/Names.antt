@@ -23,13 +23,13 @@ places_of find names = map (λ name. unwrap_or (find name) 0) names
 abbrev pub known_places : (List ℕ → Option ℕ) → List (List ℕ) → Option (List ℕ)
 known_places find names = if are_known find names then Some (places_of find names) else None
 
--- the places of a stage's feeds
-abbrev pub feeds_of : (List ℕ → Option ℕ) → Spec → Feeds
-feeds_of find spec = record { sources = places_of find spec.sources; inner = places_of find spec.inner }
+-- the places of sources and inner stages
+abbrev pub feeds_of : (List ℕ → Option ℕ) → List (List ℕ) → List (List ℕ) → Feeds
+feeds_of find sources inner = record { sources = places_of find sources; inner = places_of find inner }
 
--- those, if each of the feeds has one
-abbrev pub known_feeds : (List ℕ → Option ℕ) → Spec → Option Feeds
-known_feeds find spec = if are_known find spec.sources && are_known find spec.inner then Some (feeds_of find spec) else None
+-- those, if each of these names has one
+abbrev pub known_feeds : (List ℕ → Option ℕ) → List (List ℕ) → List (List ℕ) → Option Feeds
+known_feeds find sources inner = if are_known find sources && are_known find inner then Some (feeds_of find sources inner) else None
 
 -- the stage at a place, where its feeds have these places
 abbrev pub placed : ℕ → Feeds → Spec → Stage
@@ -50,7 +50,7 @@ placed place feeds spec = record {
 
 -- the stage that stands at a place, with places for names
 abbrev pub stage_of : (List ℕ → Option ℕ) → ℕ → Spec → Stage
-stage_of find place spec = placed place (feeds_of find spec) spec
+stage_of find place spec = placed place (feeds_of find spec.sources spec.inner) spec
 
 -- the first place of a name of a list
 abbrev pub first_place : FirstPlaces → List ℕ → Option ℕ

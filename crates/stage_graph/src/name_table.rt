@@ -1,9 +1,9 @@
 //! A table of names.
-ghost use Rattle.std.specs.Prelude.{◌≡◌, ℕ, ◌<◌, ◌^◌, List, Some, None, if◌then◌else◌, IfOk, IfErr, OnOk, unwrap_or};
+ghost use Rattle.std.specs.Prelude.{◌≡◌, ℕ, ◌<◌, ◌^◌, List, Some, None, if◌then◌else◌, IfOk, IfErr, OnOk, unwrap_or, not, is_some};
 ghost use Rattle.std.specs.Str.{bytes_eq};
 ghost use Rattle.stage_graph.specs.Checks.{are_known};
 ghost use Rattle.stage_graph.specs.Hashers.{after_names, hashes_begin};
-ghost use Rattle.stage_graph.specs.Names.{first_place, found, known_feeds, known_places, places_of, stage_of};
+ghost use Rattle.stage_graph.specs.Names.{first_place, found, known_feeds, known_places, stage_of};
 
 use crate::checks::{Checks, MOST_PLACES, checks_of};
 use crate::fault::EditFault;
@@ -42,12 +42,18 @@ impl FirstPlaces {
         self.places.get(name).copied()
     }
 
-    /// Sets the place of a name, in place of the one that it has, if any.
-    pub(crate) fn set(&mut self, alloc: Global, name: &str, place: usize) -> Result<(), AllocError>
-        ensures { OnOk result ((other : List ℕ) → first_place self.new other ≡ (if bytes_eq name.now other then Some place else first_place self.old other)) }
+    /// Sets the place of a name, in place of the one that it has, if any. The answer is whether it has none.
+    pub(crate) fn set(
+        &mut self,
+        alloc: Global,
+        name: &str,
+        place: usize,
+    ) -> Result<bool, AllocError>
+        ensures sets { OnOk result ((other : List ℕ) → first_place self.new other ≡ (if bytes_eq name.now other then Some place else first_place self.old other)) }
+        ensures new { IfOk result (λ is_new. is_some (first_place self.old name.now) ≡ not is_new) }
     {
-        self.places.insert(String::from_str(alloc, name)?, place)?;
-        Ok(())
+        let old = self.places.insert(String::from_str(alloc, name)?, place)?;
+        Ok(old.is_none())
     }
 }
 
@@ -102,19 +108,6 @@ impl NameTable {
     {
         names.iter().all(|name| self.get(name.as_str()).is_some())
     }
-
-    /// The places of names.
-    pub(crate) fn places_of(&self, alloc: Global, names: &NameList) -> Result<Places, AllocError>
-        requires { (name : List ℕ) → unwrap_or (found self.now name) 0 < 2 ^ 32 }
-        ensures { IfOk result (λ places. places ≡ places_of (found self.now) names.now) }
-    {
-        let places = names
-            .as_slice()
-            .iter()
-            .map(|name| self.get(name.as_str()).unwrap_or(0) as u32)
-            .collect(alloc)?;
-        Ok(Places::from_vec(places))
-    }
 }
 
 impl NameTable {
@@ -146,15 +139,20 @@ impl NameTable {
         Ok(Some(Places::from_vec(places)))
     }
 
-    /// The places of a stage's feeds, if each of them has one.
-    fn known_feeds(&self, alloc: Global, spec: &Spec) -> Result<Option<Feeds>, AllocError>
+    /// The places of what a stage is fed by, its sources and its inner stages, if each of them has one.
+    pub(crate) fn known_feeds(
+        &self,
+        alloc: Global,
+        sources: &NameList,
+        inner: &NameList,
+    ) -> Result<Option<Feeds>, AllocError>
         requires { (name : List ℕ) → unwrap_or (found self.now name) 0 < 2 ^ 32 }
-        ensures { IfOk result (λ feeds. feeds ≡ known_feeds (found self.now) spec.now) }
+        ensures { IfOk result (λ feeds. feeds ≡ known_feeds (found self.now) sources.now inner.now) }
     {
-        let Some(sources) = self.known_places(alloc, &spec.sources)? else {
+        let Some(sources) = self.known_places(alloc, sources)? else {
             return Ok(None);
         };
-        let Some(inner) = self.known_places(alloc, &spec.inner)? else {
+        let Some(inner) = self.known_places(alloc, inner)? else {
             return Ok(None);
         };
         Ok(Some(Feeds { sources, inner }))
@@ -174,7 +172,7 @@ impl NameTable {
         ensures passes { OnOk result (first_refusal (checks_of free (found self.now) place spec.now) ≡ None) }
         ensures fault { IfErr result (IsFaultOf (first_refusal (checks_of free (found self.now) place spec.now))) }
     {
-        let feeds = self.known_feeds(alloc, spec)?;
+        let feeds = self.known_feeds(alloc, &spec.sources, &spec.inner)?;
         let checks = checks_of(free, feeds.is_some(), place as usize, spec);
         if let Some(refusal) = checks.first_refusal() {
             return Err(EditFault::Refused(refusal));

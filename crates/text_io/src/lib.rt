@@ -7,8 +7,6 @@
 
 mod sink;
 mod source;
-#[cfg(test)]
-mod tests;
 
 pub use sink::{CountedWriter, Sink, WriteFault};
 pub use source::{CountedReader, ReadFault, Source};

@@ -3,7 +3,6 @@ ghost use Rattle.std.specs.Prelude.{◌≡◌};
 ghost use Rattle.stage_graph.specs.Walk.{IsRanked};
 ghost use Rattle.text_io.specs.Counted.{write_failures};
 
-use crate::AT_ONCE;
 use crate::fault::{served, written};
 use clap::ArgMatches;
 use console::{
@@ -13,6 +12,7 @@ use console::{
 use level_pool::Runner;
 use recording_text::write_recording;
 use report_json::Format;
+use script_lines::AT_ONCE;
 use serve_script::play;
 use stage_graph::Graph;
 use std::alloc::Global;

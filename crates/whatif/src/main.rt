@@ -24,6 +24,7 @@ use level_pool::{OneThread, Pooled, Runner};
 use recording_pictures::{Asked, Form as PictureForm, draw_recording, scope_named};
 use recording_reports::{StageReport, report_all, report_stage};
 use report_json::Format;
+use script_lines::AT_ONCE;
 use serve_script::serve_last;
 use stage_graph::{Graph, InShared};
 use std::alloc::Global;
@@ -35,9 +36,6 @@ use std::thread::Threads;
 use text_io::{Sink, Source};
 use trace_import::{Options, Unit, import};
 use version_store::StateRepresentation;
-
-/// The most bytes of a script that are read at once.
-pub(crate) const AT_ONCE: usize = 8_192;
 
 fn main(rt: HostRuntime) -> ExitCode {
     let format = Cell::new(Format::Text);

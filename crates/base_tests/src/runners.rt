@@ -1,7 +1,7 @@
 //! Test cases of runners.
 ghost use Rattle.std.specs.Prelude.{◌≡◌, ◌*◌, ◌<◌, ◌≤◌, ◌^◌, IfOk, All, map};
 
-use crate::{Gate, NoGate, OneThread, PoolFault, Pooled, Runner, Scoped};
+use level_pool::{Gate, NoGate, OneThread, PoolFault, Pooled, Runner, Scoped};
 use std::alloc::{AllocError, Global};
 use std::process::Abort;
 use std::sync::atomic::{AtomicU64, Ordering};

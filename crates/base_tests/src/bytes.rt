@@ -1,9 +1,9 @@
 //! Writers and readers that take or give little at a time, are interrupted, and fail.
 
-use crate::{CountedReader, CountedWriter, ReadFault, Sink, Source, WriteFault};
 use std::alloc::Global;
 use std::io::{self, BufWriter, ErrorKind, Read, Write};
 use std::test::Fail;
+use text_io::{CountedReader, CountedWriter, ReadFault, Sink, Source, WriteFault};
 
 // Takes this many bytes at a time, and fails once this many writes were made. Each write is interrupted
 // first.

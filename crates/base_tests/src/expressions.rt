@@ -1,5 +1,5 @@
 //! Test cases of expressions, names and outcomes.
-use crate::{Answer, Args, ExName, Expr, ExprFault, Failure, Form, Operator, Outcome, Value};
+use act_expr::{Answer, Args, ExName, Expr, ExprFault, Failure, Form, Operator, Outcome, Value};
 use std::alloc::{AllocError, Global};
 use std::test::Fail;
 
@@ -65,7 +65,7 @@ fn copy_and_handle(rt: HostRuntime) -> Result<(), Fail> {
     let alloc = rt.alloc();
     let name = ExName::new("X").expect(&rt, "a name");
     let wrapped = Expr::new(alloc, Form::IsWrapped)?;
-    let cause = Expr::new(alloc, Form::CauseIs(name))?;
+    let cause = Expr::new(alloc, Form::cause_is(alloc, name)?)?;
     let both = Expr::new(alloc, Form::Binary(Operator::Add, wrapped, cause))?;
     let failed = Expr::new(alloc, Form::Failed)?;
     let nine = number(alloc, 9)?;
