@@ -1,0 +1,298 @@
+//! The jobs, each over inputs of its own.
+
+ghost use Rattle.std.specs.Prelude.{◌≡◌, IfOk};
+ghost use Rattle.stage_graph.specs.Walk.{IsRanked};
+ghost use Rattle.text_io.specs.Counted.{write_failures};
+
+use crate::digest::Digest;
+use crate::names::name;
+use crate::recordings::{Plan, Shape, recording};
+use crate::scripts::{great_edits, small_edits};
+use crate::traces::{Form as TraceForm, trace};
+use anyhow::{Result, bail};
+use level_pool::Runner;
+use recording::read_recording;
+use report_json::{Form, Format, tell_report, tell_sweep};
+use report_text::What;
+use serve_script::serve;
+use stage_graph::Graph;
+use std::alloc::Global;
+use text_io::{CountedReader, CountedWriter, Sink};
+use trace_import::{Options, Unit, import};
+use version_store::{StateRepresentation, Version};
+
+/// A job.
+#[derive(Clone, Copy, PartialEq, Eq)]
+pub(crate) enum Job {
+    /// Recordings are read, and all their stages reported, as text and as JSON.
+    Report,
+    /// Scripts of small edits and their reports.
+    Serve,
+    /// Scripts of edits that touch every stage.
+    Spread,
+    /// Which stages are worth making faster; a chain, where each trial reaches all that comes after, is the awkward one.
+    Sweep,
+    /// Traces are imported.
+    Import,
+}
+
+impl Job {
+    /// The job of a name.
+    pub(crate) fn named(name: &str) -> Option<Job> {
+        match name {
+            "report" => Some(Job::Report),
+            "serve" => Some(Job::Serve),
+            "spread" => Some(Job::Spread),
+            "sweep" => Some(Job::Sweep),
+            "import" => Some(Job::Import),
+            _ => None,
+        }
+    }
+}
+
+/// How large the inputs are: a number of stages, spans, steps or edits is divided by this.
+#[derive(Clone, Copy)]
+pub(crate) struct Scale {
+    pub divisor: u32,
+}
+
+impl Scale {
+    fn of(self, size: u32) -> u32 {
+        match size.checked_div(self.divisor) {
+            Some(scaled) => scaled,
+            None => size,
+        }
+    }
+}
+
+/// The graph of a recording.
+fn read<R: StateRepresentation>(alloc: Global, text: &str) -> Result<Graph<R>>
+    ensures { IfOk result (λ graph. IsRanked graph.places) }
+{
+    match read_recording(alloc, text.as_bytes()) {
+        Ok(graph) => Ok(graph),
+        Err(fault) => bail!("{fault}"),
+    }
+}
+
+/// Version 0 of a recording.
+fn loaded<R: StateRepresentation>(alloc: Global, text: &str) -> Result<Version<R>> {
+    let graph = read(alloc, text)?;
+    Ok(Version::load(alloc, graph)?)
+}
+
+/// What is written into a buffer.
+type Written = CountedWriter<Vec<u8>>;
+
+/// A buffer that nothing was written to.
+fn unwritten(alloc: Global) -> Written
+    ensures { write_failures result ≡ 0 }
+{
+    CountedWriter::new(Vec::new(alloc))
+}
+
+/// Takes into a digest what was written.
+fn taken(digest: &mut Digest, written: Written) {
+    let bytes = written.into_inner();
+    digest.take(bytes.as_slice());
+}
+
+/// Takes in a report of a version.
+fn report_in<R: StateRepresentation>(
+    alloc: Global,
+    version: &Version<R>,
+    what: What,
+    form: Form,
+    digest: &mut Digest,
+) -> Result<()> {
+    let mut sink = unwritten(alloc);
+    tell_report(alloc, version, what, form, &mut sink)?;
+    taken(digest, sink);
+    Ok(())
+}
+
+/// Takes in the reports of a recording.
+fn reports<R: StateRepresentation>(alloc: Global, plan: &Plan, digest: &mut Digest) -> Result<()> {
+    let text = recording(alloc, plan)?;
+    let version = loaded::<R>(alloc, text.as_str())?;
+    report_in(alloc, &version, What::All, Form::Text, digest)?;
+    report_in(alloc, &version, What::Times, Form::Text, digest)?;
+    report_in(
+        alloc,
+        &version,
+        What::All,
+        Form::Json { line: None },
+        digest,
+    )
+}
+
+/// Takes in what a script is answered.
+fn served<R: StateRepresentation, W: Runner>(
+    alloc: Global,
+    runner: &W,
+    plan: &Plan,
+    script: &str,
+    format: Format,
+    digest: &mut Digest,
+) -> Result<()> {
+    let text = recording(alloc, plan)?;
+    let graph = read::<R>(alloc, text.as_str())?;
+    let mut source = CountedReader::new(script.as_bytes());
+    let mut sink = unwritten(alloc);
+    serve(alloc, runner, &mut source, &mut sink, graph, format)?;
+    taken(digest, sink);
+    Ok(())
+}
+
+/// Takes in the sweep of the last stage of a recording.
+fn swept<R: StateRepresentation, W: Runner>(
+    alloc: Global,
+    runner: &W,
+    plan: &Plan,
+    digest: &mut Digest,
+) -> Result<()> {
+    let text = recording(alloc, plan)?;
+    let version = loaded::<R>(alloc, text.as_str())?;
+    let last = name(alloc, plan.seed, plan.stages.saturating_sub(1))?;
+    let Ok(target) = version.id_of(last.as_str()) else {
+        bail!("no stage {last}");
+    };
+    let mut sink = unwritten(alloc);
+    tell_sweep(alloc, &version, target, None, runner, Form::Text, &mut sink)?;
+    taken(digest, sink);
+    Ok(())
+}
+
+/// Takes in what is imported from a trace.
+fn imported(
+    alloc: Global,
+    form: TraceForm,
+    spans: u32,
+    seed: u32,
+    digest: &mut Digest,
+) -> Result<()> {
+    let text = trace(alloc, form, spans, seed)?;
+    let mut sink = unwritten(alloc);
+    let options = Options {
+        trace: None,
+        unit: Unit::Microsecond,
+    };
+    import(alloc, text.as_bytes(), options, &mut sink)?;
+    taken(digest, sink);
+    Ok(())
+}
+
+/// What all recordings of a job are like, but for their numbers of stages.
+fn plan(shape: Shape, stages: u32, seed: u32) -> Plan {
+    Plan {
+        shape,
+        stages,
+        seed,
+    }
+}
+
+/// Runs the job `report`.
+fn run_report<R: StateRepresentation>(
+    alloc: Global,
+    scale: Scale,
+    seed: u32,
+    digest: &mut Digest,
+) -> Result<()> {
+    reports::<R>(alloc, &plan(Shape::Mixed, scale.of(36_864), seed), digest)?;
+    reports::<R>(alloc, &plan(Shape::Layers, scale.of(24_576), seed), digest)?;
+    reports::<R>(alloc, &plan(Shape::Trees, scale.of(16_384), seed), digest)?;
+    reports::<R>(alloc, &plan(Shape::Chain, scale.of(32_768), seed), digest)
+}
+
+/// Runs the job `serve`.
+fn run_serve<R: StateRepresentation, W: Runner>(
+    alloc: Global,
+    runner: &W,
+    scale: Scale,
+    seed: u32,
+    digest: &mut Digest,
+) -> Result<()> {
+    let mixed = plan(Shape::Mixed, scale.of(8_192), seed);
+    let script = small_edits(alloc, &mixed, scale.of(20_000))?;
+    served::<R, W>(alloc, runner, &mixed, script.as_str(), Format::Text, digest)?;
+    let trees = plan(Shape::Trees, scale.of(4_096), seed);
+    let script = small_edits(alloc, &trees, scale.of(20_000))?;
+    served::<R, W>(alloc, runner, &trees, script.as_str(), Format::Json, digest)
+}
+
+/// Runs the job `spread`.
+fn run_spread<R: StateRepresentation, W: Runner>(
+    alloc: Global,
+    runner: &W,
+    scale: Scale,
+    seed: u32,
+    digest: &mut Digest,
+) -> Result<()> {
+    let layers = plan(Shape::Layers, scale.of(16_384), seed);
+    let script = great_edits(alloc, &layers, 56)?;
+    served::<R, W>(
+        alloc,
+        runner,
+        &layers,
+        script.as_str(),
+        Format::Text,
+        digest,
+    )?;
+    let chain = plan(Shape::Chain, scale.of(4_096), seed);
+    let script = great_edits(alloc, &chain, 56)?;
+    served::<R, W>(alloc, runner, &chain, script.as_str(), Format::Text, digest)
+}
+
+/// Runs the job `sweep`.
+fn run_sweep<R: StateRepresentation, W: Runner>(
+    alloc: Global,
+    runner: &W,
+    scale: Scale,
+    seed: u32,
+    digest: &mut Digest,
+) -> Result<()> {
+    swept::<R, W>(
+        alloc,
+        runner,
+        &plan(Shape::Chain, scale.of(2_560), seed),
+        digest,
+    )?;
+    swept::<R, W>(
+        alloc,
+        runner,
+        &plan(Shape::Layers, scale.of(3_072), seed),
+        digest,
+    )?;
+    swept::<R, W>(
+        alloc,
+        runner,
+        &plan(Shape::Mixed, scale.of(4_096), seed),
+        digest,
+    )
+}
+
+/// Runs the job `import`.
+fn run_import(alloc: Global, scale: Scale, seed: u32, digest: &mut Digest) -> Result<()> {
+    imported(alloc, TraceForm::Otlp, scale.of(36_000), seed, digest)?;
+    imported(alloc, TraceForm::Jaeger, scale.of(24_000), seed, digest)?;
+    imported(alloc, TraceForm::Otlp, scale.of(24_000), seed ^ 1, digest)
+}
+
+/// The digest of all results of a job.
+pub(crate) fn run<R: StateRepresentation, W: Runner>(
+    alloc: Global,
+    runner: &W,
+    job: Job,
+    scale: Scale,
+    seed: u32,
+) -> Result<Digest> {
+    let mut digest = Digest::new();
+    match job {
+        Job::Report => run_report::<R>(alloc, scale, seed, &mut digest)?,
+        Job::Serve => run_serve::<R, W>(alloc, runner, scale, seed, &mut digest)?,
+        Job::Spread => run_spread::<R, W>(alloc, runner, scale, seed, &mut digest)?,
+        Job::Sweep => run_sweep::<R, W>(alloc, runner, scale, seed, &mut digest)?,
+        Job::Import => run_import(alloc, scale, seed, &mut digest)?,
+    }
+    Ok(digest)
+}
