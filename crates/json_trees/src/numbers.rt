@@ -1,0 +1,50 @@
+//! JSON numbers, from their texts.
+ghost use Rattle.std.specs.Prelude.{◌≡◌, ◌<◌, ◌==◌, length, slice_index, IsTrue, option_map, true, false};
+ghost use Rattle.fast_float.specs.Text.{minus, scan};
+ghost use Rattle.serde_json.specs.Read.{number_of, number_from};
+ghost use Rattle.serde_json.specs.View.{number_view};
+
+use fast_float::Numeral;
+use serde_json::Number;
+
+/// The number of these digits: an integer where they are one of 64 bits, and else the nearest float, if it is finite.
+fn from_digits(digits: &[u8]) -> Option<Number>
+    ensures { option_map number_view result ≡ number_from false (scan digits.now) }
+{
+    let numeral = Numeral::scan(digits);
+    match numeral.to_u64() {
+        Some(integer) => Some(Number::from(integer)),
+        None => Number::from_f64(numeral.to_float::<f64>(false)),
+    }
+}
+
+/// The number of a minus sign and these digits. Minus zero is a float.
+fn from_negated(digits: &[u8]) -> Option<Number>
+    ensures { option_map number_view result ≡ number_from true (scan digits.now) }
+{
+    let numeral = Numeral::scan(digits);
+    match numeral.to_i64(true) {
+        Some(integer) if integer < 0 => Some(Number::from(integer)),
+        _ => Number::from_f64(numeral.to_float::<f64>(true)),
+    }
+}
+
+/// Whether a minus sign comes first.
+fn is_negated(text: &[u8]) -> bool
+    ensures sign { result ≡ (slice_index text.now 0 == minus) }
+    ensures some { IsTrue result → 0 < length text.now }
+{
+    !text.is_empty() && text[0] == b'-'
+}
+
+/// The number that a text writes, unless it is too large for a float.
+pub(crate) fn number_of(text: &str) -> Option<Number>
+    ensures { option_map number_view result ≡ number_of text.now }
+{
+    let text = text.as_bytes();
+    if is_negated(text) {
+        from_negated(&text[1..])
+    } else {
+        from_digits(text)
+    }
+}
