@@ -1,6 +1,6 @@
-pub mod Converting
 pub mod JsonReading
 pub mod Operands
 pub mod ReadBack
+pub mod Sizes
 pub mod StagesReadBack
 pub mod StepsReadBack

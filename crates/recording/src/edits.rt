@@ -1,6 +1,5 @@
 //! Edits of a graph and lists of them, read from the members of a step.
 ghost use Rattle.std.specs.Prelude.{◌≡◌, [], ◌∷◌, ◌++◌, OnOk};
-ghost use Rattle.serde_json.specs.View.{view};
 ghost use Rattle.stage_graph.specs.EditLists.{edit_list};
 ghost use Rattle.recording.specs.Tables.{beside};
 ghost use Rattle.recording.specs.StepOf.{edit_names, edit_name_in, new_in, form_of_new, edit_of, listed_edit, edits_member, with_list_size};
@@ -11,7 +10,7 @@ use crate::object::required;
 use crate::stage::{FormNumber, read_spec};
 use crate::unread::Unread;
 use crate::{Fault, Member};
-use serde_json::Value;
+use json_trees::Tree;
 use stage_graph::{Edit, Edits, Spec};
 use std::alloc::{AllocError, Global};
 use std::marker::Model;
@@ -53,7 +52,7 @@ impl EditName {
 impl FromJson for EditName {
     ghost form = { edit_name_in };
 
-    fn from_json(_: Global, value: &Value) -> Result<EditName, Unread> {
+    fn from_json(_: Global, value: &Tree<'_, '_>) -> Result<EditName, Unread> {
         match value.as_str() {
             Some(text) => EditName::new(text).ok_or(Unread::Shape),
             None => Err(Unread::Shape),
@@ -62,8 +61,8 @@ impl FromJson for EditName {
 }
 
 /// A new stage has the times of form 2 if `queued` or `runs` is present, and else those of form 1.
-fn form_of_new(object: &Value) -> FormNumber
-    ensures { result ≡ form_of_new (view object.now) }
+fn form_of_new(object: &Tree<'_, '_>) -> FormNumber
+    ensures { result ≡ form_of_new object.now }
 {
     if object.get(Member::Queued.text()).is_some() || object.get(Member::Runs.text()).is_some() {
         FormNumber::Two
@@ -73,19 +72,19 @@ fn form_of_new(object: &Value) -> FormNumber
 }
 
 /// The stage that is to be added.
-fn read_new(alloc: Global, value: &Value) -> Result<Spec, Fault>
-    ensures { IsRead result (new_in (view value.now)) }
+fn read_new(alloc: Global, value: &Tree<'_, '_>) -> Result<Spec, Fault>
+    ensures { IsRead result (new_in value.now) }
 {
-    match value {
-        Value::Object(_) => read_spec(alloc, form_of_new(value), value),
-        _ => Err(Fault::Shape(Member::New)),
+    if !value.is_object() {
+        return Err(Fault::Shape(Member::New));
     }
+    read_spec(alloc, form_of_new(value), value)
 }
 
 /// The edit of a name, from the members of its step.
 #[tactic(auto, unfolding(crate::specs::StepOf::edit_of))]
-pub(crate) fn read_edit(alloc: Global, name: EditName, object: &Value) -> Result<Edit, Fault>
-    ensures { IsRead result (edit_of name (view object.now)) }
+pub(crate) fn read_edit(alloc: Global, name: EditName, object: &Tree<'_, '_>) -> Result<Edit, Fault>
+    ensures { IsRead result (edit_of name object.now) }
 {
     match name {
         EditName::PinResult => Ok(Edit::PinResult {
@@ -118,7 +117,7 @@ pub(crate) fn read_edit(alloc: Global, name: EditName, object: &Value) -> Result
             let Some(new) = object.get(Member::New.text()) else {
                 return Err(Fault::Shape(Member::New));
             };
-            Ok(Edit::Add(read_new(alloc, new)?))
+            Ok(Edit::Add(read_new(alloc, &new)?))
         }
         EditName::Remove => Ok(Edit::Remove(required(alloc, object, Member::Stage)?)),
         EditName::Rewire => Ok(Edit::Rewire {
@@ -179,31 +178,29 @@ impl EditList {
 }
 
 /// An element of `edits`.
-fn read_listed_edit(alloc: Global, value: &Value) -> Result<Edit, Fault>
-    ensures { IsRead result (listed_edit (view value.now)) }
+fn read_listed_edit(alloc: Global, value: &Tree<'_, '_>) -> Result<Edit, Fault>
+    ensures { IsRead result (listed_edit value.now) }
 {
-    match value {
-        Value::Object(_) => {
-            let name = required::<EditName>(alloc, value, Member::Do)?;
-            read_edit(alloc, name, value)
-        }
-        _ => Err(Fault::Shape(Member::Edits)),
+    if !value.is_object() {
+        return Err(Fault::Shape(Member::Edits));
     }
+    let name = required::<EditName>(alloc, value, Member::Do)?;
+    read_edit(alloc, name, value)
 }
 
 /// The edits of a list. Their number is checked after each of them is read.
-pub(crate) fn read_edits(alloc: Global, object: &Value) -> Result<Edits, Fault>
-    ensures { IsRead result (edits_member (view object.now)) }
+pub(crate) fn read_edits(alloc: Global, object: &Tree<'_, '_>) -> Result<Edits, Fault>
+    ensures { IsRead result (edits_member object.now) }
 {
     let Some(value) = object.get(Member::Edits.text()) else {
         return Err(Fault::Shape(Member::Edits));
     };
-    let Some(items) = value.as_array() else {
+    let Some(mut items) = value.as_array() else {
         return Err(Fault::Shape(Member::Edits));
     };
     let mut edits = EditList::new(alloc);
-    for item in items.as_slice() {
-        let edit = read_listed_edit(alloc, item)?;
+    while let Some(item) = items.next() {
+        let edit = read_listed_edit(alloc, &item)?;
         edits.push(edit)?;
     }
     edits.into_edits()

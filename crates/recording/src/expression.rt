@@ -1,14 +1,15 @@
 //! Expressions, read from JSON.
 ghost use Rattle.std.specs.Prelude.{◌≡◌, Option, IfOk};
-ghost use Rattle.serde_json.specs.View.{view, items_view};
 ghost use Rattle.recording.specs.Tables.{beside};
 ghost use Rattle.recording.specs.ExpressionOf.{words, word_in, position_in, exception_in, expression_of, expressions_of, form_of};
 ghost use Rattle.recording.specs.Reads.{Reads};
 
+use crate::forms::value_in;
 use crate::from_json::FromJson;
+use crate::items::{is_empty, only, pair, triple};
 use crate::unread::Unread;
 use act_expr::{ExName, Expr, Form, Operator, Position};
-use serde_json::Value;
+use json_trees::{Items, Tree};
 use std::alloc::Global;
 
 /// The first item of an expression that is an array.
@@ -48,14 +49,14 @@ impl Word {
     }
 }
 
-fn word_in(value: &Value) -> Option<Word>
-    ensures { result ≡ word_in (view value.now) }
+fn word_in(value: &Tree<'_, '_>) -> Option<Word>
+    ensures { result ≡ word_in value.now }
 {
     Word::new(value.as_str()?)
 }
 
-fn position_in(value: &Value) -> Option<Position>
-    ensures { result ≡ position_in (view value.now) }
+fn position_in(value: &Tree<'_, '_>) -> Option<Position>
+    ensures { result ≡ position_in value.now }
 {
     match value.as_u64()? {
         0 => Some(Position::First),
@@ -64,8 +65,8 @@ fn position_in(value: &Value) -> Option<Position>
     }
 }
 
-pub(crate) fn exception_in(value: &Value) -> Option<ExName>
-    ensures { result ≡ exception_in (view value.now) }
+pub(crate) fn exception_in(value: &Tree<'_, '_>) -> Option<ExName>
+    ensures { result ≡ exception_in value.now }
 {
     ExName::new(value.as_str()?)
 }
@@ -73,87 +74,107 @@ pub(crate) fn exception_in(value: &Value) -> Option<ExName>
 impl FromJson for ExName {
     ghost form = { exception_in };
 
-    fn from_json(_: Global, value: &Value) -> Result<ExName, Unread> {
+    fn from_json(_: Global, value: &Tree<'_, '_>) -> Result<ExName, Unread> {
         exception_in(value).ok_or(Unread::Shape)
     }
 }
 
 /// The expression of a word and the items after it.
 #[cycle(expression)]
-fn read_form(alloc: Global, word: Word, rest: &[Value]) -> Result<Expr, Unread>
-    ensures { Reads result (form_of word (items_view rest.now) (expressions_of (items_view rest.now))) }
+fn read_form(alloc: Global, word: Word, operands: Items<'_, '_>) -> Result<Expr, Unread>
+    ensures { Reads result (form_of word operands.entry (expressions_of operands.entry)) }
 {
-    match (word, rest) {
-        (Word::Argument, [position]) => {
-            let Some(position) = position_in(position) else {
+    match word {
+        Word::Argument => {
+            let Some(position) = only(operands) else {
+                return Err(Unread::Shape);
+            };
+            let Some(position) = position_in(&position) else {
                 return Err(Unread::Shape);
             };
             Ok(Expr::new(alloc, Form::Argument(position))?)
         }
-        (Word::Binary(operator), [left, right]) => {
-            let left = read_expression(alloc, left)?;
-            let right = read_expression(alloc, right)?;
+        Word::Binary(operator) => {
+            let Some((left, right)) = pair(operands) else {
+                return Err(Unread::Shape);
+            };
+            let left = read_expression(alloc, &left)?;
+            let right = read_expression(alloc, &right)?;
             Ok(Expr::new(alloc, Form::Binary(operator, left, right))?)
         }
-        (Word::If, [condition, first, second]) => {
-            let condition = read_expression(alloc, condition)?;
-            let first = read_expression(alloc, first)?;
-            let second = read_expression(alloc, second)?;
+        Word::If => {
+            let Some((condition, first, second)) = triple(operands) else {
+                return Err(Unread::Shape);
+            };
+            let condition = read_expression(alloc, &condition)?;
+            let first = read_expression(alloc, &first)?;
+            let second = read_expression(alloc, &second)?;
             Ok(Expr::new(alloc, Form::If(condition, first, second))?)
         }
-        (Word::IsNull, [operand]) => {
-            let operand = read_expression(alloc, operand)?;
+        Word::IsNull => {
+            let Some(operand) = only(operands) else {
+                return Err(Unread::Shape);
+            };
+            let operand = read_expression(alloc, &operand)?;
             Ok(Expr::new(alloc, Form::IsNull(operand))?)
         }
-        (Word::Failed, []) => Ok(Expr::new(alloc, Form::Failed)?),
-        (Word::IsWrapped, []) => Ok(Expr::new(alloc, Form::IsWrapped)?),
-        (Word::CauseIs, [name]) => {
-            let Some(name) = exception_in(name) else {
+        Word::Failed => {
+            if !is_empty(operands) {
+                return Err(Unread::Shape);
+            }
+            Ok(Expr::new(alloc, Form::Failed)?)
+        }
+        Word::IsWrapped => {
+            if !is_empty(operands) {
+                return Err(Unread::Shape);
+            }
+            Ok(Expr::new(alloc, Form::IsWrapped)?)
+        }
+        Word::CauseIs => {
+            let Some(name) = only(operands) else {
+                return Err(Unread::Shape);
+            };
+            let Some(name) = exception_in(&name) else {
                 return Err(Unread::Shape);
             };
             Ok(Expr::new(alloc, Form::cause_is(alloc, name)?)?)
         }
-        (Word::Throw, [name]) => {
-            let Some(name) = exception_in(name) else {
+        Word::Throw => {
+            let Some(name) = only(operands) else {
+                return Err(Unread::Shape);
+            };
+            let Some(name) = exception_in(&name) else {
                 return Err(Unread::Shape);
             };
             Ok(Expr::new(alloc, Form::throw(alloc, name)?)?)
         }
-        _ => Err(Unread::Shape),
     }
 }
 
 /// The expression that a JSON value is. It recurses no deeper than JSON is nested, which is 127 levels.
 #[cycle(expression)]
-fn read_expression(alloc: Global, value: &Value) -> Result<Expr, Unread>
-    ensures { Reads result (expression_of (view value.now)) }
+fn read_expression(alloc: Global, value: &Tree<'_, '_>) -> Result<Expr, Unread>
+    ensures { Reads result (expression_of value.now) }
 {
-    match value {
-        Value::Null => Ok(Expr::new(alloc, Form::Literal(act_expr::Value::Null))?),
-        Value::Number(number) => {
-            let Some(number) = number.as_i64() else {
-                return Err(Unread::Shape);
-            };
-            let literal = act_expr::Value::Num(number);
-            Ok(Expr::new(alloc, Form::Literal(literal))?)
-        }
-        Value::Array(items) => {
-            let [head, rest @ ..] = items.as_slice() else {
-                return Err(Unread::Shape);
-            };
-            match word_in(head) {
-                Some(word) => read_form(alloc, word, rest),
-                None => Err(Unread::Shape),
-            }
-        }
-        Value::Bool(_) | Value::String(_) | Value::Object(_) => Err(Unread::Shape),
+    let Some(mut operands) = value.as_array() else {
+        let Some(literal) = value_in(value) else {
+            return Err(Unread::Shape);
+        };
+        return Ok(Expr::new(alloc, Form::Literal(literal))?);
+    };
+    let Some(head) = operands.next() else {
+        return Err(Unread::Shape);
+    };
+    match word_in(&head) {
+        Some(word) => read_form(alloc, word, operands),
+        None => Err(Unread::Shape),
     }
 }
 
 impl FromJson for Expr {
     ghost form = { expression_of };
 
-    fn from_json(alloc: Global, value: &Value) -> Result<Expr, Unread> {
+    fn from_json(alloc: Global, value: &Tree<'_, '_>) -> Result<Expr, Unread> {
         read_expression(alloc, value)
     }
 }

@@ -1,6 +1,5 @@
 //! The forms that the members of stages and steps have: counts, values, outcomes, ends, and the names of operations.
 ghost use Rattle.std.specs.Prelude.{◌≡◌};
-ghost use Rattle.serde_json.specs.View.{view};
 ghost use Rattle.recording.specs.Tables.{beside};
 ghost use Rattle.recording.specs.Forms.{value_in, op_names, op_name_in, outcome_in, act_names, act_of, act_in, end_in, ends_in};
 
@@ -8,7 +7,7 @@ use crate::expression::exception_in;
 use crate::from_json::FromJson;
 use crate::unread::Unread;
 use act_expr::Outcome;
-use serde_json::Value;
+use json_trees::Tree;
 use stage_graph::{Act, End, Ends, Op};
 use std::alloc::Global;
 
@@ -67,7 +66,7 @@ impl OpName {
 impl FromJson for OpName {
     ghost form = { op_name_in };
 
-    fn from_json(_: Global, value: &Value) -> Result<OpName, Unread> {
+    fn from_json(_: Global, value: &Tree<'_, '_>) -> Result<OpName, Unread> {
         let Some(text) = value.as_str() else {
             return Err(Unread::Shape);
         };
@@ -95,32 +94,31 @@ impl ActName {
 }
 
 /// A number or null.
-fn value_in(value: &Value) -> Option<act_expr::Value>
-    ensures { result ≡ value_in (view value.now) }
+pub(crate) fn value_in(value: &Tree<'_, '_>) -> Option<act_expr::Value>
+    ensures { result ≡ value_in value.now }
 {
-    match value {
-        Value::Null => Some(act_expr::Value::Null),
-        Value::Number(number) => Some(act_expr::Value::Num(number.as_i64()?)),
-        _ => None,
+    if value.is_null() {
+        return Some(act_expr::Value::Null);
     }
+    Some(act_expr::Value::Num(value.as_i64()?))
 }
 
 impl FromJson for act_expr::Value {
     ghost form = { value_in };
 
-    fn from_json(_: Global, value: &Value) -> Result<act_expr::Value, Unread> {
+    fn from_json(_: Global, value: &Tree<'_, '_>) -> Result<act_expr::Value, Unread> {
         value_in(value).ok_or(Unread::Shape)
     }
 }
 
 /// An object with exactly one of `value`, `bare` and `wrapped`.
-fn outcome_in(value: &Value) -> Option<Outcome>
-    ensures { result ≡ outcome_in (view value.now) }
+fn outcome_in(value: &Tree<'_, '_>) -> Option<Outcome>
+    ensures { result ≡ outcome_in value.now }
 {
     match (value.get("value"), value.get("bare"), value.get("wrapped")) {
-        (Some(value), None, None) => Some(Outcome::Value(value_in(value)?)),
-        (None, Some(name), None) => Some(Outcome::Bare(exception_in(name)?)),
-        (None, None, Some(name)) => Some(Outcome::Wrapped(exception_in(name)?)),
+        (Some(value), None, None) => Some(Outcome::Value(value_in(&value)?)),
+        (None, Some(name), None) => Some(Outcome::Bare(exception_in(&name)?)),
+        (None, None, Some(name)) => Some(Outcome::Wrapped(exception_in(&name)?)),
         _ => None,
     }
 }
@@ -128,19 +126,19 @@ fn outcome_in(value: &Value) -> Option<Outcome>
 impl FromJson for Outcome {
     ghost form = { outcome_in };
 
-    fn from_json(_: Global, value: &Value) -> Result<Outcome, Unread> {
+    fn from_json(_: Global, value: &Tree<'_, '_>) -> Result<Outcome, Unread> {
         outcome_in(value).ok_or(Unread::Shape)
     }
 }
 
 /// The further members of an end.
-fn act_of(name: ActName, end: &Value) -> Option<Act>
-    ensures { result ≡ act_of name (view end.now) }
+fn act_of(name: ActName, end: &Tree<'_, '_>) -> Option<Act>
+    ensures { result ≡ act_of name end.now }
 {
     match name {
-        ActName::Complete => Some(Act::Complete(value_in(end.get("value")?)?)),
+        ActName::Complete => Some(Act::Complete(value_in(&end.get("value")?)?)),
         ActName::CompleteExceptionally => {
-            Some(Act::CompleteExceptionally(exception_in(end.get("throws")?)?))
+            Some(Act::CompleteExceptionally(exception_in(&end.get("throws")?)?))
         }
         ActName::Cancel => Some(Act::Cancel),
         ActName::OrTimeout => {
@@ -149,23 +147,23 @@ fn act_of(name: ActName, end: &Value) -> Option<Act>
         }
         ActName::CompleteOnTimeout => {
             let delay = end.get("delay")?.as_u64()?;
-            let value = value_in(end.get("value")?)?;
+            let value = value_in(&end.get("value")?)?;
             Some(Act::CompleteOnTimeout { delay, value })
         }
     }
 }
 
 /// What an end does.
-fn act_in(end: &Value) -> Option<Act>
-    ensures { result ≡ act_in (view end.now) }
+fn act_in(end: &Tree<'_, '_>) -> Option<Act>
+    ensures { result ≡ act_in end.now }
 {
     let name = ActName::new(end.get("do")?.as_str()?)?;
     act_of(name, end)
 }
 
 /// An end.
-fn end_in(value: &Value) -> Option<End>
-    ensures { result ≡ end_in (view value.now) }
+fn end_in(value: &Tree<'_, '_>) -> Option<End>
+    ensures { result ≡ end_in value.now }
 {
     let at = value.get("at")?.as_u64()?;
     let act = act_in(value)?;
@@ -176,13 +174,13 @@ fn end_in(value: &Value) -> Option<End>
 impl FromJson for Ends {
     ghost form = { ends_in };
 
-    fn from_json(alloc: Global, value: &Value) -> Result<Ends, Unread> {
-        let Some(items) = value.as_array() else {
+    fn from_json(alloc: Global, value: &Tree<'_, '_>) -> Result<Ends, Unread> {
+        let Some(mut items) = value.as_array() else {
             return Err(Unread::Shape);
         };
         let mut ends = Ends::new(alloc);
-        for item in items.as_slice() {
-            let Some(end) = end_in(item) else {
+        while let Some(item) = items.next() {
+            let Some(end) = end_in(&item) else {
                 return Err(Unread::Shape);
             };
             ends.push(end)?;

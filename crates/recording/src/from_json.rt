@@ -2,12 +2,11 @@
 ghost use Rattle.std.specs.Prelude.{Option};
 ghost use Rattle.serde_json.specs.Data.{Data};
 ghost use Rattle.serde_json.specs.Find.{as_str};
-ghost use Rattle.serde_json.specs.View.{view};
 ghost use Rattle.recording.specs.Forms.{count_in, count32_in, names_in, or_null};
 ghost use Rattle.recording.specs.Reads.{Reads};
 
 use crate::unread::Unread;
-use serde_json::Value;
+use json_trees::Tree;
 use stage_graph::{Name, NameList};
 use std::alloc::Global;
 
@@ -17,15 +16,15 @@ pub(crate) trait FromJson: Sized {
     ghost form: { Data → Option Self };
 
     /// The value, if the JSON value has its form.
-    fn from_json(alloc: Global, value: &Value) -> Result<Self, Unread>
-        ensures { Reads result (form (view value.now)) };
+    fn from_json(alloc: Global, value: &Tree<'_, '_>) -> Result<Self, Unread>
+        ensures { Reads result (form value.now) };
 }
 
 /// A count: a whole number from 0 to 2^64 - 1.
 impl FromJson for u64 {
     ghost form = { count_in };
 
-    fn from_json(_: Global, value: &Value) -> Result<u64, Unread> {
+    fn from_json(_: Global, value: &Tree<'_, '_>) -> Result<u64, Unread> {
         value.as_u64().ok_or(Unread::Shape)
     }
 }
@@ -34,7 +33,7 @@ impl FromJson for u64 {
 impl FromJson for u32 {
     ghost form = { count32_in };
 
-    fn from_json(alloc: Global, value: &Value) -> Result<u32, Unread> {
+    fn from_json(alloc: Global, value: &Tree<'_, '_>) -> Result<u32, Unread> {
         let count = u64::from_json(alloc, value)?;
         u32::try_from(count).map_err(|_| Unread::Shape)
     }
@@ -44,7 +43,7 @@ impl FromJson for u32 {
 impl FromJson for Name {
     ghost form = { as_str };
 
-    fn from_json(alloc: Global, value: &Value) -> Result<Name, Unread> {
+    fn from_json(alloc: Global, value: &Tree<'_, '_>) -> Result<Name, Unread> {
         match value.as_str() {
             Some(name) => Ok(Name::new(alloc, name)?),
             None => Err(Unread::Shape),
@@ -56,13 +55,13 @@ impl FromJson for Name {
 impl FromJson for NameList {
     ghost form = { names_in };
 
-    fn from_json(alloc: Global, value: &Value) -> Result<NameList, Unread> {
-        let Some(items) = value.as_array() else {
+    fn from_json(alloc: Global, value: &Tree<'_, '_>) -> Result<NameList, Unread> {
+        let Some(mut items) = value.as_array() else {
             return Err(Unread::Shape);
         };
         let mut names = NameList::new(alloc);
-        for item in items.as_slice() {
-            let name = Name::from_json(alloc, item)?;
+        while let Some(item) = items.next() {
+            let name = Name::from_json(alloc, &item)?;
             names.push(name)?;
         }
         Ok(names)
@@ -73,10 +72,10 @@ impl FromJson for NameList {
 impl<T: FromJson> FromJson for Option<T> {
     ghost form = { or_null T.form };
 
-    fn from_json(alloc: Global, value: &Value) -> Result<Option<T>, Unread> {
-        match value {
-            Value::Null => Ok(None),
-            _ => Ok(Some(T::from_json(alloc, value)?)),
+    fn from_json(alloc: Global, value: &Tree<'_, '_>) -> Result<Option<T>, Unread> {
+        if value.is_null() {
+            return Ok(None);
         }
+        Ok(Some(T::from_json(alloc, value)?))
     }
 }

@@ -9,16 +9,15 @@ mod expression;
 mod fault;
 mod forms;
 mod from_json;
+mod items;
 mod law;
 mod member;
-mod numbers;
 mod object;
 mod parse;
 mod recording;
 mod stage;
 mod step;
 mod unread;
-mod values;
 
 pub use fault::Fault;
 pub use law::{each_expression_is_read_back, each_recording_is_read_back, each_step_is_read_back};

@@ -2,19 +2,22 @@
 //!
 //! Each reader returns `Fault::Shape` with the member that doesn't have its form.
 ghost use Rattle.std.specs.Prelude.{Some, None, option_map};
-ghost use Rattle.serde_json.specs.View.{view};
 ghost use Rattle.recording.specs.Members.{of_form, required, optional};
 ghost use Rattle.recording.specs.Reads.{IsRead};
 
 use crate::from_json::FromJson;
 use crate::unread::Unread;
 use crate::{Fault, Member};
-use serde_json::Value;
+use json_trees::Tree;
 use std::alloc::Global;
 
 /// The value of a member that is present.
-fn read_present<T: FromJson>(alloc: Global, value: &Value, member: Member) -> Result<T, Fault>
-    ensures { IsRead result (of_form member T.form (view value.now)) }
+fn read_present<T: FromJson>(
+    alloc: Global,
+    value: &Tree<'_, '_>,
+    member: Member,
+) -> Result<T, Fault>
+    ensures { IsRead result (of_form member T.form value.now) }
 {
     match T::from_json(alloc, value) {
         Ok(read) => Ok(read),
@@ -26,13 +29,13 @@ fn read_present<T: FromJson>(alloc: Global, value: &Value, member: Member) -> Re
 /// A member that must be present.
 pub(crate) fn required<T: FromJson>(
     alloc: Global,
-    object: &Value,
+    object: &Tree<'_, '_>,
     member: Member,
 ) -> Result<T, Fault>
-    ensures { IsRead result (required member T.form (view object.now)) }
+    ensures { IsRead result (required member T.form object.now) }
 {
     match object.get(member.text()) {
-        Some(value) => read_present(alloc, value, member),
+        Some(value) => read_present(alloc, &value, member),
         None => Err(Fault::Shape(member)),
     }
 }
@@ -40,14 +43,14 @@ pub(crate) fn required<T: FromJson>(
 /// A member, or the default where the object has no such member.
 pub(crate) fn optional<T: FromJson + Drop>(
     alloc: Global,
-    object: &Value,
+    object: &Tree<'_, '_>,
     member: Member,
     default: T,
 ) -> Result<T, Fault>
-    ensures { IsRead result (optional member default T.form (view object.now)) }
+    ensures { IsRead result (optional member default T.form object.now) }
 {
     match object.get(member.text()) {
-        Some(value) => read_present(alloc, value, member),
+        Some(value) => read_present(alloc, &value, member),
         None => Ok(default),
     }
 }
@@ -55,15 +58,15 @@ pub(crate) fn optional<T: FromJson + Drop>(
 /// A member, or none where the object has no such member; null is not none.
 pub(crate) fn if_present<T: FromJson>(
     alloc: Global,
-    object: &Value,
+    object: &Tree<'_, '_>,
     member: Member,
 ) -> Result<Option<T>, Fault>
-    ensures { IsRead result (optional member None (λ value. option_map Some (T.form value)) (view object.now)) }
+    ensures { IsRead result (optional member None (λ value. option_map Some (T.form value)) object.now) }
 {
     let Some(value) = object.get(member.text()) else {
         return Ok(None);
     };
-    match T::from_json(alloc, value) {
+    match T::from_json(alloc, &value) {
         Ok(read) => Ok(Some(read)),
         Err(Unread::Shape) => Err(Fault::Shape(member)),
         Err(Unread::Memory) => Err(Fault::Memory),

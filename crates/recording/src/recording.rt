@@ -2,18 +2,19 @@
 //!
 //! The bytes are checked in this order: their number, whether they are JSON, the members of the recording and of each
 //! stage in turn, the checks of the graph stage by stage, and last of all its cycles.
-ghost use Rattle.serde_json.specs.View.{view};
 ghost use Rattle.recording.specs.RecordingOf.{form_in, mode_in, stage_of, stages_member, recording_of, recorded, graph_of, named};
 ghost use Rattle.recording.specs.Reads.{IsRead, IsNamed};
 
 use crate::from_json::FromJson;
+use crate::items::item_count;
 use crate::object::optional;
 use crate::parse::read_json;
 use crate::stage::{FormNumber, read_spec};
 use crate::unread::Unread;
 use crate::{Fault, Member};
 use act_expr::Mode;
-use serde_json::Value;
+use json::Scratch;
+use json_trees::Tree;
 use stage_graph::{Graph, Representation, Spec, Specs};
 use std::alloc::Global;
 
@@ -31,7 +32,7 @@ pub(crate) struct Recording {
 impl FromJson for FormNumber {
     ghost form = { form_in };
 
-    fn from_json(_: Global, value: &Value) -> Result<FormNumber, Unread> {
+    fn from_json(_: Global, value: &Tree<'_, '_>) -> Result<FormNumber, Unread> {
         match value.as_i64() {
             Some(1) => Ok(FormNumber::One),
             Some(2) => Ok(FormNumber::Two),
@@ -44,7 +45,7 @@ impl FromJson for FormNumber {
 impl FromJson for Mode {
     ghost form = { mode_in };
 
-    fn from_json(_: Global, value: &Value) -> Result<Mode, Unread> {
+    fn from_json(_: Global, value: &Tree<'_, '_>) -> Result<Mode, Unread> {
         match value.as_str() {
             Some("computed") => Ok(Mode::Computed),
             Some("literal") => Ok(Mode::Literal),
@@ -54,47 +55,45 @@ impl FromJson for Mode {
 }
 
 /// An element of `stages`.
-fn read_stage(alloc: Global, form: FormNumber, value: &Value) -> Result<Spec, Fault>
-    ensures { IsRead result (stage_of form (view value.now)) }
+fn read_stage(alloc: Global, form: FormNumber, value: &Tree<'_, '_>) -> Result<Spec, Fault>
+    ensures { IsRead result (stage_of form value.now) }
 {
-    match value {
-        Value::Object(_) => read_spec(alloc, form, value),
-        _ => Err(Fault::Shape(Member::Stages)),
+    if !value.is_object() {
+        return Err(Fault::Shape(Member::Stages));
     }
+    read_spec(alloc, form, value)
 }
 
 /// The stages, in order.
 #[tactic(auto, unfolding(crate::specs::RecordingOf::stages_member))]
-fn read_stages(alloc: Global, form: FormNumber, object: &Value) -> Result<Specs, Fault>
-    ensures { IsRead result (stages_member form (view object.now)) }
+fn read_stages(alloc: Global, form: FormNumber, object: &Tree<'_, '_>) -> Result<Specs, Fault>
+    ensures { IsRead result (stages_member form object.now) }
 {
     let Some(value) = object.get(Member::Stages.text()) else {
         return Err(Fault::Shape(Member::Stages));
     };
-    let Some(items) = value.as_array() else {
+    let Some(mut items) = value.as_array() else {
         return Err(Fault::Shape(Member::Stages));
     };
-    let mut stages = Specs::with_capacity(alloc, items.as_slice().len())?;
-    for item in items.as_slice() {
-        let stage = read_stage(alloc, form, item)?;
+    let mut stages = Specs::with_capacity(alloc, item_count(&value))?;
+    while let Some(item) = items.next() {
+        let stage = read_stage(alloc, form, &item)?;
         stages.push(stage)?;
     }
     Ok(stages)
 }
 
 /// The recording that a JSON value is.
-fn read_value(alloc: Global, value: &Value) -> Result<Recording, Fault>
-    ensures { IsRead result (recording_of (view value.now)) }
+fn read_value(alloc: Global, value: &Tree<'_, '_>) -> Result<Recording, Fault>
+    ensures { IsRead result (recording_of value.now) }
 {
-    match value {
-        Value::Object(_) => {
-            let form = optional(alloc, value, Member::Form, FormNumber::One)?;
-            let mode = optional(alloc, value, Member::Wrap, Mode::Computed)?;
-            let stages = read_stages(alloc, form, value)?;
-            Ok(Recording { mode, stages })
-        }
-        _ => Err(Fault::Shape(Member::Recording)),
+    if !value.is_object() {
+        return Err(Fault::Shape(Member::Recording));
     }
+    let form = optional(alloc, value, Member::Form, FormNumber::One)?;
+    let mode = optional(alloc, value, Member::Wrap, Mode::Computed)?;
+    let stages = read_stages(alloc, form, value)?;
+    Ok(Recording { mode, stages })
 }
 
 /// The recording that bytes are.
@@ -104,8 +103,9 @@ fn read_recorded(alloc: Global, bytes: &[u8]) -> Result<Recording, Fault>
     if bytes.len() > LONGEST {
         return Err(Fault::TooLong);
     }
-    let value = read_json(alloc, bytes)?;
-    read_value(alloc, &value)
+    let mut room = Scratch::new(alloc);
+    let document = read_json(alloc, bytes, &mut room)?;
+    read_value(alloc, &document.root())
 }
 
 /// The graph that recorded stages make.

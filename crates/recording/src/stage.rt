@@ -1,12 +1,11 @@
 //! Stages, recorded or new, read from JSON.
-ghost use Rattle.serde_json.specs.View.{view};
 ghost use Rattle.recording.specs.StageOf.{op_of, times_of, spec_of};
 ghost use Rattle.recording.specs.Reads.{IsRead};
 
 use crate::forms::OpName;
 use crate::object::{if_present, optional, required};
 use crate::{Fault, Member};
-use serde_json::Value;
+use json_trees::Tree;
 use stage_graph::{Ends, NameList, Op, Spec};
 use std::alloc::Global;
 
@@ -27,8 +26,8 @@ pub(crate) struct Times {
 }
 
 /// The operation, with the value of `completed` and the exception of `failed`.
-fn read_op(alloc: Global, object: &Value) -> Result<Op, Fault>
-    ensures { IsRead result (op_of (view object.now)) }
+fn read_op(alloc: Global, object: &Tree<'_, '_>) -> Result<Op, Fault>
+    ensures { IsRead result (op_of object.now) }
 {
     match required::<OpName>(alloc, object, Member::Op)? {
         OpName::Plain(op) => Ok(op),
@@ -38,8 +37,8 @@ fn read_op(alloc: Global, object: &Value) -> Result<Op, Fault>
 }
 
 /// The times; each is 0 if it is absent.
-fn read_times(alloc: Global, form: FormNumber, object: &Value) -> Result<Times, Fault>
-    ensures { IsRead result (times_of form (view object.now)) }
+fn read_times(alloc: Global, form: FormNumber, object: &Tree<'_, '_>) -> Result<Times, Fault>
+    ensures { IsRead result (times_of form object.now) }
 {
     match form {
         FormNumber::One => {
@@ -59,8 +58,12 @@ fn read_times(alloc: Global, form: FormNumber, object: &Value) -> Result<Times, 
 
 /// The stage, or a fault with the first of its members that doesn't have its form.
 #[tactic(auto, unfolding(crate::specs::StageOf::spec_of))]
-pub(crate) fn read_spec(alloc: Global, form: FormNumber, object: &Value) -> Result<Spec, Fault>
-    ensures { IsRead result (spec_of form (view object.now)) }
+pub(crate) fn read_spec(
+    alloc: Global,
+    form: FormNumber,
+    object: &Tree<'_, '_>,
+) -> Result<Spec, Fault>
+    ensures { IsRead result (spec_of form object.now) }
 {
     let name = required(alloc, object, Member::Name)?;
     let op = read_op(alloc, object)?;

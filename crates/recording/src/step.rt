@@ -1,6 +1,5 @@
 //! The steps of a script, each one JSON object.
 ghost use Rattle.std.specs.Prelude.{◌≡◌};
-ghost use Rattle.serde_json.specs.View.{view};
 ghost use Rattle.recording.specs.Tables.{beside};
 ghost use Rattle.recording.specs.Reads.{IsRead};
 ghost use Rattle.recording.specs.StepOf.{step_name_of, step_name_in, report_names, report_name_in, subject_in, asked_of, step_with, step_in, step_of};
@@ -8,11 +7,11 @@ ghost use Rattle.recording.specs.StepOf.{step_name_of, step_name_in, report_name
 use crate::edits::{EditName, read_edit, read_edits};
 use crate::from_json::FromJson;
 use crate::object::{if_present, required};
-use crate::parse::read_json_in;
+use crate::parse::read_json;
 use crate::unread::Unread;
 use crate::{Fault, Member};
 use json::Scratch;
-use serde_json::Value;
+use json_trees::Tree;
 use stage_graph::{Edits, Name};
 use std::alloc::Global;
 
@@ -116,7 +115,7 @@ impl StepName {
 impl FromJson for StepName {
     ghost form = { step_name_in };
 
-    fn from_json(_: Global, value: &Value) -> Result<StepName, Unread> {
+    fn from_json(_: Global, value: &Tree<'_, '_>) -> Result<StepName, Unread> {
         match value.as_str() {
             Some(text) => StepName::new(text).ok_or(Unread::Shape),
             None => Err(Unread::Shape),
@@ -161,7 +160,7 @@ impl ReportName {
 impl FromJson for ReportName {
     ghost form = { report_name_in };
 
-    fn from_json(_: Global, value: &Value) -> Result<ReportName, Unread> {
+    fn from_json(_: Global, value: &Tree<'_, '_>) -> Result<ReportName, Unread> {
         match value.as_str() {
             Some(text) => ReportName::new(text).ok_or(Unread::Shape),
             None => Err(Unread::Shape),
@@ -170,8 +169,8 @@ impl FromJson for ReportName {
 }
 
 /// What the report is of: the version at which a session stands if there is `session`, and then `version` is a fault.
-fn read_subject(alloc: Global, object: &Value) -> Result<Subject, Fault>
-    ensures { IsRead result (subject_in (view object.now)) }
+fn read_subject(alloc: Global, object: &Tree<'_, '_>) -> Result<Subject, Fault>
+    ensures { IsRead result (subject_in object.now) }
 {
     if object.get(Member::Session.text()).is_none() {
         let version = required(alloc, object, Member::Version)?;
@@ -185,8 +184,8 @@ fn read_subject(alloc: Global, object: &Value) -> Result<Subject, Fault>
 }
 
 /// What the report is: `what`, with `stage` for the four that need one and `against` for the two that can compare.
-fn read_asked(alloc: Global, name: ReportName, object: &Value) -> Result<Asked, Fault>
-    ensures { IsRead result (asked_of name (view object.now)) }
+fn read_asked(alloc: Global, name: ReportName, object: &Tree<'_, '_>) -> Result<Asked, Fault>
+    ensures { IsRead result (asked_of name object.now) }
 {
     match name {
         ReportName::All => Ok(Asked::All),
@@ -203,8 +202,8 @@ fn read_asked(alloc: Global, name: ReportName, object: &Value) -> Result<Asked, 
 
 /// The step of a name, from its members.
 #[tactic(auto, unfolding(crate::specs::StepOf::step_with))]
-fn read_members(alloc: Global, name: StepName, object: &Value) -> Result<Step, Fault>
-    ensures { IsRead result (step_with name (view object.now)) }
+fn read_members(alloc: Global, name: StepName, object: &Tree<'_, '_>) -> Result<Step, Fault>
+    ensures { IsRead result (step_with name object.now) }
 {
     match name {
         StepName::Open => Ok(Step::Open {
@@ -247,16 +246,14 @@ fn read_members(alloc: Global, name: StepName, object: &Value) -> Result<Step, F
 }
 
 /// The step that a JSON value is.
-fn read_value(alloc: Global, value: &Value) -> Result<Step, Fault>
-    ensures { IsRead result (step_in (view value.now)) }
+fn read_value(alloc: Global, value: &Tree<'_, '_>) -> Result<Step, Fault>
+    ensures { IsRead result (step_in value.now) }
 {
-    match value {
-        Value::Object(_) => {
-            let name = required::<StepName>(alloc, value, Member::Do)?;
-            read_members(alloc, name, value)
-        }
-        _ => Err(Fault::Shape(Member::Step)),
+    if !value.is_object() {
+        return Err(Fault::Shape(Member::Step));
     }
+    let name = required::<StepName>(alloc, value, Member::Do)?;
+    read_members(alloc, name, value)
 }
 
 /// Reads steps, in room that is kept from one step to the next: to make it anew takes longer than to read a step.
@@ -280,8 +277,8 @@ impl StepReader {
     pub fn read(&mut self, bytes: &[u8]) -> Result<Step, Fault>
         ensures { IsRead result (step_of bytes.now) }
     {
-        let value = read_json_in(self.alloc, bytes, &mut self.room)?;
-        read_value(self.alloc, &value)
+        let document = read_json(self.alloc, bytes, &mut self.room)?;
+        read_value(self.alloc, &document.root())
     }
 }
 

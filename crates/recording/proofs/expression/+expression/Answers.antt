@@ -1,24 +1,12 @@
-use Rattle.std.proofs.Common.{arith}
 use Rattle.recording.proofs.Operands.{wrong_count}
-use Rattle.recording.proofs.expression.+expression.Goals.{read_form-in_default-via-in-Argument+then-rest-lt1, read_form-in_default-via-in-Argument+else-rest-lt1+else-this-lt2, read_form-in_default-via-in-Binary+then-this-lt2-2, read_form-in_default-via-in-Binary+else-this-lt2-2+else-this-lt3, read_form-in_default-via-in-If+then-this-lt3-2, read_form-in_default-via-in-If+else-this-lt3-2+else-this-lt4, read_form-in_default-via-in-IsNull+then-this-lt1, read_form-in_default-via-in-IsNull+else-this-lt1+else-this-lt2-3, read_form-in_default-via-in-Failed+else-this-lt1-2, read_form-in_default-via-in-IsWrapped+else-this-lt1-3, read_form-in_default-via-in-CauseIs+then-this-lt1-4, read_form-in_default-via-in-CauseIs+else-this-lt1-4+else-this-lt2-4, read_form-in_default-via-in-Throw+then-this-lt1-5, read_form-in_default-via-in-Throw+else-this-lt1-5+else-this-lt2-5}
+use Rattle.recording.specs.declared.expression.Word.TheVariants.{Binary, If, IsNull}
 use Rattle.recording.proofs.expression.+expression.Goals as goal
 
-pub read_form-returns-in_default : goal.read_form-returns-in_default
-read_form-returns-in_default t c =
-    wrong_count c.args.word c.args.rest.now
-    (λ count. elim c.in_default.branch [
-      | read_form-in_default-via-in-Argument+then-rest-lt1 w ↦ grind arith
-      | read_form-in_default-via-in-Argument+else-rest-lt1+else-this-lt2 w ↦ grind arith
-      | read_form-in_default-via-in-Binary+then-this-lt2-2 w ↦ grind arith
-      | read_form-in_default-via-in-Binary+else-this-lt2-2+else-this-lt3 w ↦ grind arith
-      | read_form-in_default-via-in-If+then-this-lt3-2 w ↦ grind arith
-      | read_form-in_default-via-in-If+else-this-lt3-2+else-this-lt4 w ↦ grind arith
-      | read_form-in_default-via-in-IsNull+then-this-lt1 w ↦ grind arith
-      | read_form-in_default-via-in-IsNull+else-this-lt1+else-this-lt2-3 w ↦ grind arith
-      | read_form-in_default-via-in-Failed+else-this-lt1-2 w ↦ grind arith
-      | read_form-in_default-via-in-IsWrapped+else-this-lt1-3 w ↦ grind arith
-      | read_form-in_default-via-in-CauseIs+then-this-lt1-4 w ↦ grind arith
-      | read_form-in_default-via-in-CauseIs+else-this-lt1-4+else-this-lt2-4 w ↦ grind arith
-      | read_form-in_default-via-in-Throw+then-this-lt1-5 w ↦ grind arith
-      | read_form-in_default-via-in-Throw+else-this-lt1-5+else-this-lt2-5 w ↦ grind arith
-    ])
+pub read_form-returns-in_default-pair : goal.read_form-returns-in_default-pair
+read_form-returns-in_default-pair t c = rw c.in-Binary.is (wrong_count (Binary c.in-Binary.operator) c.args.operands c.in_default-pair.ensures)
+
+pub read_form-returns-in_default-triple : goal.read_form-returns-in_default-triple
+read_form-returns-in_default-triple t c = rw c.in-If.is (wrong_count If c.args.operands c.in_default-triple.ensures)
+
+pub read_form-returns-in_default-only : goal.read_form-returns-in_default-only
+read_form-returns-in_default-only t c = rw c.in-IsNull.is (wrong_count IsNull c.args.operands c.in_default-only.ensures)
