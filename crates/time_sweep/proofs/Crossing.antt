@@ -5,12 +5,22 @@ use denote.Builtin.{One}
 use denote.RattleType.{RattleType}
 use denote.Ref.{NamedLft}
 use denote.Param.Send.{IsSync, sendable}
-use denote.Struct.Field.{shr_ref_field, u32-field}
+use denote.Struct.Field.{shr_ref_field}
 use denote.Struct.Tuple.{TupleAt}
+use Rattle.std.proofs.Crossing.{crosses}
 use Rattle.std.specs.contracts.alloc.Global as Heap
 use Rattle.std.below.core.specs.contracts.marker.ClosureMark as mark
+use Rattle.time_sweep.specs.contracts.known.Start as start
 
--- V: the version. M: the types that only the closure's code names
-pub captures_sync : (ν : Sym) (ℓ ℓ' ℓ'' : NamedLft) (V M : RattleType) (one : One V.mir) → IsSync V
-    → IsSync (TupleAt ν ((shr_ref_field ℓ Heap.the_row tt).row ∷ (shr_ref_field ℓ' V one).row ∷ (shr_ref_field ℓ'' (u32-field).row tt).row ∷ mark.the_row M ∷ []))
-captures_sync ν ℓ ℓ' ℓ'' V M one sync = search sendable depth 60 fits 100000
+pub start_sync : IsSync start.the_row
+start_sync = search (sendable, crosses) depth 60 fits 100000
+
+-- V: the version, W: what the trials start from
+pub captures_sync : (ν : Sym) (ℓ ℓ' ℓ'' : NamedLft) (V W : RattleType) (one : One V.mir) (two : One W.mir) → IsSync V → IsSync W
+    → IsSync (TupleAt ν ((shr_ref_field ℓ Heap.the_row tt).row ∷ (shr_ref_field ℓ' V one).row ∷ (shr_ref_field ℓ'' W two).row ∷ []))
+captures_sync ν ℓ ℓ' ℓ'' V W one two sync also = search sendable depth 60 fits 100000
+
+-- M: the types that only the closure's code names
+pub captures_marked_sync : (ν : Sym) (ℓ ℓ' ℓ'' : NamedLft) (V W M : RattleType) (one : One V.mir) (two : One W.mir) → IsSync V → IsSync W
+    → IsSync (TupleAt ν ((shr_ref_field ℓ Heap.the_row tt).row ∷ (shr_ref_field ℓ' V one).row ∷ (shr_ref_field ℓ'' W two).row ∷ mark.the_row M ∷ []))
+captures_marked_sync ν ℓ ℓ' ℓ'' V W M one two sync also = search sendable depth 60 fits 100000

@@ -1,45 +1,96 @@
--- The edits by which a stage's action takes no time are accepted.
-use Rattle.std.proofs.Common.{◌≡◌, ◌+◌, ℕ, [], ◌∷◌, ◌++◌, Option, Some, None, Result, Ok, Bool, true, false, refl, ap, sym, ◌∙◌, arith, cond, List}
-use Rattle.std.specs.Prelude.{IsTrue, is_some, slice_set}
+-- The graph in which a stage's action takes no time.
+use Rattle.std.proofs.Common.{◌≡◌, ◌≢◌, ◌+◌, ◌<◌, ℕ, zero, suc, [], ◌∷◌, ◌++◌, Option, Some, None, Bool, true, false, refl, ap, sym, ◌∙◌, arith, cond, List, length, get_or, subst, inl, inr}
+use Rattle.std.specs.Prelude.{Contains, is_some, slice_set}
 use Rattle.std.specs.List.{range_with_len}
-use Rattle.std.proofs.lemmas.Bool.{cond_above}
+use Rattle.std.proofs.Math.ListN.{set, length-set}
+use Rattle.std.proofs.lemmas.Bool.{cond_above, or_right}
 use Rattle.std.proofs.lemmas.List.{map-id, set-get_or}
 use Rattle.std.proofs.lemmas.List.FromFn.{map-range_with_len_more}
-use Rattle.std.specs.Option.{option_and_then}
-use Rattle.act_expr.specs.Expression.{Expression}
-use Rattle.stage_graph.specs.declared.op.Op.{Op}
-use Rattle.stage_graph.specs.declared.edit.Edit.TheVariants.{SetTimes}
+use Rattle.std.proofs.lemmas.Slice.Eq.{bytes_eq-Decides}
 use Rattle.stage_graph.specs.declared.stage.Stage.{Stage}
-use Rattle.stage_graph.specs.declared.fault.Refusal.{Refusal}
-use Rattle.stage_graph.specs.Changes.{changed, changed_from, then_on}
-use Rattle.stage_graph.specs.Checks.{passing, fits_action}
-use Rattle.stage_graph.specs.Edits.{allowed, changed_at, standing}
 use Rattle.stage_graph.specs.Operations.{has_action}
-use Rattle.stage_graph.specs.Plain.{PlainGraph, stage_at, stage_named}
-use Rattle.stage_graph.specs.Sound.{IsSound}
+use Rattle.stage_graph.specs.Plain.{PlainGraph, stage_at, has_name, feeds_at, feeds_of, feeds_of_place}
+use Rattle.stage_graph.specs.Sound.{IsSound, IsSoundStage}
+use Rattle.stage_graph.specs.Walk.{Walk, IsRanked}
+use Rattle.stage_graph.proofs.Lists.{set_cases}
+use Rattle.stage_graph.proofs.Placing.{named_within, sound_after_replace}
 use Rattle.stage_ops.specs.declared.state.Done.{Done}
-use Rattle.time_sweep.specs.Sweep.{completion_of, hurried, hurry, sooner_trial, trial_of}
+use Rattle.stage_ops.specs.Among.{IsSoundAmong}
+use Rattle.propagate.proofs.Ranks.{live_within}
+use Rattle.time_sweep.specs.Sweep.{completion_of, hurried, sooner_trial, trial_of}
+use Rattle.time_sweep.proofs.Settling.{IsHurrying}
 
-acts : (op : Op) (action : Option Expression) → is_some action ≡ true → IsTrue (fits_action op action) → has_action op ≡ true
-acts op None some fits = cc
-acts op (Some action) some fits = fits
+abbrev pub fast : Stage → Stage
+fast stage = record stage { queued = 0; runs = 0 }
 
--- with an action the times pass all checks
-passes_with : (graph : PlainGraph) (stage : Stage) (acts : Bool) → acts ≡ true
-    → standing graph (allowed (record passing { within = true; acts = acts }) (record stage { queued = 0; runs = 0 })) ≡ Ok (hurried graph stage)
-passes_with graph stage true is = refl
-passes_with graph stage false is = cc
+-- without time a stage keeps every rule
+pub fast_sound : (places : List (Option Stage)) (place : ℕ) (stage : Stage) → IsSoundStage places place stage → IsSoundStage places place (fast stage)
+fast_sound places place stage sound =
+    let old = sound.lawful in
+    record {
+      lawful = record {
+        named = old.named;
+        arity = old.arity;
+        acts = old.acts;
+        few_sources = old.few_sources;
+        few_inner = old.few_inner;
+        created = old.created;
+        queued = refl;
+        runs = refl;
+        pin = old.pin;
+        ends = old.ends;
+        in_time = old.in_time;
+        times = or_right (has_action stage.op) true refl;
+        sized = old.sized;
+      };
+      own_place = sound.own_place;
+      by_name = sound.by_name;
+      live_feeds = sound.live_feeds;
+    }
 
-pub hurry_allowed : (graph : PlainGraph) → IsSound graph → (stage : Stage) → stage_at graph.places stage.place ≡ Some stage → is_some stage.action ≡ true
-    → changed (hurry stage) graph ≡ Ok (hurried graph stage)
-unfolding changed
-hurry_allowed graph sound stage stands some =
-    let lawful = (sound.stages stage.place stage stands).lawful in
-    let named : stage_named graph.places stage.name ≡ Some stage =
-    ap (option_and_then (stage_at graph.places)) (sound.stages stage.place stage stands).by_name ∙ stands in
-    ap (λ (here : Option Stage). then_on 0 (changed_at graph (SetTimes stage.name 0 0) here) (changed_from 1 [])) named
-    ∙ ap (λ (made : Result PlainGraph Refusal). then_on 0 made (changed_from 1 []))
-    (passes_with graph stage (has_action stage.op) (acts stage.op stage.action some lawful.acts))
+-- the feeds of a sound stage are among the places
+pub sound_among : (places : List (Option Stage)) (place : ℕ) (stage : Stage) (count : ℕ) → count ≡ length places → IsSoundStage places place stage → IsSoundAmong count stage
+sound_among places place stage count size sound = record {
+  lawful = sound.lawful;
+  feeds = λ k d short. let inside = live_within places (get_or (feeds_of stage) k d) (sound.live_feeds k d short) in omega (arith, size, inside);
+}
+
+module _ (graph : PlainGraph) (stage : Stage) (stands : stage_at graph.places stage.place ≡ Some stage) where
+  named : has_name stage.name (stage_at graph.places stage.place) ≡ true
+  named = ap (has_name stage.name) stands ∙ (bytes_eq-Decides stage.name stage.name).1 refl
+
+  within : stage.place < length graph.places
+  within = named_within graph.mode graph.places stage named
+
+  pub hurried_sound : IsSound graph → IsSound (hurried graph stage)
+  hurried_sound sound =
+      sound_after_replace graph.mode graph.places (fast stage) named
+      (fast_sound graph.places stage.place stage (sound.stages stage.place stage stands)) sound
+
+  pub hurried_feeds : (s : ℕ) → feeds_at (hurried graph stage).places s ≡ feeds_at graph.places s
+  hurried_feeds s = elim (set_cases graph.places stage.place s (Some (fast stage)) None within) [
+    | inl (at, now) ↦ ap feeds_of_place now ∙ sym (ap feeds_of_place (ap (stage_at graph.places) at ∙ stands))
+    | inr (differ, now) ↦ ap feeds_of_place now
+  ]
+
+  pub hurried_elsewhere : (s : ℕ) → s ≢ stage.place → stage_at (hurried graph stage).places s ≡ stage_at graph.places s
+  hurried_elsewhere s other = elim (set_cases graph.places stage.place s (Some (fast stage)) None within) [
+    | inl (at, now) ↦ absurd (other at)
+    | inr (differ, now) ↦ now
+  ]
+
+  long : length (hurried graph stage).places ≡ length graph.places
+  long = length-set graph.places stage.place (Some (fast stage))
+
+  walk_same : (steps place : ℕ) → Walk (hurried graph stage).places steps place → Walk graph.places steps place
+  walk_same zero place walk = omega (arith, long, walk)
+  walk_same (suc steps) place (feed, c, walk) = (feed, subst (λ feeds. Contains feeds feed) (hurried_feeds place) c, walk_same steps feed walk)
+
+  pub hurried_ranked : IsRanked graph.places → IsRanked (hurried graph stage).places
+  hurried_ranked ranked place walk = ranked place (walk_same (length graph.places) place (subst (λ steps. Walk (hurried graph stage).places steps place) long walk))
+
+  pub hurrying : IsRanked graph.places → IsHurrying graph.places (hurried graph stage).places stage.place
+  hurrying ranked = record { old_ranked = ranked; new_ranked = hurried_ranked ranked; feeds = hurried_feeds; elsewhere = hurried_elsewhere }
 
 -- the places, with one more
 pub range_more : (count : ℕ) → range_with_len 0 (count + 1) ≡ range_with_len 0 count ++ count ∷ []
@@ -49,7 +100,7 @@ range_more count =
     ∙ ap (λ places. places ++ count ∷ []) (map-id (range_with_len 0 count))
 
 -- an action that takes no time already has no trial
-none_sooner : (acts : Bool) (place : ℕ) (old : Option Done) → cond acts (sooner_trial place old old) None ≡ None
+pub none_sooner : (acts : Bool) (place : ℕ) (old : Option Done) → cond acts (sooner_trial place old old) None ≡ None
 none_sooner true place None = refl
 none_sooner true place (Some done) =
     sym (cond_above done.moment done.moment (Some (record { place = place; outcome = done.outcome; moment = done.moment })) None None (omega arith) refl)

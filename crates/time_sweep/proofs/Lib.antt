@@ -1,4 +1,9 @@
 pub mod Crossing
+pub mod Settling
 pub mod Hurrying
+pub mod Knowing
+pub mod Overlaid
 pub mod Soonest
+pub mod TrialTurns
 pub mod Trying
+pub mod Unreached

@@ -1,22 +1,129 @@
--- The result of the trials together.
-use Rattle.std.proofs.Common.{◌≡◌, ℕ, List, [], ◌∷◌, Option, Result, Ok, Err, refl, ap, ◌∙◌}
-use Rattle.std.specs.Prelude.{All, IfOk, IsOk, filter_map}
-use Rattle.std.specs.List.{AllZip, cons_option}
-use Rattle.std.proofs.lemmas.List.Elements.{All-head, All-tail}
+-- The results of the trials together.
+use Rattle.std.proofs.Common.{◌≡◌, ◌+◌, ◌-◌, ◌*◌, ◌<◌, ◌≤◌, ℕ, zero, suc, List, [], ◌∷◌, ◌++◌, Option, None, Result, Ok, Err, length, get_or, take, drop, refl, ap, sym, ◌∙◌, subst, arith, append-nil, ⊎_elim}
+use Rattle.std.specs.Prelude.{All, IfOk, IsOk, Vec, filter_map, min}
+use Rattle.std.specs.Global.{Global}
+use Rattle.std.specs.List.{AllZip, cons_option, flat_map, range_with_len}
+use Rattle.std.proofs.lemmas.Bool.{cases_lt}
+use Rattle.std.proofs.lemmas.Grind.{flat_map-append}
+use Rattle.std.proofs.lemmas.List.{length-drop, take-append-drop, take_more}
+use Rattle.std.proofs.lemmas.List.Elements.{All-head, All-tail, filter_map-append}
 use Rattle.time_sweep.specs.declared.trial.Trial.{Trial}
-use Rattle.time_sweep.specs.Tried.{Gives, trial_in}
+use Rattle.time_sweep.specs.Tried.{GiveAll, part_of, trials_in}
+use Rattle.time_sweep.proofs.Hurrying.{range_more}
 
-pub all_tried : {E : Type 0} (trial : ℕ → Option Trial) (places : List ℕ) (tried : List (Result (Option Trial) E)) → AllZip (Gives trial) places tried → All (λ one. IsOk one) tried
-    → filter_map trial_in tried ≡ filter_map trial places
-all_tried trial [] [] zip all = refl
-all_tried trial [] (one ∷ rest) zip all = absurd zip
-all_tried trial (place ∷ places) [] zip all = absurd zip
-all_tried trial (place ∷ places) (Ok made ∷ rest) zip all =
-    ap (λ (one : Option Trial). cons_option one (filter_map trial_in rest)) zip.0
-    ∙ ap (cons_option (trial place)) (all_tried trial places rest zip.1 (All-tail (λ one. IsOk one) (Ok made) rest all))
-all_tried trial (place ∷ places) (Err error ∷ rest) zip all = let ok = All-head (λ one. IsOk one) (Err error) rest all in cc
+pub all_tried : {E : Type 0} (trials : ℕ → List Trial) (parts : List ℕ) (tried : List (Result (Vec Trial Global) E)) → AllZip (GiveAll trials) parts tried → All (λ one. IsOk one) tried
+    → flat_map trials_in tried ≡ flat_map trials parts
+all_tried trials [] [] zip all = refl
+all_tried trials [] (one ∷ rest) zip all = absurd zip
+all_tried trials (part ∷ parts) [] zip all = absurd zip
+all_tried trials (part ∷ parts) (Ok made ∷ rest) zip all =
+    ap (λ (first : List Trial). first ++ flat_map trials_in rest) zip.0
+    ∙ ap (λ (later : List Trial). trials part ++ later) (all_tried trials parts rest zip.1 (All-tail (λ one. IsOk one) (Ok made) rest all))
+all_tried trials (part ∷ parts) (Err error ∷ rest) zip all = let ok = All-head (λ one. IsOk one) (Err error) rest all in cc
 
 -- what follows from two facts about a result that is there
 pub both_ok : {T E : Type 0} (r : Result T E) (P Q R : T → Type 0) → ((x : T) → P x → Q x → R x) → IfOk r P → IfOk r Q → IfOk r R
 both_ok (Ok x) P Q R f p q = f x p q
 both_ok (Err e) P Q R f p q = tt
+
+drop_none : (i : ℕ) → drop {A = ℕ} i [] ≡ []
+drop_none zero = refl
+drop_none (suc i) = refl
+
+drop_drop : (i j : ℕ) (xs : List ℕ) → drop j (drop i xs) ≡ drop (i + j) xs
+drop_drop zero j xs = let same : j ≡ zero + j = omega arith in ap (λ k. drop k xs) same
+drop_drop (suc i) j [] = drop_none j ∙ sym (drop_none (suc i + j))
+drop_drop (suc i) j (x ∷ xs) = let same : suc (i + j) ≡ suc i + j = omega arith in drop_drop i j xs ∙ ap (λ k. drop k (x ∷ xs)) same
+
+drop_past : (i : ℕ) (xs : List ℕ) → length xs ≤ i → drop i xs ≡ []
+drop_past zero [] past = refl
+drop_past zero (x ∷ xs) past = absurd (omega arith)
+drop_past (suc i) [] past = refl
+drop_past (suc i) (x ∷ xs) past = drop_past i xs (omega arith)
+
+-- the trials of the parts are those of the places
+module _ (trial : ℕ → Option Trial) (places : List ℕ) (size : ℕ) where
+  from_part : (count first : ℕ) → length places ≤ (first + count) * size
+      → flat_map (λ part. filter_map trial (part_of places size part)) (range_with_len first count) ≡ filter_map trial (drop (first * size) places)
+  from_part zero first all = ap (filter_map trial) (sym (drop_past (first * size) places (omega arith)))
+  from_part (suc count) first all =
+      let rest : List ℕ = drop (first * size) places in
+      let next : (first + 1) * size ≡ first * size + size = omega arith in
+      let enough : length places ≤ (first + 1 + count) * size = omega arith in
+      ap (λ (later : List Trial). filter_map trial (take size rest) ++ later) (from_part count (first + 1) enough)
+      ∙ ap (λ (k : ℕ). filter_map trial (take size rest) ++ filter_map trial (drop k places)) next
+      ∙ ap (λ (later : List ℕ). filter_map trial (take size rest) ++ filter_map trial later) (sym (drop_drop (first * size) size places))
+      ∙ sym (filter_map-append trial (take size rest) (drop size rest))
+      ∙ ap (filter_map trial) (take-append-drop size rest)
+
+  pub from_parts : (count : ℕ) → length places ≤ count * size
+      → flat_map (λ part. filter_map trial (part_of places size part)) (range_with_len 0 count) ≡ filter_map trial places
+  from_parts count all =
+      let count_is : count ≡ 0 + count = omega arith in
+      let none : 0 * size ≡ 0 = omega arith in
+      from_part count 0 (subst (λ k. length places ≤ k * size) count_is all) ∙ ap (λ k. filter_map trial (drop k places)) none
+
+-- ---- the places that are tried
+
+-- one place more, which is tried
+pub tried_more : (trial : ℕ → Option Trial) (places : List ℕ) (place : ℕ) → filter_map trial places ≡ filter_map trial (range_with_len 0 place)
+    → filter_map trial (places ++ place ∷ []) ≡ filter_map trial (range_with_len 0 (place + 1))
+tried_more trial places place so_far =
+    filter_map-append trial places (place ∷ [])
+    ∙ ap (λ (found : List Trial). found ++ filter_map trial (place ∷ [])) so_far
+    ∙ sym (filter_map-append trial (range_with_len 0 place) (place ∷ []))
+    ∙ ap (filter_map trial) (sym (range_more place))
+
+-- and one that has no trial
+pub tried_same : (trial : ℕ → Option Trial) (places : List ℕ) (place : ℕ) → filter_map trial places ≡ filter_map trial (range_with_len 0 place) → trial place ≡ None
+    → filter_map trial places ≡ filter_map trial (range_with_len 0 (place + 1))
+tried_same trial places place so_far none =
+    so_far
+    ∙ sym (append-nil (filter_map trial (range_with_len 0 place)))
+    ∙ ap (λ (one : Option Trial). filter_map trial (range_with_len 0 place) ++ cons_option one []) (sym none)
+    ∙ sym (filter_map-append trial (range_with_len 0 place) (place ∷ []))
+    ∙ ap (filter_map trial) (sym (range_more place))
+
+-- one place more of a list
+pub found_more : (trial : ℕ → Option Trial) (places : List ℕ) (k : ℕ) → k < length places
+    → filter_map trial (take (k + 1) places) ≡ filter_map trial (take k places) ++ cons_option (trial (get_or places k 0)) []
+found_more trial places k within = ap (filter_map trial) (take_more places k 0 within) ∙ filter_map-append trial (take k places) (get_or places k 0 ∷ [])
+
+-- a list of trials more
+pub joined_more : {E : Type 0} (tried : List (Result (Vec Trial Global) E)) (k : ℕ) (one : Result (Vec Trial Global) E) → k < length tried → one ≡ get_or tried k one
+    → flat_map trials_in (take (k + 1) tried) ≡ flat_map trials_in (take k tried) ++ trials_in one
+joined_more tried k one within is =
+    ap (flat_map trials_in) (take_more tried k one within)
+    ∙ flat_map-append trials_in (take k tried) (get_or tried k one ∷ [])
+    ∙ ap (λ (one : Result (Vec Trial Global) _). flat_map trials_in (take k tried) ++ (trials_in one ++ [])) (sym is)
+    ∙ ap (λ (last : List Trial). flat_map trials_in (take k tried) ++ last) (append-nil (trials_in one))
+
+-- ---- a part of the places
+
+take_whole : (k : ℕ) (xs : List ℕ) → length xs ≤ k → take k xs ≡ xs
+take_whole zero [] past = refl
+take_whole zero (x ∷ xs) past = absurd (omega arith)
+take_whole (suc k) [] past = refl
+take_whole (suc k) (x ∷ xs) past = ap (λ rest. x ∷ rest) (take_whole k xs (omega arith))
+
+take_none : (k : ℕ) → take {A = ℕ} k [] ≡ []
+take_none zero = refl
+take_none (suc k) = refl
+
+pub part_is : (places : List ℕ) (size begin start end : ℕ) → start ≡ min begin (length places) → end ≡ min (start + size) (length places)
+    → take (end - start) (drop start places) ≡ take size (drop begin places)
+part_is places size begin start end start_is end_is =
+    ⊎_elim
+    (λ (inside : begin < length places).
+    let same : start ≡ begin = omega arith in
+    ap (λ k. take (end - k) (drop k places)) same
+    ∙ ⊎_elim
+    (λ (whole : begin + size < length places). let count : end - begin ≡ size = omega arith in ap (λ k. take k (drop begin places)) count)
+    (λ (last : length places ≤ begin + size).
+    let long : length (drop begin places) ≡ length places - begin = length-drop begin places in
+    take_whole (end - begin) (drop begin places) (omega (arith, long)) ∙ sym (take_whole size (drop begin places) (omega (arith, long))))
+    (cases_lt (begin + size) (length places)))
+    (λ (past : length places ≤ begin).
+    let same : start ≡ length places = omega arith in
+    ap (take (end - start)) (drop_past start places (omega arith)) ∙ take_none (end - start) ∙ sym (ap (take size) (drop_past begin places past) ∙ take_none size))
+    (cases_lt begin (length places))

@@ -1,2 +1,4 @@
+pub mod Changed
+pub mod Known
 pub mod Sweep
 pub mod Tried

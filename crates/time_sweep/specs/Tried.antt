@@ -1,12 +1,31 @@
--- The result of a trial.
-use Rattle.std.specs.Prelude.{◌≡◌, ℕ, Option, None, Result, Ok, Err, IfOk}
+-- The results of the trials, part by part.
+use Rattle.std.specs.Prelude.{◌≡◌, ◌≤◌, ◌*◌, ℕ, All, length, List, [], Vec, Result, Ok, Err, IfOk, drop, take}
+use Rattle.std.specs.Global.{Global}
+use Rattle.stage_graph.specs.Plain.{PlainGraph, IsLive}
+use Rattle.stage_ops.specs.Java.{java_step}
+use Rattle.propagate.specs.Reach.{AreStates}
+use Rattle.time_sweep.specs.declared.known.Start.{Start}
 use Rattle.time_sweep.specs.declared.trial.Trial.{Trial}
+use Rattle.time_sweep.specs.Known.{AreRanksFor, IsKnown}
 
--- the trial, unless memory ran out
-abbrev pub trial_in : {E : Type 0} → Result (Option Trial) E → Option Trial
-trial_in (Ok trial) = trial
-trial_in (Err error) = None
+-- the trials, unless memory ran out
+abbrev pub trials_in : {E : Type 0} → Result (Vec Trial Global) E → List Trial
+trials_in (Ok trials) = trials.items
+trials_in (Err error) = []
 
--- the trial of a place, where it was made
-abbrev pub Gives : {E : Type 0} → (ℕ → Option Trial) → ℕ → Result (Option Trial) E → Type 0
-Gives trial place answer = IfOk answer (λ made. made ≡ trial place)
+-- the trials of a part, where they were made
+abbrev pub GiveAll : {E : Type 0} → (ℕ → List Trial) → ℕ → Result (Vec Trial Global) E → Type 0
+GiveAll trials part answer = IfOk answer (λ made. made.items ≡ trials part)
+
+-- the places of a part, of which each but the last has this many
+abbrev pub part_of : List ℕ → ℕ → ℕ → List ℕ
+part_of places size part = take size (drop (part * size) places)
+
+-- trials of the graph may start from this
+pub record CanStart (graph : PlainGraph) (start : Start) : Type 0 where
+  pub live : IsLive graph.places start.target
+  pub known : All (IsKnown start.ranks.items) start.places.items
+  pub states : AreStates (java_step graph.mode) graph.places start.before.items
+  pub ranks : AreRanksFor graph.places start.target start.ranks.items
+  pub few : length start.places.items ≤ 65536
+  pub size : start.size ≤ 65536

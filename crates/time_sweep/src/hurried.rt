@@ -1,73 +1,285 @@
-//! A version in which one action takes no time.
-ghost use Rattle.std.specs.Prelude.{◌≡◌, IfOk, IsSome, Some};
-ghost use Rattle.stage_graph.specs.Plain.{IsLive, stage_at};
-ghost use Rattle.time_sweep.specs.Sweep.{completion_of, hurried, hurry};
+//! How a stage completes where the action of another takes no time.
+ghost use Rattle.std.specs.Prelude.{◌≡◌, ◌<◌, ◌||◌, ◌&&◌, ◌==◌, ◌^◌, ℕ, All, IfOk, OnOk, Some, IfSome, IsSome, is_some, length, option_copied, slice_set, ◌++◌, ◌∷◌, []};
+ghost use Rattle.stage_graph.specs.Plain.{stage_at, feeds_at, dependents, IsLive};
+ghost use Rattle.stage_graph.specs.Sound.{IsSoundStage};
+ghost use Rattle.stage_graph.specs.Walk.{rank};
+ghost use Rattle.rank_order.specs.Lists.{is_among};
+ghost use Rattle.stage_ops.specs.Among.{IsSoundAmong};
+ghost use Rattle.stage_ops.specs.Evaluation.{at};
+ghost use Rattle.stage_ops.specs.Java.{java_step};
+ghost use Rattle.stage_ops.specs.States.{seen_of, IsBy};
+ghost use Rattle.rank_order.specs.Marks.{is_marked, AreMarks};
+ghost use Rattle.propagate.specs.Completions.{differ};
+ghost use Rattle.propagate.specs.Reach.{come_to, AreStates};
+ghost use Rattle.time_sweep.specs.Changed.{state_in, states_in};
+ghost use Rattle.time_sweep.specs.Known.{is_below, rank_in, AreRanksFor, IsKnown};
+ghost use Rattle.time_sweep.specs.Sweep.{completion_of, hurried};
 
-use level_pool::Runner;
+use crate::changes::{Changes, Now};
+use crate::differ::differ;
+use crate::known::known_rank;
 use propagate::StateRepresentation;
-use share_tree::Held;
-use stage_graph::{Edit, Edits, Fault, Stage};
-use stage_ops::{Done, Meter};
+use rank_order::Marks;
+use stage_graph::{Graph, Stage};
+use stage_ops::{Done, JavaOps, Meter, StageOps, State};
 use std::alloc::{AllocError, Global};
-use version_store::{Draft, NoStage, Version};
+use version_store::{NoStage, Version};
 
-/// The marker of the meter of a trial.
+/// The marker of the meter of a computation.
 #[derive(Drop)]
 struct OneTrial;
 
-/// The edits by which a stage's action takes no time.
-fn without_time(alloc: Global, stage: &Stage) -> Result<Held<Edits>, AllocError>
-    ensures { IfOk result (λ edits. edits ≡ hurry stage.now) }
+/// The stage, with an action that is not queued and takes no time.
+fn without_time(stage: &Stage) -> Result<Stage, AllocError>
+    ensures { IfOk result (λ made. made ≡ record stage.now { queued = 0; runs = 0 }) }
 {
-    let edit = Edit::SetTimes {
-        name: stage.name.again()?,
-        queued: 0,
-        runs: 0,
-    };
-    let edits = Edits::one(alloc, edit)?;
-    Held::new(alloc, edits)
+    let mut made = stage.again()?;
+    made.queued = 0;
+    made.runs = 0;
+    Ok(made)
 }
 
-/// The draft of a version in which a stage's action takes no time.
-fn hurried_draft<R: StateRepresentation, W: Runner>(
+/// The marks of a trial at its beginning: the stage whose action takes no time is the only one that has to be computed.
+fn first_mark(alloc: Global, ranks: &[Option<u32>], place: u32) -> Result<Marks, AllocError>
+    requires { IsKnown ranks.now place }
+    ensures marked { IfOk result (λ marks. (order : ℕ → ℕ) → rank_in ranks.now place ≡ Some (order place)
+        → (other : ℕ) → is_marked order marks other ≡ (other == place)) }
+    ensures marks { IfOk result (λ marks. (order : ℕ → ℕ) → rank_in ranks.now place ≡ Some (order place) → AreMarks order marks) }
+{
+    let mut marks = Marks::new(alloc);
+    match known_rank(ranks, place) {
+        Some(rank) => marks.insert(rank, place)?,
+        None => unreachable!(),
+    }
+    Ok(marks)
+}
+
+/// The dependents of a stage.
+fn dependents_of<R: StateRepresentation>(version: &Version<R>, place: u32) -> &[u32]
+    requires { IsLive version.now.graph.places place }
+    ensures { result.now ≡ dependents version.now.graph.places place }
+{
+    match version.dependents(place) {
+        Ok(dependents) => dependents,
+        Err(NoStage) => unreachable!(),
+    }
+}
+
+/// Marks the dependents of a place that the target can wait for.
+fn tell<R: StateRepresentation>(
+    marks: &mut Marks,
+    version: &Version<R>,
+    ranks: &[Option<u32>],
+    target: u32,
+    place: u32,
+) -> Result<(), AllocError>
+    requires live { IsLive version.now.graph.places place }
+    requires ranks { AreRanksFor version.now.graph.places target ranks.now }
+    ensures marked { OnOk result ((other : ℕ) → is_marked (rank version.now.graph.places) marks.new other
+        ≡ (is_marked (rank version.now.graph.places) marks.old other || (is_among place (feeds_at version.now.graph.places other) && is_some (rank_in ranks.now other)))) }
+    ensures marks { OnOk result (AreMarks (rank version.now.graph.places) marks.old → AreMarks (rank version.now.graph.places) marks.new) }
+{
+    let dependents = dependents_of(version, place);
+    for dependent in dependents {
+        if let Some(rank) = known_rank(ranks, *dependent) {
+            marks.insert(rank, *dependent)?;
+        }
+    }
+    Ok(())
+}
+
+/// The same, if the place has changed.
+fn tell_if<R: StateRepresentation>(
+    is_told: bool,
+    marks: &mut Marks,
+    version: &Version<R>,
+    ranks: &[Option<u32>],
+    target: u32,
+    place: u32,
+) -> Result<(), AllocError>
+    requires live { IsLive version.now.graph.places place }
+    requires ranks { AreRanksFor version.now.graph.places target ranks.now }
+    ensures marked { OnOk result ((other : ℕ) → is_marked (rank version.now.graph.places) marks.new other
+        ≡ (is_marked (rank version.now.graph.places) marks.old other
+        || (is_told && (is_among place (feeds_at version.now.graph.places other) && is_some (rank_in ranks.now other))))) }
+    ensures marks { OnOk result (AreMarks (rank version.now.graph.places) marks.old → AreMarks (rank version.now.graph.places) marks.new) }
+{
+    if is_told {
+        return tell(marks, version, ranks, target, place);
+    }
+    Ok(())
+}
+
+/// The stage at a place of the graph in which a stage's action takes no time.
+#[inline(always)]
+fn stage_in<'a, R: StateRepresentation>(
+    graph: &'a Graph<R>,
+    fast: &'a Stage,
+    place: u32,
+) -> Option<&'a Stage>
+    requires live { IsLive graph.now.places fast.now.place }
+    requires sound { IsSoundStage graph.now.places fast.now.place fast.now }
+    ensures stage { option_copied result ≡ stage_at (slice_set graph.now.places fast.now.place (Some fast.now)) place }
+    ensures sound { IfSome result (λ stage. IsSoundStage graph.now.places place stage.now) }
+{
+    if place == fast.place {
+        Some(fast)
+    } else {
+        graph.stage(place)
+    }
+}
+
+/// The state that a stage comes to, by the states of its feeds.
+fn state_of<R: StateRepresentation>(graph: &Graph<R>, stage: &Stage, now: &Now) -> State
+    requires each { length now.now.changes.now.at.items ≡ length now.now.before.now }
+    requires sound { IsSoundAmong (length now.now.before.now) stage.now }
+    requires moments { All (λ state. IsBy (2 ^ 62) (seen_of state)) (states_in now.now.before.now now.now.changes.now.at.items now.now.changes.now.list.items) }
+    ensures { result ≡ come_to (java_step graph.now.mode) (Some stage.now) (state_in now.now.before.now now.now.changes.now.at.items now.now.changes.now.list.items) }
+{
+    let pass = Meter::new(OneTrial).pass(stage.place);
+    JavaOps.compute(graph.mode(), stage, &pass, now)
+}
+
+/// The state that the stage at a place comes to, where a stage's action takes no time.
+fn state_in<R: StateRepresentation>(
+    graph: &Graph<R>,
+    before: &[State],
+    fast: &Stage,
+    place: u32,
+    changes: &Changes,
+) -> State
+    requires live { IsLive graph.now.places place }
+    requires sound { IsSoundStage graph.now.places fast.now.place fast.now }
+    requires stands { IsLive graph.now.places fast.now.place }
+    requires count { length before.now ≡ length graph.now.places }
+    requires each { length changes.now.at.items ≡ length graph.now.places }
+    requires moments { All (λ state. IsBy (2 ^ 62) (seen_of state)) (states_in before.now changes.now.at.items changes.now.list.items) }
+    ensures { result ≡ come_to (java_step graph.now.mode) (stage_at (slice_set graph.now.places fast.now.place (Some fast.now)) place)
+        (state_in before.now changes.now.at.items changes.now.list.items) }
+{
+    match stage_in(graph, fast, place) {
+        Some(stage) => state_of(graph, stage, &Now { before, changes }),
+        None => unreachable!(),
+    }
+}
+
+/// Computes the stage at a place, and marks its dependents if they can tell the difference.
+fn advance<R: StateRepresentation>(
+    version: &Version<R>,
+    before: &[State],
+    ranks: &[Option<u32>],
+    fast: &Stage,
+    target: u32,
+    place: u32,
+    marks: &mut Marks,
+    changes: &mut Changes,
+) -> Result<(), AllocError>
+    requires live { IsLive version.now.graph.places place }
+    requires ranks { AreRanksFor version.now.graph.places target ranks.now }
+    requires sound { IsSoundStage version.now.graph.places fast.now.place fast.now }
+    requires stands { IsLive version.now.graph.places fast.now.place }
+    requires count { length before.now ≡ length version.now.graph.places }
+    requires each { length changes.old.at.items ≡ length version.now.graph.places }
+    requires few { length changes.old.list.items < length version.now.graph.places }
+    requires moments { All (λ state. IsBy (2 ^ 62) (seen_of state)) (states_in before.now changes.old.at.items changes.old.list.items) }
+    ensures at { OnOk result (changes.new.at.items ≡ slice_set changes.old.at.items place (length changes.old.list.items)) }
+    ensures list { OnOk result (changes.new.list.items ≡ changes.old.list.items ++ record {
+      place = place;
+      state = come_to (java_step version.now.graph.mode) (stage_at (slice_set version.now.graph.places fast.now.place (Some fast.now)) place)
+          (state_in before.now changes.old.at.items changes.old.list.items);
+    } ∷ []) }
+    ensures marked { OnOk result ((other : ℕ) → is_marked (rank version.now.graph.places) marks.new other
+        ≡ (is_marked (rank version.now.graph.places) marks.old other
+        || (differ (seen_of (state_in before.now changes.old.at.items changes.old.list.items place))
+        (seen_of (come_to (java_step version.now.graph.mode) (stage_at (slice_set version.now.graph.places fast.now.place (Some fast.now)) place)
+        (state_in before.now changes.old.at.items changes.old.list.items)))
+        && (is_among place (feeds_at version.now.graph.places other) && is_some (rank_in ranks.now other))))) }
+    ensures marks { OnOk result (AreMarks (rank version.now.graph.places) marks.old → AreMarks (rank version.now.graph.places) marks.new) }
+{
+    let graph = version.graph();
+    // With its length a graph says that it is sound, and so how many places it has at most.
+    let _ = graph.len();
+    let state = state_in(graph, before, fast, place, changes);
+    let is_told = differ(Now { before, changes }.at(place), &state);
+    changes.set(place, state)?;
+    tell_if(is_told, marks, version, ranks, target, place)?;
+    Ok(())
+}
+
+/// Whether the rank of the first place is below that of the second.
+fn is_below(ranks: &[Option<u32>], one: u32, other: u32) -> bool
+    ensures { result ≡ is_below (rank_in ranks.now one) (rank_in ranks.now other) }
+{
+    match (known_rank(ranks, one), known_rank(ranks, other)) {
+        (Some(one), Some(other)) => one < other,
+        _ => false,
+    }
+}
+
+/// Computes the stages that can be reached from the one whose action takes no time, as far as the target can wait for them:
+/// by rank, so each of them once, and no more of them once the target's state is found.
+fn settle<R: StateRepresentation>(
     alloc: Global,
     version: &Version<R>,
+    before: &[State],
+    ranks: &[Option<u32>],
     stage: &Stage,
-    runner: &W,
-) -> Result<Draft<R>, AllocError>
+    fast: &Stage,
+    target: u32,
+    changes: &mut Changes,
+) -> Result<(), AllocError>
     requires stands { stage_at version.now.graph.places stage.now.place ≡ Some stage.now }
     requires acts { IsSome stage.now.action }
-    ensures { IfOk result (λ draft. draft.graph ≡ hurried version.now.graph stage.now) }
+    requires fast { fast.now ≡ record stage.now { queued = 0; runs = 0 } }
+    requires known { IsKnown ranks.now stage.now.place }
+    requires states { AreStates (java_step version.now.graph.mode) version.now.graph.places before.now }
+    requires ranks { AreRanksFor version.now.graph.places target ranks.now }
+    requires each { length changes.old.at.items ≡ length version.now.graph.places }
+    ensures each { OnOk result (length changes.new.at.items ≡ length version.now.graph.places) }
+    ensures settled { OnOk result (state_in before.now changes.new.at.items changes.new.list.items target
+        ≡ at (java_step version.now.graph.mode) (hurried version.now.graph stage.now).places target) }
 {
+    let graph = version.graph();
     // With its length a graph says that it is sound, as every graph is.
-    let _ = version.graph().len();
-    let edits = without_time(alloc, stage)?;
-    let mut meter = Meter::new(OneTrial);
-    match version.draft(alloc, &edits, runner, &mut meter) {
-        Ok(draft) => Ok(draft),
-        Err(Fault::Memory) => Err(AllocError),
-        Err(Fault::Refused(_)) => unreachable!(),
-        Err(Fault::Cycle(_)) => unreachable!(),
+    let _ = graph.len();
+    changes.clear();
+    let mut marks = first_mark(alloc, ranks, stage.place)?;
+    while let Some(place) = marks.pop_first() {
+        if is_below(ranks, target, place) {
+            return Ok(());
+        }
+        advance(
+            version, before, ranks, fast, target, place, &mut marks, changes,
+        )?;
+        if place == target {
+            return Ok(());
+        }
     }
+    Ok(())
 }
 
 /// How a stage would complete if the action of another took no time; none where it would be pending.
-pub(crate) fn hurried_completion<R: StateRepresentation, W: Runner>(
+pub(crate) fn hurried_completion<R: StateRepresentation>(
     alloc: Global,
     version: &Version<R>,
+    before: &[State],
+    ranks: &[Option<u32>],
     stage: &Stage,
     target: u32,
-    runner: &W,
+    changes: &mut Changes,
 ) -> Result<Option<Done>, AllocError>
+    requires live { IsLive version.now.graph.places target }
     requires stands { stage_at version.now.graph.places stage.now.place ≡ Some stage.now }
     requires acts { IsSome stage.now.action }
-    requires live { IsLive version.now.graph.places target }
-    ensures { IfOk result (λ done. done ≡ completion_of (hurried version.now.graph stage.now) target) }
+    requires known { IsKnown ranks.now stage.now.place }
+    requires states { AreStates (java_step version.now.graph.mode) version.now.graph.places before.now }
+    requires ranks { AreRanksFor version.now.graph.places target ranks.now }
+    requires each { length changes.old.at.items ≡ length version.now.graph.places }
+    ensures each { OnOk result (length changes.new.at.items ≡ length version.now.graph.places) }
+    ensures done { IfOk result (λ done. done ≡ completion_of (hurried version.now.graph stage.now) target) }
 {
-    let draft = hurried_draft(alloc, version, stage, runner)?;
-    let hurried = draft.numbered(0)?;
-    match hurried.state(target) {
-        Ok(state) => Ok(state.done),
-        Err(NoStage) => unreachable!(),
-    }
+    let fast = without_time(stage)?;
+    settle(alloc, version, before, ranks, stage, &fast, target, changes)?;
+    let now = Now { before, changes };
+    Ok(now.at(target).done)
 }

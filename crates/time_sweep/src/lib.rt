@@ -1,10 +1,12 @@
 //! Which stages are worth making faster: for each stage with an action, when another stage would complete if that action
-//! took no time. Each is a draft of the version, so only the stages that it can reach are computed; a runner makes them
-//! beside each other.
+//! took no time. A trial keeps nothing: it computes only the stages that it can reach, over the states of the version. A
+//! runner makes parts of the trials beside each other.
 #![tactic(auto)]
 
+mod changes;
+mod differ;
 mod hurried;
-mod in_trial;
+mod known;
 mod sweep;
 mod trial;
 mod trials;

@@ -1,20 +1,23 @@
 //! All trials of a stage.
-ghost use Rattle.std.specs.Prelude.{◌≡◌, ◌↔◌, All, IfOk, IsOk, IsTrue, Ok, filter_map};
-ghost use Rattle.std.specs.List.{range_with_len};
-ghost use Rattle.stage_graph.specs.Plain.{IsLive};
+ghost use Rattle.std.specs.Prelude.{◌≡◌, ◌↔◌, ◌<◌, ◌+◌, ◌*◌, ◌≤◌, All, IfOk, IsOk, IsTrue, None, true, false, OnOk, filter_map, length};
+ghost use Rattle.std.specs.List.{range_with_len, flat_map};
+ghost use Rattle.stage_graph.specs.Plain.{all_places, IsLive};
+ghost use Rattle.stage_ops.specs.Java.{java_step};
+ghost use Rattle.propagate.specs.Reach.{AreStates};
 ghost use Rattle.level_pool.specs.Runs.{IsPlainMap};
 ghost use Rattle.time_sweep.specs.Sweep.{completion_of, sooner_trial, trial_at, trials};
-ghost use Rattle.time_sweep.specs.Tried.{Gives, trial_in};
+ghost use Rattle.time_sweep.specs.Known.{AreRanksFor, IsKnown};
+ghost use Rattle.time_sweep.specs.Tried.{part_of, trials_in, CanStart, GiveAll};
 
+use crate::changes::Changes;
 use crate::hurried::hurried_completion;
-use crate::in_trial::InTrial;
+use crate::known::{Start, known_rank, ranks_of, states_of};
 use crate::trial::Trial;
 use level_pool::Runner;
 use propagate::StateRepresentation;
 use stage_graph::Stage;
-use stage_ops::Done;
+use stage_ops::{Done, State};
 use std::alloc::{AllocError, Global};
-use std::thread::Threads;
 use version_store::{NoStage, Version};
 
 /// A trial by which a stage would complete sooner.
@@ -42,6 +45,14 @@ fn completion_of<R: StateRepresentation>(version: &Version<R>, target: u32) -> O
     }
 }
 
+/// Whether a stage is pending in the version.
+fn is_pending<R: StateRepresentation>(version: &Version<R>, target: u32) -> bool
+    requires { IsLive version.now.graph.places target }
+    ensures { result ≡ true → completion_of version.now.graph target ≡ None }
+{
+    completion_of(version, target).is_none()
+}
+
 /// Whether a stage's action takes no time in the version.
 fn takes_no_time(stage: &Stage) -> bool
     ensures { IsTrue result ↔ ((stage.now.queued ≡ 0) × (stage.now.runs ≡ 0)) }
@@ -49,15 +60,24 @@ fn takes_no_time(stage: &Stage) -> bool
     stage.queued == 0 && stage.runs == 0
 }
 
-/// The trial at a place, where a stage with an action stands there and the target would complete sooner.
-fn trial_at<R: StateRepresentation, H: Threads + Sync>(
+/// The trial at a place that the target can wait for, where a stage with an action stands there and the target would
+/// complete sooner.
+fn trial_at<R: StateRepresentation>(
     alloc: Global,
     version: &Version<R>,
+    before: &[State],
+    ranks: &[Option<u32>],
     target: u32,
     place: u32,
+    changes: &mut Changes,
 ) -> Result<Option<Trial>, AllocError>
-    requires { IsLive version.now.graph.places target }
-    ensures { IfOk result (λ trial. trial ≡ trial_at version.now.graph target place) }
+    requires live { IsLive version.now.graph.places target }
+    requires known { IsKnown ranks.now place }
+    requires states { AreStates (java_step version.now.graph.mode) version.now.graph.places before.now }
+    requires ranks { AreRanksFor version.now.graph.places target ranks.now }
+    requires each { length changes.old.at.items ≡ length version.now.graph.places }
+    ensures each { OnOk result (length changes.new.at.items ≡ length version.now.graph.places) }
+    ensures trial { IfOk result (λ trial. trial ≡ trial_at version.now.graph target place) }
 {
     let Some(stage) = version.graph().stage(place) else {
         return Ok(None);
@@ -65,44 +85,148 @@ fn trial_at<R: StateRepresentation, H: Threads + Sync>(
     if stage.action.is_none() {
         return Ok(None);
     }
-    if takes_no_time(stage) {
-        return Ok(None);
-    }
     let old = completion_of(version, target);
-    let alone: InTrial<H> = InTrial::new();
-    let new = hurried_completion(alloc, version, stage, target, &alone)?;
+    let new = hurried_completion(alloc, version, before, ranks, stage, target, changes)?;
     Ok(sooner_trial(place, &old, &new))
 }
 
-/// The numbers from 0 up to a count of places.
-fn places(alloc: Global, count: u32) -> Result<Vec<u32>, AllocError>
-    ensures { IfOk result (λ places. places.items ≡ range_with_len 0 count) }
+/// Whether a trial has to be made at a place: where a stage with an action stands that takes time, and for which the
+/// target can wait.
+fn is_tried<R: StateRepresentation>(
+    version: &Version<R>,
+    ranks: &[Option<u32>],
+    target: u32,
+    place: u32,
+) -> bool
+    requires { AreRanksFor version.now.graph.places target ranks.now }
+    ensures known { result ≡ true → IsKnown ranks.now place }
+    ensures none { result ≡ false → trial_at version.now.graph target place ≡ None }
 {
-    let mut places = Vec::with_capacity(alloc, count as usize)?;
-    for place in 0..count {
-        places.push(place)?;
+    let graph = version.graph();
+    // With its length a graph says that it is sound, as every graph is.
+    let _ = graph.len();
+    let Some(stage) = graph.stage(place) else {
+        return false;
+    };
+    if stage.action.is_none() {
+        return false;
+    }
+    if takes_no_time(stage) {
+        return false;
+    }
+    known_rank(ranks, place).is_some()
+}
+
+/// The places at which a trial has to be made, in order.
+fn tried_places<R: StateRepresentation>(
+    alloc: Global,
+    version: &Version<R>,
+    ranks: &[Option<u32>],
+    target: u32,
+) -> Result<Vec<u32>, AllocError>
+    requires { AreRanksFor version.now.graph.places target ranks.now }
+    ensures known { IfOk result (λ places. All (IsKnown ranks.now) places.items) }
+    ensures trials { IfOk result (λ places. filter_map (trial_at version.now.graph target) places.items ≡ trials version.now.graph target) }
+    ensures few { IfOk result (λ places. length places.items ≤ 65536) }
+{
+    let mut places = Vec::new(alloc);
+    for place in 0..version.graph().len() as u32 {
+        if is_tried(version, ranks, target, place) {
+            places.push(place)?;
+        }
     }
     Ok(places)
 }
 
-/// The trial at each place, or that memory ran out for it. The runner makes them beside each other.
+/// The numbers from 0 up to a count of parts.
+fn numbers(alloc: Global, count: u32) -> Result<Vec<u32>, AllocError>
+    ensures { IfOk result (λ numbers. numbers.items ≡ range_with_len 0 count) }
+{
+    let mut numbers = Vec::with_capacity(alloc, count as usize)?;
+    for number in 0..count {
+        numbers.push(number)?;
+    }
+    Ok(numbers)
+}
+
+/// The trials at some places, made one after the other: none of them keeps anything but what it found.
+fn trials_among<R: StateRepresentation>(
+    alloc: Global,
+    version: &Version<R>,
+    before: &[State],
+    ranks: &[Option<u32>],
+    target: u32,
+    places: &[u32],
+) -> Result<Vec<Trial>, AllocError>
+    requires live { IsLive version.now.graph.places target }
+    requires known { All (IsKnown ranks.now) places.now }
+    requires states { AreStates (java_step version.now.graph.mode) version.now.graph.places before.now }
+    requires ranks { AreRanksFor version.now.graph.places target ranks.now }
+    ensures { IfOk result (λ found. found.items ≡ filter_map (trial_at version.now.graph target) places.now) }
+{
+    let mut changes = Changes::none(alloc, before.len())?;
+    let mut found = Vec::new(alloc);
+    for place in places {
+        if let Some(trial) = trial_at(
+            alloc,
+            version,
+            before,
+            ranks,
+            target,
+            *place,
+            &mut changes,
+        )? {
+            found.push(trial)?;
+        }
+    }
+    Ok(found)
+}
+
+/// The places of a part: at most this many.
+fn part_of(places: &[u32], size: usize, part: u32) -> &[u32]
+    requires few { length places.now ≤ 65536 }
+    requires size { size ≤ 65536 }
+    ensures { result.now ≡ part_of places.now size part }
+{
+    let start = (part as usize * size).min(places.len());
+    let end = (start + size).min(places.len());
+    &places[start..end]
+}
+
+/// The trials of a part.
+fn trials_of_part<R: StateRepresentation>(
+    alloc: Global,
+    version: &Version<R>,
+    start: &Start,
+    part: u32,
+) -> Result<Vec<Trial>, AllocError>
+    requires { CanStart version.now.graph start.now }
+    ensures { GiveAll (λ part. filter_map (trial_at version.now.graph start.now.target) (part_of start.now.places.items start.now.size part)) part result }
+{
+    let places = part_of(start.places.as_slice(), start.size, part);
+    let before = start.before.as_slice();
+    let ranks = start.ranks.as_slice();
+    trials_among(alloc, version, before, ranks, start.target, places)
+}
+
+/// The trials of each part, or that memory ran out for it. The runner makes the parts beside each other.
 fn tried<R: StateRepresentation, W: Runner>(
     alloc: Global,
     version: &Version<R>,
-    target: u32,
-    places: &[u32],
+    start: &Start,
+    parts: &[u32],
     runner: &W,
-) -> Result<Vec<Result<Option<Trial>, AllocError>>, AllocError>
-    requires { IsLive version.now.graph.places target }
-    ensures { IfOk result (λ tried. IsPlainMap (Gives (trial_at version.now.graph target)) places.now tried.items) }
+) -> Result<Vec<Result<Vec<Trial>, AllocError>>, AllocError>
+    requires { CanStart version.now.graph start.now }
+    ensures { IfOk result (λ tried. IsPlainMap (GiveAll (λ part. filter_map (trial_at version.now.graph start.now.target) (part_of start.now.places.items start.now.size part))) parts.now tried.items) }
 {
     let answer = runner.run(
         alloc,
-        places,
-        &|place: u32| -> Result<Option<Trial>, AllocError>
-            requires { IsLive version.now.graph.places target }
-            ensures { Gives (trial_at version.entry.now.graph target) place result }
-        { trial_at::<R, W::Handle>(alloc, version, target, place) },
+        parts,
+        &|part: u32| -> Result<Vec<Trial>, AllocError>
+            requires { CanStart version.now.graph start.now }
+            ensures { GiveAll (λ part. filter_map (trial_at version.entry.now.graph start.entry.now.target) (part_of start.entry.now.places.items start.entry.now.size part)) part result }
+        { trials_of_part(alloc, version, start, part) },
     );
     match answer {
         Ok(tried) => Ok(tried),
@@ -110,31 +234,32 @@ fn tried<R: StateRepresentation, W: Runner>(
     }
 }
 
-/// The trial that was made at a place, or that memory ran out for it.
-fn made(one: &Result<Option<Trial>, AllocError>) -> Result<Option<Trial>, AllocError>
-    ensures { IfOk result (λ trial. one.now ≡ Ok trial) }
-{
-    match one {
-        Ok(trial) => Ok(*trial),
-        Err(_) => Err(AllocError),
-    }
-}
-
-/// The trials that were found, if memory ran out for none of them.
+/// The trials that were found, if memory ran out for none of the parts.
 fn found_among(
     alloc: Global,
-    tried: &[Result<Option<Trial>, AllocError>],
+    tried: &[Result<Vec<Trial>, AllocError>],
 ) -> Result<Vec<Trial>, AllocError>
-    ensures found { IfOk result (λ found. found.items ≡ filter_map trial_in tried.now) }
+    ensures found { IfOk result (λ found. found.items ≡ flat_map trials_in tried.now) }
     ensures all { IfOk result (λ found. All (λ one. IsOk one) tried.now) }
 {
     let mut found = Vec::new(alloc);
     for one in tried {
-        if let Some(trial) = made(one)? {
-            found.push(trial)?;
+        match one {
+            Ok(trials) => found.extend_from_slice(trials.as_slice())?,
+            Err(_) => return Err(AllocError),
         }
     }
     Ok(found)
+}
+
+/// How many trials a part has: enough that they outweigh the list that is made for the part, and few enough that there
+/// are parts for all workers.
+fn size_of_parts(count: usize) -> usize
+    requires { count ≤ 65536 }
+    ensures some { 0 < result }
+    ensures most { result ≤ 65536 }
+{
+    (count / 512).max(8)
 }
 
 /// All trials by which the target would complete sooner, by place.
@@ -147,7 +272,22 @@ pub(crate) fn trials<R: StateRepresentation, W: Runner>(
     requires { IsLive version.now.graph.places target }
     ensures { IfOk result (λ found. found.items ≡ trials version.now.graph target) }
 {
-    let places = places(alloc, version.graph().len() as u32)?;
-    let tried = tried(alloc, version, target, places.as_slice(), runner)?;
+    // A stage that is pending completes no sooner.
+    if is_pending(version, target) {
+        return Ok(Vec::new(alloc));
+    }
+    let before = states_of(alloc, version)?;
+    let ranks = ranks_of(alloc, version, target)?;
+    let places = tried_places(alloc, version, ranks.as_slice(), target)?;
+    let size = size_of_parts(places.len());
+    let parts = numbers(alloc, places.len().div_ceil(size) as u32)?;
+    let start = Start {
+        target,
+        before,
+        ranks,
+        places,
+        size,
+    };
+    let tried = tried(alloc, version, &start, parts.as_slice(), runner)?;
     found_among(alloc, tried.as_slice())
 }

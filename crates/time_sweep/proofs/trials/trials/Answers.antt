@@ -1,22 +1,32 @@
-use Rattle.std.proofs.Common.{◌≡◌, ◌∙◌, List, ℕ, ap, length, subst}
+use Rattle.std.proofs.Common.{◌∙◌, ◌*◌, ◌≤◌, List, ℕ, ap, length, subst, sym, arith, vec_len}
 use Rattle.std.specs.Prelude.{All, IsOk, filter_map}
-use Rattle.std.specs.List.{AllZip, range_with_len}
-use Rattle.stage_graph.specs.Plain.{PlainGraph, all_places}
+use Rattle.std.specs.List.{AllZip, flat_map, range_with_len}
+use Rattle.std.proofs.lemmas.Grind.{div_ceil_times}
 use Rattle.time_sweep.specs.Sweep.{trial_at}
-use Rattle.time_sweep.specs.Tried.{Gives, trial_in}
-use Rattle.time_sweep.proofs.Trying.{all_tried, both_ok}
+use Rattle.time_sweep.specs.Tried.{GiveAll, part_of, trials_in}
+use Rattle.time_sweep.proofs.Trying.{all_tried, both_ok, from_parts}
+use Rattle.time_sweep.proofs.Unreached.{pending_trials}
 use Rattle.time_sweep.proofs.trials.trials.Goals as goal
+
+pub returns-then-is_pending : goal.returns-then-is_pending
+returns-then-is_pending g c =
+    c.new.ensures.items ∙ sym (pending_trials c.args.version.now.graph c.args.target (c.is_pending.ensures c.if-is_pending.true))
 
 pub returns : goal.returns
 returns g c =
     let trial = trial_at c.args.version.now.graph c.args.target in
     let places = c.in_ok-places.places.items in
+    let size = c.size_of_parts-size.result in
+    let count = c.div_ceil.result in
     let tried = c.in_ok-tried.tried.items in
-    let zip : AllZip (Gives trial) places tried = subst (λ (places : List ℕ). AllZip (Gives trial) places tried) c.as_slice.ensures.value c.in_ok-tried.ensures in
-    let each : places ≡ all_places c.args.version.now.graph.places =
-    c.in_ok-places.ensures ∙ ap (range_with_len 0) (c.len.ensures.len ∙ ap (λ (graph : PlainGraph). length graph.places) c.graph.ensures.graph) in
+    let each = λ (part : ℕ). filter_map trial (part_of places size part) in
+    let zip : AllZip (GiveAll each) (range_with_len 0 count) tried =
+    subst (λ (parts : List ℕ). AllZip (GiveAll each) parts tried) (c.as_slice-2.ensures.value ∙ c.in_ok-parts.ensures) c.in_ok-tried.ensures in
+    let times = div_ceil_times (vec_len c.in_ok-places.places) size c.size_of_parts-size.ensures.some in
+    let covered : vec_len c.in_ok-places.places ≤ count * size = rw (c.div_ceil.ensures, c.len-2.ensures) times.0 in
+    let enough : length places ≤ count * size = omega (arith, covered, c.in_ok-places.places.ok) in
     both_ok c.found_among.result _ _ _
     (λ found is all.
-    is ∙ ap (filter_map trial_in) c.as_slice-2.ensures.value ∙ all_tried trial places tried zip (subst (All (λ one. IsOk one)) c.as_slice-2.ensures.value all)
-    ∙ ap (filter_map trial) each)
+    is ∙ ap (flat_map trials_in) c.as_slice-3.ensures.value ∙ all_tried each (range_with_len 0 count) tried zip (subst (All (λ one. IsOk one)) c.as_slice-3.ensures.value all)
+    ∙ from_parts trial places size count enough ∙ c.in_ok-places.ensures.trials)
     c.found_among.ensures.found c.found_among.ensures.all

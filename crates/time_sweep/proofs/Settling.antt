@@ -1,0 +1,212 @@
+-- The steps of a trial: which places are marked, and what the places hold.
+use Rattle.std.proofs.Common.{◌≡◌, ◌≢◌, ℕ, ◌<◌, ◌≤◌, Bool, true, false, List, [], ◌∷◌, ◌++◌, get_or, ap, sym, ◌∙◌, arith, subst, inl, inr, ⊎_elim}
+use Rattle.std.specs.Prelude.{Contains, AllPairs, not, ◌==◌, ◌&&◌, ◌||◌, ◌⊎◌, zero, suc, if◌then◌else◌}
+use Rattle.std.proofs.lemmas.Bool.{eqb-true, eq-eqb, and_parts, and_from, or_cases, or_parts, true≢false, cases_Bool, cond-true, cond-false, not-true, not_from_false}
+use Rattle.std.proofs.lemmas.List.Elements.{Contains-get_or}
+use Rattle.std.proofs.lemmas.List.Quantifiers.{all_pairs_push}
+use Rattle.stage_graph.specs.Plain.{stage_at, feeds_at}
+use Rattle.stage_graph.specs.Walk.{rank, IsRanked}
+use Rattle.stage_ops.specs.declared.state.State.{State}
+use Rattle.stage_ops.specs.States.{seen_at, seen_of}
+use Rattle.stage_ops.specs.Evaluation.{at, ReadsDecide}
+use Rattle.rank_order.specs.Lists.{is_among}
+use Rattle.rank_order.specs.Marks.{IsFirst}
+use Rattle.propagate.specs.Completions.{differ}
+use Rattle.propagate.specs.Reach.{Stages, Step, come_to}
+use Rattle.propagate.proofs.Members.{false_unless, contains_among, among_contains, among_push_cases}
+use Rattle.propagate.proofs.Comparing.{same_from_differ}
+use Rattle.propagate.proofs.Scratch.{scratch_meets, same_on_feeds}
+use Rattle.propagate.proofs.Ranks.{rank_feed}
+use Rattle.propagate.proofs.Ascending.{IsBefore}
+
+-- Two ranked graphs of the same feeds, which differ at one place only.
+pub record IsHurrying (old new : Stages) (place : ℕ) : Type 0 where
+  pub old_ranked : IsRanked old
+  pub new_ranked : IsRanked new
+  pub feeds : (s : ℕ) → feeds_at new s ≡ feeds_at old s
+  pub elsewhere : (s : ℕ) → s ≢ place → stage_at new s ≡ stage_at old s
+
+-- what is known of a place is known of its feeds
+abbrev pub IsClosed : Stages → (ℕ → Bool) → Type 0
+IsClosed stages known = (s feed : ℕ) → known s ≡ true → Contains (feeds_at stages s) feed → known feed ≡ true
+
+-- Some places are computed, in order. Each known place that is not marked has the state that it comes to.
+pub record IsSettling (step : Step) (old new : Stages) (known : ℕ → Bool) (computed : List ℕ) (marked : ℕ → Bool) (states : ℕ → State) : Type 0 where
+  pub meets : (s : ℕ) → known s ≡ true → marked s ≡ false → states s ≡ come_to step (stage_at new s) states
+  pub either : (s : ℕ) → (states s ≡ at step old s) ⊎ (states s ≡ at step new s)
+  pub within : (s : ℕ) → marked s ≡ true → known s ≡ true
+  pub before : (c m : ℕ) → is_among c computed ≡ true → marked m ≡ true → IsBefore old c m
+  pub ascending : AllPairs (IsBefore old) computed
+  pub each_known : (c : ℕ) → is_among c computed ≡ true → known c ≡ true
+
+module _ {step : Step} (law : ReadsDecide step) {old new : Stages} {place : ℕ} (hurrying : IsHurrying old new place) (known : ℕ → Bool) where
+  -- At the beginning nothing is computed. The place whose stage differs is marked, if it is known.
+  pub begun : (marked : ℕ → Bool) (states : ℕ → State) → ((s : ℕ) → known s ≡ true → marked s ≡ false → s ≢ place) → ((s : ℕ) → marked s ≡ true → known s ≡ true)
+      → ((s : ℕ) → states s ≡ at step old s) → IsSettling step old new known [] marked states
+  begun marked states other within same = record {
+    meets = λ s here unmarked.
+        same s
+        ∙ scratch_meets law old hurrying.old_ranked s
+        ∙ ap (λ p. come_to step p (at step old)) (sym (hurrying.elsewhere s (other s here unmarked)))
+        ∙ same_on_feeds law (stage_at new s) (at step old) states (λ feed c. ap seen_of (sym (same feed)));
+    either = λ s. inl (same s);
+    within = within;
+    before = λ c m none. absurd (none_among none);
+    ascending = λ i j d below short. absurd (omega arith);
+    each_known = λ c none. absurd (none_among none);
+  } where
+    none_among : false ≡ true → ⊥
+    none_among e = cc
+
+  module _ (closed : IsClosed old known) {computed : List ℕ} {marked : ℕ → Bool} {states : ℕ → State} (settling : IsSettling step old new known computed marked states) where
+    -- A known place of a rank below all marks has its state of the new graph.
+    pub settled_below : (bound : ℕ) → ((m : ℕ) → marked m ≡ true → bound ≤ rank old m) → (k s : ℕ) → rank old s < k → k ≤ bound → known s ≡ true → states s ≡ at step new s
+    settled_below bound low zero s below within here = absurd (omega arith)
+    settled_below bound low (suc k) s below within here =
+        let unmarked : marked s ≡ false = false_unless (marked s) (λ is. let least : bound ≤ rank old s = low s is in omega arith) in
+        settling.meets s here unmarked
+        ∙ same_on_feeds law (stage_at new s) states (at step new)
+        (λ feed c.
+        let c' : Contains (feeds_at old s) feed = subst (λ feeds. Contains feeds feed) (hurrying.feeds s) c in
+        let lower : rank old feed < rank old s = rank_feed old hurrying.old_ranked s feed c' in
+        ap seen_of (settled_below bound low k feed (omega arith) (omega arith) (closed s feed here c')))
+        ∙ sym (scratch_meets law new hurrying.new_ranked s)
+
+    -- The state that a known place of the least marked rank comes to is that of the new graph.
+    pub comes_right : (u : ℕ) → known u ≡ true → ((m : ℕ) → marked m ≡ true → rank old u ≤ rank old m) → come_to step (stage_at new u) states ≡ at step new u
+    comes_right u here low =
+        same_on_feeds law (stage_at new u) states (at step new)
+        (λ feed c.
+        let c' : Contains (feeds_at old u) feed = subst (λ feeds. Contains feeds feed) (hurrying.feeds u) c in
+        ap seen_of (settled_below (rank old u) low (rank old u) feed (rank_feed old hurrying.old_ranked u feed c') (omega arith) (closed u feed here c')))
+        ∙ sym (scratch_meets law new hurrying.new_ranked u)
+
+    -- where nothing is marked, a known place has its state of the new graph
+    pub settled_whole : ((m : ℕ) → marked m ≡ false) → (s : ℕ) → known s ≡ true → states s ≡ at step new s
+    settled_whole none s here = settled_below (suc (rank old s)) (λ m is. absurd (true≢false (sym is ∙ none m))) (suc (rank old s)) s (omega arith) (omega arith) here
+
+    module _ {left : ℕ → Bool} {u : ℕ} (first : IsFirst (rank old) marked left u) where
+      pub first_known : known u ≡ true
+      first_known = settling.within u first.here
+
+      pub least_rank : (m : ℕ) → marked m ≡ true → rank old u ≤ rank old m
+      least_rank m is =
+          ⊎_elim
+          (λ (e : u ≡ m). let same : rank old u ≡ rank old m = ap (rank old) e in omega arith)
+          (λ later. ⊎_elim (λ (lower : rank old u < rank old m). omega arith) (λ tie. let same : rank old u ≡ rank old m = tie.0 in omega arith) later)
+          (first.least m is)
+
+      -- a known place of a rank below that of the first marked one has its state of the new graph
+      pub settled_before : (s : ℕ) → known s ≡ true → rank old s < rank old u → states s ≡ at step new s
+      settled_before s here below = settled_below (rank old u) least_rank (rank old u) s below (omega arith) here
+
+      pub first_comes : come_to step (stage_at new u) states ≡ at step new u
+      first_comes = comes_right u first_known least_rank
+
+      -- the computed places and the first marked one, in order
+      pub ascending_more : AllPairs (IsBefore old) (computed ++ u ∷ [])
+      ascending_more =
+          all_pairs_push (IsBefore old) computed u settling.ascending
+          (λ k d short. settling.before (get_or computed k d) u (contains_among (get_or computed k d) computed (Contains-get_or computed k d short)) first.here)
+
+      left_marked : (s : ℕ) → left s ≡ true → (marked s ≡ true) × ((s == u) ≡ false)
+      left_marked s is =
+          let parts = and_parts (marked s) (not (s == u)) (sym (first.rest s) ∙ is) in
+          (parts.0, not-true (s == u) parts.1)
+
+      before_left : (m : ℕ) → left m ≡ true → IsBefore old u m
+      before_left m is =
+          let parts = left_marked m is in
+          ⊎_elim (λ (e : u ≡ m). absurd (true≢false (sym (eq-eqb m u (sym e)) ∙ parts.1))) (λ later. later) (first.least m parts.0)
+
+      feed_lower : (s feed : ℕ) → Contains (feeds_at new s) feed → rank old feed < rank old s
+      feed_lower s feed c = rank_feed old hurrying.old_ranked s feed (subst (λ feeds. Contains feeds feed) (hurrying.feeds s) c)
+
+      module _ (told : Bool) (marked_then : ℕ → Bool) (states_then : ℕ → State)
+          (tells : told ≡ differ (seen_at states u) (seen_of (come_to step (stage_at new u) states)))
+          (marks : (s : ℕ) → marked_then s ≡ (left s || (told && (is_among u (feeds_at old s) && known s))))
+          (holds : (s : ℕ) → states_then s ≡ (if u == s then come_to step (stage_at new u) states else states s)) where
+        here_then : (s : ℕ) → (u == s) ≡ true → states_then s ≡ come_to step (stage_at new u) states
+        here_then s same = holds s ∙ cond-true (u == s) (come_to step (stage_at new u) states) (states s) same
+
+        there_then : (s : ℕ) → (u == s) ≡ false → states_then s ≡ states s
+        there_then s other = holds s ∙ cond-false (u == s) (come_to step (stage_at new u) states) (states s) other
+
+        told_lower : (s : ℕ) → (told && (is_among u (feeds_at old s) && known s)) ≡ true → (rank old u < rank old s) × (known s ≡ true)
+        told_lower s is =
+            let inner = and_parts told (is_among u (feeds_at old s) && known s) is in
+            let parts = and_parts (is_among u (feeds_at old s)) (known s) inner.1 in
+            (rank_feed old hurrying.old_ranked s u (among_contains u (feeds_at old s) parts.0), parts.1)
+
+        marked_cases : (s : ℕ) → marked_then s ≡ true → (left s ≡ true) ⊎ ((rank old u < rank old s) × (known s ≡ true))
+        marked_cases s is =
+            ⊎_elim (λ l. inl l) (λ t. inr (told_lower s t)) (or_cases (left s) (told && (is_among u (feeds_at old s) && known s)) (sym (marks s) ∙ is))
+
+        unmarked_parts : (s : ℕ) → marked_then s ≡ false → (left s ≡ false) × ((told && (is_among u (feeds_at old s) && known s)) ≡ false)
+        unmarked_parts s is = or_parts (left s) (told && (is_among u (feeds_at old s) && known s)) (sym (marks s) ∙ is)
+
+        -- what a known place that is not marked sees of the computed place stays
+        sees_same : (s feed : ℕ) → known s ≡ true → marked_then s ≡ false → Contains (feeds_at new s) feed → seen_at states feed ≡ seen_at states_then feed
+        sees_same s feed here unmarked c =
+            ⊎_elim
+            (λ same.
+            let e : u ≡ feed = eqb-true u feed same in
+            let among : is_among u (feeds_at old s) ≡ true =
+            contains_among u (feeds_at old s) (subst (λ f. Contains (feeds_at old s) f) (sym e) (subst (λ feeds. Contains feeds feed) (hurrying.feeds s) c)) in
+            let quiet : told ≡ false =
+            false_unless told (λ loud.
+            true≢false (sym (and_from told (is_among u (feeds_at old s) && known s) loud (and_from (is_among u (feeds_at old s)) (known s) among here)) ∙ (unmarked_parts s unmarked).1)) in
+            let seen : seen_at states u ≡ seen_of (come_to step (stage_at new u) states) = same_from_differ (seen_at states u) (seen_of (come_to step (stage_at new u) states)) (sym tells ∙ quiet) in
+            ap (seen_at states) (sym e) ∙ seen ∙ ap seen_of (sym (here_then feed same)))
+            (λ other. ap seen_of (sym (there_then feed other)))
+            (cases_Bool (u == feed))
+
+        meets_then : (s : ℕ) → known s ≡ true → marked_then s ≡ false → states_then s ≡ come_to step (stage_at new s) states_then
+        meets_then s here unmarked =
+            ⊎_elim
+            (λ same.
+            let e : u ≡ s = eqb-true u s same in
+            here_then s same
+            ∙ ap (λ p. come_to step (stage_at new p) states) e
+            ∙ same_on_feeds law (stage_at new s) states states_then (λ feed c. sees_same s feed here unmarked c))
+            (λ other.
+            let others : (s == u) ≡ false = false_unless (s == u) (λ is. true≢false (sym (eq-eqb u s (sym (eqb-true s u is))) ∙ other)) in
+            let was : marked s ≡ false =
+            false_unless (marked s) (λ is.
+            true≢false (sym (first.rest s ∙ and_from (marked s) (not (s == u)) is (not_from_false (s == u) others)) ∙ (unmarked_parts s unmarked).0)) in
+            there_then s other
+            ∙ settling.meets s here was
+            ∙ same_on_feeds law (stage_at new s) states states_then (λ feed c. sees_same s feed here unmarked c))
+            (cases_Bool (u == s))
+
+        either_then : (s : ℕ) → (states_then s ≡ at step old s) ⊎ (states_then s ≡ at step new s)
+        either_then s =
+            ⊎_elim
+            (λ same. inr (here_then s same ∙ first_comes ∙ ap (at step new) (eqb-true u s same)))
+            (λ other. ⊎_elim (λ was. inl (there_then s other ∙ was)) (λ is. inr (there_then s other ∙ is)) (settling.either s))
+            (cases_Bool (u == s))
+
+        before_lower : (c m : ℕ) → IsBefore old c u → rank old u < rank old m → IsBefore old c m
+        before_lower c m earlier lower =
+            ⊎_elim (λ (below : rank old c < rank old u). inl (omega arith)) (λ tie. let same : rank old c ≡ rank old u = tie.0 in inl (omega arith)) earlier
+
+        -- The first marked place is computed, and its dependents are marked if they can tell the difference.
+        pub settling_more : IsSettling step old new known (computed ++ u ∷ []) marked_then states_then
+        settling_more = record {
+          meets = meets_then;
+          either = either_then;
+          within = λ s is. ⊎_elim (λ l. settling.within s (left_marked s l).0) (λ t. t.1) (marked_cases s is);
+          before = λ c m in_computed is.
+              ⊎_elim
+              (λ earlier.
+              ⊎_elim
+              (λ l. settling.before c m earlier (left_marked m l).0)
+              (λ t. before_lower c m (settling.before c u earlier first.here) t.0)
+              (marked_cases m is))
+              (λ (e : u ≡ c).
+              subst (λ x. IsBefore old x m) e (⊎_elim (λ l. before_left m l) (λ t. inl t.0) (marked_cases m is)))
+              (among_push_cases c u computed in_computed);
+          ascending = ascending_more;
+          each_known = λ c in_computed.
+              ⊎_elim (λ earlier. settling.each_known c earlier) (λ (e : u ≡ c). subst (λ x. known x ≡ true) e first_known) (among_push_cases c u computed in_computed);
+        }

@@ -1,0 +1,58 @@
+-- A place that the target cannot wait for has no trial.
+use Rattle.std.proofs.Common.{◌≡◌, ℕ, Bool, true, false, List, [], ◌∷◌, Option, Some, None, cond, refl, ap, sym, ◌∙◌}
+use Rattle.std.specs.Prelude.{filter_map, is_some}
+use Rattle.std.specs.List.{cons_option}
+use Rattle.std.proofs.lemmas.Bool.{true≢false, false≢true}
+use Rattle.stage_graph.specs.declared.stage.Stage.{Stage}
+use Rattle.stage_graph.specs.Plain.{PlainGraph, all_places, stage_at}
+use Rattle.stage_graph.specs.Walk.{IsRanked}
+use Rattle.stage_ops.specs.declared.state.Done.{Done}
+use Rattle.stage_ops.specs.declared.state.State.{State}
+use Rattle.stage_ops.specs.Evaluation.{at}
+use Rattle.stage_ops.specs.Java.{java_step}
+use Rattle.stage_ops.specs.JavaLaws.{java_reads_decide}
+use Rattle.time_sweep.specs.declared.trial.Trial.{Trial}
+use Rattle.time_sweep.specs.Known.{AreRanksFor, rank_in}
+use Rattle.time_sweep.specs.Sweep.{completion_of, hurried, sooner_trial, trial_at, trial_of, trials}
+use Rattle.time_sweep.proofs.Hurrying.{hurrying, none_sooner}
+use Rattle.time_sweep.proofs.Settling.{IsSettling, begun, settled_whole}
+
+-- whether the rank of a place is known
+abbrev pub is_known : List (Option ℕ) → ℕ → Bool
+is_known ranks place = is_some (rank_in ranks place)
+
+module _ (graph : PlainGraph) (ranked : IsRanked graph.places) (target : ℕ) (ranks : List (Option ℕ)) (are : AreRanksFor graph.places target ranks) (stage : Stage)
+    (stands : stage_at graph.places stage.place ≡ Some stage) (unknown : is_known ranks stage.place ≡ false) where
+  unmarked : IsSettling (java_step graph.mode) graph.places (hurried graph stage).places (is_known ranks) [] (λ s. false) (at (java_step graph.mode) graph.places)
+  unmarked =
+      begun (java_reads_decide graph.mode) (hurrying graph stage stands ranked) (is_known ranks) (λ s. false) (at (java_step graph.mode) graph.places)
+      (λ s here none same. true≢false (sym here ∙ ap (is_known ranks) same ∙ unknown))
+      (λ s is. absurd (false≢true is))
+      (λ s. refl)
+
+  same_completion : completion_of graph target ≡ completion_of (hurried graph stage) target
+  same_completion =
+      ap (λ (state : State). state.done)
+      (settled_whole (java_reads_decide graph.mode) (hurrying graph stage stands ranked) (is_known ranks) are.feeds unmarked (λ m. refl) target are.own)
+
+  pub unreached : (place : ℕ) → trial_of graph target place (Some stage) ≡ None
+  unreached place =
+      ap (λ (new : Option Done). cond (is_some stage.action) (sooner_trial place (completion_of graph target) new) None) (sym same_completion)
+      ∙ none_sooner (is_some stage.action) place (completion_of graph target)
+
+-- a target that is pending has no trials
+no_trial : (graph : PlainGraph) (target place : ℕ) (here : Option Stage) → completion_of graph target ≡ None → trial_of graph target place here ≡ None
+no_trial graph target place None pending = refl
+no_trial graph target place (Some stage) pending =
+    ap (λ (old : Option Done). cond (is_some stage.action) (sooner_trial place old (completion_of (hurried graph stage) target)) None) pending
+    ∙ either (is_some stage.action) where
+      either : (acts : Bool) → cond {A = Option Trial} acts None None ≡ None
+      either true = refl
+      either false = refl
+
+none_found : (trial : ℕ → Option Trial) → ((place : ℕ) → trial place ≡ None) → (places : List ℕ) → filter_map trial places ≡ []
+none_found trial none [] = refl
+none_found trial none (place ∷ places) = ap (λ (one : Option Trial). cons_option one (filter_map trial places)) (none place) ∙ none_found trial none places
+
+pub pending_trials : (graph : PlainGraph) (target : ℕ) → completion_of graph target ≡ None → trials graph target ≡ []
+pending_trials graph target pending = none_found (trial_at graph target) (λ place. no_trial graph target place (stage_at graph.places place) pending) (all_places graph.places)

@@ -1,0 +1,109 @@
+use Rattle.std.proofs.Common.{◌∙◌, sym, ap, subst, length, length-append, arith}
+use Rattle.std.proofs.Math.ListN.{length-set}
+use Rattle.stage_graph.specs.declared.stage.Stage.{Stage}
+use Rattle.stage_graph.specs.Sound.{IsSound, IsSoundStage}
+use Rattle.stage_graph.specs.Walk.{rank}
+use Rattle.rank_order.specs.Marks.{is_marked}
+use Rattle.rank_order.proofs.Marking.{marks_left, none_marked}
+use Rattle.time_sweep.specs.declared.changes.Change.{Change}
+use Rattle.time_sweep.proofs.Hurrying.{fast_sound}
+use Rattle.time_sweep.proofs.Knowing.{ranks_below, rank_known}
+use Rattle.time_sweep.proofs.TrialTurns.{ended, ended_before, ended_here, first_turn, next_turn, turn_few, turn_live, turn_known, turn_moments}
+use Rattle.time_sweep.proofs.hurried.settle.Goals as goal
+
+pub loop-place-init : goal.loop-place-init
+loop-place-init g c =
+    let graph = c.args.version.now.graph in
+    let stage = c.args.stage.now in
+    let sound = subst IsSound c.graph-graph.ensures.graph c.len.ensures.sound in
+    let own = rank_known graph.places c.args.target c.args.ranks.now c.requires.ranks stage.place c.requires.known in
+    record {
+      settling = first_turn graph c.graph-graph.ensures.ranked sound stage c.requires.stands c.args.target c.args.ranks.now c.requires.ranks c.args.before.now c.requires.states
+          c.clear.new.self.at.items c.clear.new.self.list.items (is_marked (rank graph.places) c.in_ok-marks.marks) c.clear.ensures.list c.requires.known (c.in_ok-marks.ensures.marked (rank graph.places) own);
+      marks = c.in_ok-marks.ensures.marks (rank graph.places) own;
+      each = ap (λ at. length at.items) c.clear.ensures.at ∙ c.requires.each;
+    }
+
+pub advance-requires-clause-live : goal.advance-requires-clause-live
+advance-requires-clause-live g c κs inside =
+    let graph = c.args.version.now.graph in
+    let sound = subst IsSound c.graph-graph.ensures.graph c.len.ensures.sound in
+    let inv = c.loop-place.invariant in
+    turn_live graph c.graph-graph.ensures.ranked sound c.args.stage.now c.requires.stands c.args.target c.args.ranks.now c.requires.ranks c.args.before.now c.requires.states
+    c.loop-place.changes.at.items c.loop-place.changes.list.items (is_marked (rank graph.places) c.loop-place.marks) inv.each inv.settling (c.in-Some.ensures.first (rank graph.places) inv.marks)
+
+pub advance-requires-clause-few : goal.advance-requires-clause-few
+advance-requires-clause-few g c κs inside =
+    let graph = c.args.version.now.graph in
+    let sound = subst IsSound c.graph-graph.ensures.graph c.len.ensures.sound in
+    let inv = c.loop-place.invariant in
+    turn_few graph c.graph-graph.ensures.ranked sound c.args.stage.now c.requires.stands c.args.target c.args.ranks.now c.requires.ranks c.args.before.now c.requires.states
+    c.loop-place.changes.at.items c.loop-place.changes.list.items (is_marked (rank graph.places) c.loop-place.marks) inv.each inv.settling (c.in-Some.ensures.first (rank graph.places) inv.marks)
+
+pub advance-requires-clause-moments : goal.advance-requires-clause-moments
+advance-requires-clause-moments g c κs inside =
+    let graph = c.args.version.now.graph in
+    let sound = subst IsSound c.graph-graph.ensures.graph c.len.ensures.sound in
+    let inv = c.loop-place.invariant in
+    turn_moments graph c.graph-graph.ensures.ranked sound c.args.stage.now c.requires.stands c.args.target c.args.ranks.now c.requires.ranks c.args.before.now c.requires.states
+    c.loop-place.changes.at.items c.loop-place.changes.list.items (is_marked (rank graph.places) c.loop-place.marks) inv.each inv.settling
+
+pub advance-requires-clause-sound : goal.advance-requires-clause-sound
+advance-requires-clause-sound g c κs inside =
+    let graph = c.args.version.now.graph in
+    let sound = subst IsSound c.graph-graph.ensures.graph c.len.ensures.sound in
+    let stage = c.args.stage.now in
+    subst (λ (quick : Stage). IsSoundStage graph.places quick.place quick) (sym c.requires.fast) (fast_sound graph.places stage.place stage (sound.stages stage.place stage c.requires.stands))
+
+pub loop-place-preserved : goal.loop-place-preserved
+loop-place-preserved g c =
+    let graph = c.args.version.now.graph in
+    let sound = subst IsSound c.graph-graph.ensures.graph c.len.ensures.sound in
+    let inv = c.loop-place.invariant in
+    let done = c.in_ok-advance.ensures in
+    record {
+      settling = next_turn graph c.graph-graph.ensures.ranked sound c.args.stage.now c.requires.stands c.args.target c.args.ranks.now c.requires.ranks c.args.before.now c.requires.states
+          c.loop-place.changes.at.items c.loop-place.changes.list.items (is_marked (rank graph.places) c.loop-place.marks) inv.each inv.settling (c.in-Some.ensures.first (rank graph.places) inv.marks) c.requires.fast
+          c.advance.new.changes.at.items c.advance.new.changes.list.items (is_marked (rank graph.places) c.advance.new.marks) done.at done.list done.marked;
+      marks = done.marks (marks_left c.loop-place.marks c.pop_first.new.self c.in-Some.ensures.left (rank graph.places) inv.marks);
+      each = ap length done.at ∙ length-set c.loop-place.changes.at.items c.in-Some.place (length c.loop-place.changes.list.items) ∙ inv.each;
+    }
+
+pub loop-place-smaller : goal.loop-place-smaller
+loop-place-smaller g c =
+    let graph = c.args.version.now.graph in
+    let sound = subst IsSound c.graph-graph.ensures.graph c.len.ensures.sound in
+    let inv = c.loop-place.invariant in
+    let few = turn_few graph c.graph-graph.ensures.ranked sound c.args.stage.now c.requires.stands c.args.target c.args.ranks.now c.requires.ranks c.args.before.now c.requires.states
+    c.loop-place.changes.at.items c.loop-place.changes.list.items (is_marked (rank graph.places) c.loop-place.marks) inv.each inv.settling (c.in-Some.ensures.first (rank graph.places) inv.marks) in
+    omega (arith, few, ap length c.in_ok-advance.ensures.list, length-append {A = Change})
+
+pub returns-then-is_below-clause-settled : goal.returns-then-is_below-clause-settled
+returns-then-is_below-clause-settled g c =
+    let graph = c.args.version.now.graph in
+    let sound = subst IsSound c.graph-graph.ensures.graph c.len.ensures.sound in
+    let inv = c.loop-place.invariant in
+    let first = c.in-Some.ensures.first (rank graph.places) inv.marks in
+    let known = turn_known graph c.graph-graph.ensures.ranked sound c.args.stage.now c.requires.stands c.args.target c.args.ranks.now c.requires.ranks c.args.before.now c.requires.states
+    c.loop-place.changes.at.items c.loop-place.changes.list.items (is_marked (rank graph.places) c.loop-place.marks) inv.each inv.settling first in
+    ended_before graph c.graph-graph.ensures.ranked sound c.args.stage.now c.requires.stands c.args.target c.args.ranks.now c.requires.ranks c.args.before.now c.requires.states
+    c.loop-place.changes.at.items c.loop-place.changes.list.items (is_marked (rank graph.places) c.loop-place.marks) inv.each inv.settling first
+    (ranks_below graph.places c.args.target c.args.ranks.now c.requires.ranks c.args.target c.in-Some.place c.requires.ranks.own known (sym c.is_below.ensures ∙ c.if-is_below.true))
+
+pub returns-then-place-target-clause-settled : goal.returns-then-place-target-clause-settled
+returns-then-place-target-clause-settled g c =
+    let graph = c.args.version.now.graph in
+    let sound = subst IsSound c.graph-graph.ensures.graph c.len.ensures.sound in
+    let inv = c.loop-place.invariant in
+    let done = c.in_ok-advance.ensures in
+    ended_here graph c.graph-graph.ensures.ranked sound c.args.stage.now c.requires.stands c.args.target c.args.ranks.now c.requires.ranks c.args.before.now c.requires.states
+    c.loop-place.changes.at.items c.loop-place.changes.list.items (is_marked (rank graph.places) c.loop-place.marks) inv.each inv.settling (c.in-Some.ensures.first (rank graph.places) inv.marks) c.requires.fast
+    c.advance.new.changes.at.items c.advance.new.changes.list.items (is_marked (rank graph.places) c.advance.new.marks) done.at done.list done.marked c.if-place-target.true
+
+pub returns-clause-settled : goal.returns-clause-settled
+returns-clause-settled g c =
+    let graph = c.args.version.now.graph in
+    let sound = subst IsSound c.graph-graph.ensures.graph c.len.ensures.sound in
+    let inv = c.loop-place.invariant in
+    ended graph c.graph-graph.ensures.ranked sound c.args.stage.now c.requires.stands c.args.target c.args.ranks.now c.requires.ranks c.args.before.now c.requires.states
+    c.loop-place.changes.at.items c.loop-place.changes.list.items (is_marked (rank graph.places) c.loop-place.marks) inv.each inv.settling (λ m. none_marked c.loop-place.marks c.in_default.ensures.none (rank graph.places m) m)

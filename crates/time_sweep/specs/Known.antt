@@ -1,0 +1,25 @@
+-- The places that a target can wait for.
+use Rattle.std.specs.Prelude.{ℕ, ◌≡◌, Bool, false, nat_lt, List, length, Option, Some, None, Contains, IsSome, slice_index_or}
+use Rattle.stage_graph.specs.Plain.{feeds_at, IsLive}
+use Rattle.stage_graph.specs.Walk.{rank}
+use Rattle.propagate.specs.Reach.{Stages}
+
+abbrev pub rank_in : List (Option ℕ) → ℕ → Option ℕ
+rank_in ranks place = slice_index_or ranks place None
+
+-- a rank is known for the place
+abbrev pub IsKnown : List (Option ℕ) → ℕ → Type 0
+IsKnown ranks place = IsSome (rank_in ranks place)
+
+-- the ranks of the target and of all places that it can wait for, and maybe of others
+pub record AreRanksFor (stages : Stages) (target : ℕ) (ranks : List (Option ℕ)) : Type 0 where
+  pub count : length ranks ≡ length stages
+  pub own : IsKnown ranks target
+  pub live : (place : ℕ) → IsKnown ranks place → IsLive stages place
+  pub rank : (place known : ℕ) → rank_in ranks place ≡ Some known → known ≡ rank stages place
+  pub feeds : (place feed : ℕ) → IsKnown ranks place → Contains (feeds_at stages place) feed → IsKnown ranks feed
+
+-- both ranks are known, and the first is below the second
+abbrev pub is_below : Option ℕ → Option ℕ → Bool
+is_below (Some one) (Some other) = nat_lt one other
+is_below one other = false
