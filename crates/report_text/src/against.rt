@@ -3,7 +3,8 @@ ghost use Rattle.std.specs.Prelude.{◌≡◌, ◌++◌, OnOk, string_bytes};
 ghost use Rattle.propagate.specs.Completions.{same_outcome};
 ghost use Rattle.report_text.specs.AgainstTexts.{change_against, changes_against_header, done_of, drift_against, drift_against_header, is_changed, is_unlike, same_blamed, same_done, shift_against, shift_from, there_text, unlike_line};
 
-use crate::shift::Shift;
+use crate::shift::{Shift, push_shift_line};
+use crate::states::{push_completion, push_state};
 use act_expr::Outcome;
 use propagate::StateRepresentation;
 use stage_graph::{Graph, Representation};
@@ -111,22 +112,20 @@ fn push_unlike<R: StateRepresentation>(
 {
     let name = view.stage.name.as_str();
     let state = view.state();
-    write!(line, "{name} ")?;
-    push_there(line, done_of(against, name))?;
-    writeln!(line, " -> {state}")
+    line.push_str(name)?;
+    line.push_str(" ")?;
+    push_there(line, &done_of(against, name))?;
+    line.push_str(" -> ")?;
+    push_state(line, &state)?;
+    line.push_str("\n")
 }
 
-fn push_there(line: &mut String, there: Option<Option<Done>>) -> Result<(), AllocError>
-    ensures { OnOk result (string_bytes line.new ≡ string_bytes line.old ++ there_text there) }
+fn push_there(line: &mut String, there: &Option<Option<Done>>) -> Result<(), AllocError>
+    ensures { OnOk result (string_bytes line.new ≡ string_bytes line.old ++ there_text there.now) }
 {
     match there {
         None => line.push_str("absent"),
-        Some(None) => line.push_str("pending"),
-        Some(Some(done)) => {
-            let outcome = done.outcome;
-            let moment = done.moment;
-            write!(line, "{outcome} at {moment}")
-        }
+        Some(done) => push_completion(line, done),
     }
 }
 
@@ -158,9 +157,8 @@ pub(crate) fn push_drift_against<R: StateRepresentation>(
 ) -> Result<(), AllocError>
     ensures { OnOk result (string_bytes line.new ≡ string_bytes line.old ++ drift_against view.now.version.now against.now view.now.place view.now.stage.now) }
 {
-    let name = view.stage.name.as_str();
     match shift_against(view, against) {
-        Some(shift) => writeln!(line, "{name} {shift}"),
+        Some(shift) => push_shift_line(line, view.stage.name.as_str(), shift),
         None => Ok(()),
     }
 }

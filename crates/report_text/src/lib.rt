@@ -4,6 +4,7 @@
 mod against;
 mod blame;
 mod comparison;
+mod digits;
 mod fault;
 mod headers;
 mod lines;
@@ -11,6 +12,7 @@ mod one;
 mod path;
 mod reporting;
 mod shift;
+mod states;
 mod sweep;
 mod touched;
 mod what;

@@ -4,10 +4,11 @@ ghost use Rattle.report_text.specs.Lines.{has_line, line_count, place_line};
 ghost use Rattle.report_text.specs.Texts.{stage_line, times_line};
 
 use crate::against::{is_changed, push_change_against, push_drift_against, shift_against};
+use crate::digits::push_number;
+use crate::states::push_state;
 use crate::words::push_number_or_dash;
 use propagate::StateRepresentation;
 use std::alloc::AllocError;
-use std::fmt::Write;
 use version_store::{StageView, Version};
 
 /// The content of a report's lines.
@@ -86,11 +87,15 @@ pub(crate) fn push_stage<R: StateRepresentation>(
 ) -> Result<(), AllocError>
     ensures { OnOk result (string_bytes line.new ≡ string_bytes line.old ++ stage_line view.now.version.now.graph view.now.place view.now.stage.now) }
 {
-    let name = view.stage.name.as_str();
-    let op = view.stage.op;
-    let rank = view.rank();
     let state = view.state();
-    writeln!(line, "{name} {op} rank {rank} {state}")
+    line.push_str(view.stage.name.as_str())?;
+    line.push_str(" ")?;
+    line.push_str(view.stage.op.text())?;
+    line.push_str(" rank ")?;
+    push_number(line, u64::from(view.rank()))?;
+    line.push_str(" ")?;
+    push_state(line, &state)?;
+    line.push_str("\n")
 }
 
 fn push_times<R: StateRepresentation>(
@@ -99,10 +104,12 @@ fn push_times<R: StateRepresentation>(
 ) -> Result<(), AllocError>
     ensures { OnOk result (string_bytes line.new ≡ string_bytes line.old ++ times_line view.now.version.now.graph view.now.place view.now.stage.now) }
 {
-    let name = view.stage.name.as_str();
-    let queued = view.stage.queued;
-    let runs = view.stage.runs;
-    write!(line, "{name} start ")?;
+    line.push_str(view.stage.name.as_str())?;
+    line.push_str(" start ")?;
     push_number_or_dash(line, view.start())?;
-    writeln!(line, " queued {queued} runs {runs}")
+    line.push_str(" queued ")?;
+    push_number(line, view.stage.queued)?;
+    line.push_str(" runs ")?;
+    push_number(line, view.stage.runs)?;
+    line.push_str("\n")
 }

@@ -8,11 +8,11 @@ ghost use Rattle.report_text.specs.declared.what.What.TheVariants.{One};
 
 use crate::fault::ReportFault;
 use crate::lines::Lines;
+use crate::states::push_answer;
 use crate::words::push_names_line;
 use crate::writing::write_place;
 use propagate::StateRepresentation;
 use std::alloc::AllocError;
-use std::fmt::Write;
 use text_io::Sink;
 use version_store::{StageView, Version};
 
@@ -103,5 +103,7 @@ fn push_join<R: StateRepresentation>(
     ensures { OnOk result (string_bytes line.new ≡ string_bytes line.old ++ join_line view.now.version.now.graph view.now.place) }
 {
     let join = view.join();
-    writeln!(line, "join {join}")
+    line.push_str("join ")?;
+    push_answer(line, &join)?;
+    line.push_str("\n")
 }

@@ -1,8 +1,10 @@
 //! How a stage's moment differs from that in the parent.
-ghost use Rattle.std.specs.Prelude.{◌≡◌};
-ghost use Rattle.report_text.specs.Texts.{shift_at, shift_between, shift_since};
+ghost use Rattle.std.specs.Prelude.{◌≡◌, ◌++◌, OnOk, codes, string_bytes};
+ghost use Rattle.report_text.specs.Texts.{line_end, shift_at, shift_between, shift_since, shift_text};
 
+use crate::digits::push_number;
 use propagate::StateRepresentation;
+use std::alloc::AllocError;
 use std::fmt;
 use version_store::{Before, StageView, Version};
 
@@ -23,6 +25,32 @@ impl fmt::Display for Shift {
         match self {
             Shift::Later(ticks) => write!(f, "later {ticks}"),
             Shift::Earlier(ticks) => write!(f, "earlier {ticks}"),
+        }
+    }
+}
+
+/// Appends the line of the stage of a name, which is moved.
+pub(crate) fn push_shift_line(line: &mut String, name: &str, shift: Shift) -> Result<(), AllocError>
+    ensures { OnOk result (string_bytes line.new ≡ string_bytes line.old ++ name.now ++ codes " " ++ shift_text shift ++ line_end) }
+{
+    line.push_str(name)?;
+    line.push_str(" ")?;
+    push_shift(line, shift)?;
+    line.push_str("\n")
+}
+
+// The text that `Display` writes.
+fn push_shift(line: &mut String, shift: Shift) -> Result<(), AllocError>
+    ensures { OnOk result (string_bytes line.new ≡ string_bytes line.old ++ shift_text shift) }
+{
+    match shift {
+        Shift::Later(ticks) => {
+            line.push_str("later ")?;
+            push_number(line, ticks)
+        }
+        Shift::Earlier(ticks) => {
+            line.push_str("earlier ")?;
+            push_number(line, ticks)
         }
     }
 }

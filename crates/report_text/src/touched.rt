@@ -9,10 +9,10 @@ ghost use Rattle.report_text.specs.Texts.{before_text, change_line, changes_text
 
 use crate::fault::ReportFault;
 use crate::headers::{push_changes_header, push_drift_header};
-use crate::shift::Shift;
+use crate::shift::{Shift, push_shift_line};
+use crate::states::{push_done, push_state};
 use propagate::StateRepresentation;
 use std::alloc::{AllocError, Global};
-use std::fmt::Write;
 use text_io::Sink;
 use version_store::{Before, StageView, Version};
 
@@ -151,21 +151,23 @@ fn push_change<R: StateRepresentation>(
 ) -> Result<(), AllocError>
     ensures { OnOk result (string_bytes line.new ≡ string_bytes line.old ++ change_line view.now.version.now view.now.place view.now.stage.now) }
 {
-    let name = view.stage.name.as_str();
     let state = view.state();
-    write!(line, "{name} ")?;
-    push_before(line, view.before())?;
-    writeln!(line, " -> {state}")
+    line.push_str(view.stage.name.as_str())?;
+    line.push_str(" ")?;
+    push_before(line, &view.before())?;
+    line.push_str(" -> ")?;
+    push_state(line, &state)?;
+    line.push_str("\n")
 }
 
 // What a stage was in the parent.
-fn push_before(line: &mut String, before: Before) -> Result<(), AllocError>
-    ensures { OnOk result (string_bytes line.new ≡ string_bytes line.old ++ before_text before) }
+fn push_before(line: &mut String, before: &Before) -> Result<(), AllocError>
+    ensures { OnOk result (string_bytes line.new ≡ string_bytes line.old ++ before_text before.now) }
 {
     match before {
         Before::Absent => line.push_str("absent"),
         Before::Pending => line.push_str("pending"),
-        Before::Done(outcome, moment) => write!(line, "{outcome} at {moment}"),
+        Before::Done(outcome, moment) => push_done(line, outcome, *moment),
     }
 }
 
@@ -175,9 +177,8 @@ fn push_drift<R: StateRepresentation>(
 ) -> Result<(), AllocError>
     ensures { OnOk result (string_bytes line.new ≡ string_bytes line.old ++ drift_line view.now.version.now view.now.place view.now.stage.now) }
 {
-    let name = view.stage.name.as_str();
     match Shift::of(view) {
-        Some(shift) => writeln!(line, "{name} {shift}"),
+        Some(shift) => push_shift_line(line, view.stage.name.as_str(), shift),
         None => Ok(()),
     }
 }

@@ -3,10 +3,10 @@ ghost use Rattle.std.specs.Prelude.{◌≡◌, ◌++◌, OnOk, string_bytes};
 ghost use Rattle.stage_graph.specs.Plain.{stage_at};
 ghost use Rattle.report_text.specs.Texts.{mode_text, names_line, names_text, number_or_dash};
 
+use crate::digits::push_number;
 use act_expr::Mode;
 use stage_graph::{Graph, Representation};
 use std::alloc::AllocError;
-use std::fmt::Write;
 
 /// The mode, by its name in recordings.
 pub fn mode_text(mode: Mode) -> &'static str
@@ -22,7 +22,7 @@ pub(crate) fn push_number_or_dash(line: &mut String, number: Option<u64>) -> Res
     ensures { OnOk result (string_bytes line.new ≡ string_bytes line.old ++ number_or_dash number) }
 {
     match number {
-        Some(number) => write!(line, "{number}"),
+        Some(number) => push_number(line, number),
         None => line.push_str("-"),
     }
 }
