@@ -1,6 +1,6 @@
 -- What stands at tokens that hold a value, its items or its members.
-use Rattle.std.proofs.Common.{◌≡◌, ℕ, suc, ◌≤◌, max, List, [], ◌∷◌, length, Bool, true, false, cond, Option, Some, None, option_map, option_and_then, bytes_eq, true≢false, refl, sym, ap, ◌∙◌, subst, arith}
-use Rattle.std.specs.Prelude.{is_some, IsSome, MatchOption}
+use Rattle.std.proofs.Common.{◌≡◌, ℕ, suc, ◌+◌, ◌<◌, ◌≤◌, max, List, [], ◌∷◌, length, get_or, drop, Bool, true, false, cond, Option, Some, None, option_map, option_and_then, bytes_eq, true≢false, refl, sym, ap, ap₂, ◌∙◌, subst, add-one, drop-cons, arith}
+use Rattle.std.specs.Prelude.{is_some, IsSome, MatchOption, unwrap_or}
 use Rattle.std.proofs.lemmas.Slice.Eq.{bytes_eq-Decides}
 use Rattle.json.specs.Token.{Token}
 use Rattle.json.specs.Lex.{tokens}
@@ -13,8 +13,11 @@ use Rattle.serde_json.specs.Data.{Num, Data, null, boolean, number, string, arra
 use Rattle.serde_json.specs.Read.{number_of, of_json, of_items, of_members, converted, max_depth, read}
 use Rattle.serde_json.specs.Find.{get, get_member, as_null, as_bool, as_number, as_str, as_array, as_object}
 use Rattle.serde_json.proofs.Views.{get_member-put, get_member-put_other}
+use Rattle.json.specs.declared.error.Error.{Error}
+use Rattle.json.specs.declared.error.Error.TheVariants as error
 use Rattle.json_trees.specs.Held.{data_at, items_at, members_at, HoldsData, HoldsItems, HoldsMembers, or_null, or_none, or_empty}
 use Rattle.json_trees.specs.Named.{put_all, of_pairs}
+use Rattle.json_trees.specs.Valued.{data_of, items_of, pairs_of, HasData, HasItems, HasPairs}
 use Rattle.json_trees.proofs.Reading.{converted_some}
 use Rattle.json_trees.proofs.Spelled.{value_again, items_again, members_again, items-depth, members-depth}
 
@@ -309,3 +312,100 @@ whole_value (Some (j, t ∷ ts)) h = absurd (true≢false (sym h))
 
 pub holds_text : (text : List ℕ) (ts : List Token) → ts ≡ tokens text → IsSome (read text) → HoldsData ts
 holds_text text ts e h = subst HoldsData (sym e) (whole_value (json.value max_depth (tokens text)) h)
+
+-- ---- a whole text as a tree of values
+
+some_of : {A : Type 0} (o : Option A) → IsSome o → (a : A) × (o ≡ Some a)
+some_of None h = absurd (true≢false (sym h))
+some_of (Some a) h = (a, refl)
+
+abbrev if_whole : Option (json.Json × List Token) → Option json.Json
+if_whole o = option_and_then (λ p. json.if_last p.0 p.1) o
+
+whole_json : (o : Option (json.Json × List Token)) → IsSome (option_and_then of_json (if_whole o)) → (j : json.Json) × (o ≡ Some (j, []))
+whole_json None h = absurd (true≢false (sym h))
+whole_json (Some (j, [])) h = (j, refl)
+whole_json (Some (j, t ∷ ts)) h = absurd (true≢false (sym h))
+
+-- the value that a text is, where serde_json reads it
+pub record WholeText (text : List ℕ) : Type 0 where
+  pub value : json.Json
+  pub value_is : json.document text ≡ Some value
+  pub reads : read text ≡ of_json value
+  pub has_data : HasData value
+
+pub whole_text : (text : List ℕ) → IsSome (read text) → WholeText text
+whole_text text h =
+    let p = whole_json (json.value max_depth (tokens text)) h in
+    let nests = value-depth max_depth (tokens text) [] p.0 p.1 in
+    let again : json.value json.max_depth (tokens text) ≡ Some (p.0, []) = value_again max_depth json.max_depth (tokens text) [] p.0 p.1 (omega (arith, nests)) in
+    let reads : read text ≡ of_json p.0 = ap (λ o. option_and_then of_json (if_whole o)) p.1 in
+    record { value = p.0; value_is = ap if_whole again; reads = reads; has_data = some_of (of_json p.0) (subst IsSome reads h) }
+
+-- a tree of that value
+pub record Held (text : List ℕ) (j : json.Json) : Type 0 where
+  pub has_data : HasData j
+  pub reads : read text ≡ Some (data_of j)
+
+pub held_text : (text : List ℕ) (j : json.Json) → json.document text ≡ Some j → IsSome (read text) → Held text j
+held_text text j e h =
+    let whole = whole_text text h in
+    let same : whole.value ≡ j = let both : Some whole.value ≡ Some j = sym whole.value_is ∙ e in cc in
+    let has : HasData j = subst HasData same whole.has_data in
+    record { has_data = has; reads = whole.reads ∙ ap of_json same ∙ has.1 ∙ ap (λ (d : Data). Some d) (sym (ap (λ o. unwrap_or o null) has.1)) }
+
+pub is_document : (text : List ℕ) → IsSome (read text) → json.document text ≡ None → ⊥
+is_document text h none = let whole = whole_text text h in let both : Some whole.value ≡ None = sym whole.value_is ∙ none in absurd (cc)
+
+-- what is lacking is memory, where it is nothing else
+pub is_memory : (e : Error) → (e ≡ error.Invalid → ⊥) → (e ≡ error.TooLong → ⊥) → (e ≡ error.DuplicateKey → ⊥) → (e ≡ error.OutOfMemory → ⊥) → ⊥
+is_memory error.Invalid invalid long twice memory = invalid refl
+is_memory error.OutOfMemory invalid long twice memory = memory refl
+is_memory error.TooLong invalid long twice memory = long refl
+is_memory error.DuplicateKey invalid long twice memory = twice refl
+
+-- ---- a tree of values
+
+pub data_is : (j : json.Json) → HasData j → of_json j ≡ Some (data_of j)
+data_is j h = h.1 ∙ ap (λ (d : Data). Some d) (sym (ap (λ o. unwrap_or o null) h.1))
+
+pub tree_found : (name : List ℕ) (j i : json.Json) → HasData j → find.get name j ≡ Some i → HasData i × (get name (data_of j) ≡ Some (data_of i))
+tree_found name j i h e =
+    let there = found name j i (data_of j) (form j (data_of j) (data_is j h)) e in
+    ((there.0, there.1), there.2 ∙ ap (λ (d : Data). Some d) (sym (ap (λ o. unwrap_or o null) there.1)))
+
+pub no_tree_found : (name : List ℕ) (j : json.Json) → HasData j → find.get name j ≡ None → get name (data_of j) ≡ None
+no_tree_found name j h e = not_found name j (data_of j) (form j (data_of j) (data_is j h)) e
+
+pub has_items : (j : json.Json) (js : json.Items) → j ≡ json.array js → HasData j → HasItems js
+has_items j js e h =
+    let here : HasData (json.array js) = subst HasData e h in
+    let inside = mapped_some array (of_items js) here.0 here.1 in
+    (inside.0, inside.1)
+
+pub has_pairs : (j : json.Json) (ms : json.Members) → j ≡ json.object ms → HasData j → HasPairs ms × (data_of j ≡ object (put_all (pairs_of ms) no_members))
+has_pairs j ms e h =
+    let here : HasData (json.object ms) = subst HasData e h in
+    let inside = mapped_some object (of_members ms no_members) here.0 here.1 in
+    let p = pairs ms no_members inside.0 inside.1 in
+    let all : pairs_of ms ≡ p.0 = ap (λ o. unwrap_or o []) p.1 in
+    ((p.0, p.1), ap data_of e ∙ ap (λ o. unwrap_or o null) here.1 ∙ inside.2 ∙ ap object p.2 ∙ ap (λ ps. object (put_all ps no_members)) (sym all))
+
+pub front : {A : Type 0} (xs : List A) (i : ℕ) (x : A) → i < length xs → x ≡ get_or xs i x → drop i xs ≡ x ∷ drop (i + 1) xs
+front xs i x within is = rw (add-one, drop-cons xs i x within) (ap (λ y. y ∷ drop (suc i) xs) (sym is))
+
+pub first_of_items : (js rest : json.Items) (j : json.Json) → js ≡ json.item j rest → HasItems js → HasData j × (HasItems rest × (items_of js ≡ item (data_of j) (items_of rest)))
+first_of_items js rest j e h =
+    let here : HasItems (json.item j rest) = subst HasItems e h in
+    let parts = first_item j rest here.0 here.1 in
+    let first : data_of j ≡ parts.first = ap (λ o. unwrap_or o null) parts.first_is in
+    let others : items_of rest ≡ parts.rest = ap (λ o. unwrap_or o no_items) parts.rest_is in
+    ((parts.first, parts.first_is), ((parts.rest, parts.rest_is), ap items_of e ∙ ap (λ o. unwrap_or o no_items) here.1 ∙ parts.all_is ∙ ap₂ item (sym first) (sym others)))
+
+pub first_of_members : (ms rest : json.Members) (k : List ℕ) (j : json.Json) → ms ≡ json.member k j rest → HasPairs ms → HasData j × (HasPairs rest × (pairs_of ms ≡ (k, data_of j) ∷ pairs_of rest))
+first_of_members ms rest k j e h =
+    let here : HasPairs (json.member k j rest) = subst HasPairs e h in
+    let parts = first_member k j rest here.0 here.1 in
+    let first : data_of j ≡ parts.first = ap (λ o. unwrap_or o null) parts.first_is in
+    let others : pairs_of rest ≡ parts.rest = ap (λ o. unwrap_or o []) parts.rest_is in
+    ((parts.first, parts.first_is), ((parts.rest, parts.rest_is), ap pairs_of e ∙ ap (λ o. unwrap_or o []) here.1 ∙ parts.all_is ∙ ap₂ (λ d ps. (k, d) ∷ ps) (sym first) (sym others)))

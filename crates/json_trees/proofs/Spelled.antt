@@ -74,11 +74,14 @@ value_spells (suc d) =
     one_level (λ ts. items (value d) (length ts) ts) (λ ts. members (value d) (length ts) ts) (λ ts. items_spell (value d) (value_spells d) (length ts) ts)
     (λ ts. members_spell (value d) (value_spells d) (length ts) ts)
 
+pub spelled : (d : ℕ) (ts r : List Token) (j : Json) → value d ts ≡ Some (j, r) → ts ≡ json_tokens j ++ r
+spelled d ts r j e = subst (Spells json_tokens ts) e (value_spells d ts)
+
 -- ---- reading again
 
 -- a value is read at each depth that is enough
 pub value_again : (d k : ℕ) (ts r : List Token) (j : Json) → value d ts ≡ Some (j, r) → depth j ≤ k → value k ts ≡ Some (j, r)
-value_again d k ts r j e enough = ap (value k) (subst (Spells json_tokens ts) e (value_spells d ts)) ∙ value-json_tokens j k r enough
+value_again d k ts r j e enough = ap (value k) (spelled d ts r j e) ∙ value-json_tokens j k r enough
 
 abbrev items_or : Items → Option (Json × List Token) → Option (Items × List Token)
 items_or x None = None

@@ -1,5 +1,5 @@
 -- The value that tokens begin with, as `serde_json` reads it.
-use Rattle.std.specs.Prelude.{◌≡◌, ℕ, List, [], length, Option, Some, None, ⊤}
+use Rattle.std.specs.Prelude.{◌≡◌, ℕ, List, [], length, Option, Some, None}
 use Rattle.json.specs.Token.{Token}
 use Rattle.json.specs.Json as json
 use Rattle.serde_json.specs.Data.{Data, null, Items, no_items}
@@ -29,14 +29,6 @@ HoldsData ts = (d : Data) × (rest : List Token) × (converted of_json (json.val
 -- the tokens begin with items, and the bracket that closes their array
 abbrev pub HoldsItems : List Token → Type 0
 HoldsItems ts = (ds : Items) × (rest : List Token) × (converted of_items (json.items (json.value max_depth) (length ts) ts) ≡ Some (ds, rest))
-
-abbrev pub items_in : Option (List Token) → Items
-items_in None = no_items
-items_in (Some ts) = items_at ts
-
-abbrev pub HoldsItemsIn : Option (List Token) → Type 0
-HoldsItemsIn None = ⊤
-HoldsItemsIn (Some ts) = HoldsItems ts
 
 abbrev pub or_empty : Option (List (List ℕ × Data) × List Token) → List (List ℕ × Data)
 or_empty None = []

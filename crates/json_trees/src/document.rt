@@ -1,21 +1,31 @@
 //! A text that was read.
-ghost use Rattle.std.specs.Prelude.{◌≡◌, Some, None, Ok, Err, IfOk, OnOk, IsSome};
+ghost use Rattle.std.specs.Prelude.{◌≡◌, ◌≤◌, Some, None, Ok, Err, IfOk, OnOk, IsSome};
 ghost use Rattle.serde_json.specs.Read.{read};
 
+use crate::tape::TapeDocument;
 use crate::tokens::pass_value;
 use crate::tree::Tree;
 use crate::unread::Unread;
-use json::{Reader, Scratch, Tape};
+use crate::value::ValueDocument;
+use json::{MAX_LEN, Reader, Scratch};
 use std::alloc::Global;
 use std::marker::Model;
 
 /// How deep arrays and objects may nest.
-const MAX_DEPTH: usize = 127;
+pub(crate) const MAX_DEPTH: usize = 127;
+
+/// What was made of a text.
+#[derive(Drop)]
+enum Content<'a> {
+    Tape(TapeDocument<'a>),
+    /// (of a text that is too long for a tape, which counts bytes in 32 bits)
+    Value(ValueDocument<'a>),
+}
 
 /// A JSON text that was read. A clause sees its value, as `serde_json` reads it.
 #[derive(Drop)]
 pub struct Document<'a> {
-    tape: Tape<'a>,
+    content: Content<'a>,
 }
 
 impl<'a> Model for Document<'a> {
@@ -26,15 +36,13 @@ impl<'a> Model for Document<'a> {
 
     ghost coded = { data_code };
 
-    ghost use Rattle.json_trees.specs.Held.{data_at, HoldsData};
+    ghost use Rattle.json_trees.specs.Either.{in_content};
 
-    ghost view = { λ a. data_at a.tape };
-
-    ghost invariant = { λ a. HoldsData a.tape };
+    ghost view = { λ a. in_content a.content };
 }
 
 /// Goes over a text once, and makes nothing: whether it is one value.
-fn check(text: &str, room: &mut Scratch) -> Result<(), Unread>
+pub(crate) fn check(text: &str, room: &mut Scratch) -> Result<(), Unread>
     ensures ok { OnOk result (IsSome (read text.now)) }
     ensures not_json { result ≡ Err Unread.NotJson → read text.now ≡ None }
 {
@@ -50,9 +58,30 @@ fn check(text: &str, room: &mut Scratch) -> Result<(), Unread>
     Ok(())
 }
 
+/// Reads a text: as a tape, where it has no more bytes than `longest`.
+fn read_within<'a>(
+    alloc: Global,
+    text: &'a str,
+    room: &'a mut Scratch,
+    longest: usize,
+) -> Result<Document<'a>, Unread>
+    requires within { longest ≤ MAX_LEN }
+    ensures ok { IfOk result (λ document. read text.now ≡ Some document) }
+    ensures not_json { result ≡ Err Unread.NotJson → read text.now ≡ None }
+{
+    let content = if text.len() <= longest {
+        Content::Tape(TapeDocument::parse(alloc, text, room)?)
+    } else {
+        check(text, room)?;
+        Content::Value(ValueDocument::parse(alloc, text, room)?)
+    };
+    Ok(Document { content })
+}
+
 impl<'a> Document<'a> {
     /// Reads a text, in the room that is lent. What `serde_json` refuses is refused: what is no JSON, nests deeper
-    /// than 127, or has a number past all floats. That comes out before anything is made of the text.
+    /// than 127, or has a number past all floats. Where that comes early in a long text, it comes out before anything
+    /// is made of the text.
     pub fn parse(
         alloc: Global,
         text: &'a str,
@@ -61,12 +90,7 @@ impl<'a> Document<'a> {
         ensures ok { IfOk result (λ document. read text.now ≡ Some document) }
         ensures not_json { result ≡ Err Unread.NotJson → read text.now ≡ None }
     {
-        check(text, room)?;
-        match Tape::parse(text, room, Vec::new(alloc)) {
-            Ok(tape) => Ok(Document { tape }),
-            // (the text is JSON, so what is lacking is memory, or places for a text above 4 GiB)
-            Err(_) => Err(Unread::Memory),
-        }
+        read_within(alloc, text, room, MAX_LEN)
     }
 
     /// The value that the text is.
@@ -74,6 +98,9 @@ impl<'a> Document<'a> {
     pub fn root(&self) -> Tree<'_, 'a>
         ensures { result ≡ self.now }
     {
-        Tree::of_element(self.tape.root())
+        match &self.content {
+            Content::Tape(document) => Tree::of_tape(document.root()),
+            Content::Value(document) => Tree::of_value(document.root()),
+        }
     }
 }

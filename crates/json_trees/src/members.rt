@@ -1,14 +1,22 @@
 //! The members of an object.
 ghost use Rattle.std.specs.Prelude.{◌≡◌, ◌<◌, [], ◌∷◌, length, Some, None, MatchOption, OnSome};
-ghost use Rattle.json_trees.specs.Held.{members_at, HoldsMembers};
 
+use crate::tape::TapeMembers;
 use crate::tree::Tree;
+use crate::value::ValueMembers;
 use std::marker::Model;
+
+/// Where members stand.
+#[derive(Drop)]
+enum Named<'t, 'a> {
+    Tape(TapeMembers<'t, 'a>),
+    Value(ValueMembers<'t, 'a>),
+}
 
 /// The members of an object from one on. A clause sees their names, and their values as `serde_json` reads them.
 #[derive(Drop)]
 pub struct Members<'t, 'a> {
-    members: json::Members<'t, 'a>,
+    named: Named<'t, 'a>,
 }
 
 impl<'t, 'a> Model for Members<'t, 'a> {
@@ -20,21 +28,30 @@ impl<'t, 'a> Model for Members<'t, 'a> {
 
     ghost coded = { members_code };
 
-    ghost use Rattle.json_trees.specs.Held.{members_at, HoldsMembers};
+    ghost use Rattle.json_trees.specs.Either.{in_named};
 
-    ghost view = { λ a. members_at a.members };
-
-    ghost invariant = { λ a. HoldsMembers a.members };
+    ghost view = { λ a. in_named a.named };
 }
 
 impl<'t, 'a> Members<'t, 'a> {
-    /// The members that begin there.
+    /// Members in a tape.
     #[inline(always)]
-    pub(crate) fn of_members(members: json::Members<'t, 'a>) -> Members<'t, 'a>
-        requires { HoldsMembers members }
-        ensures { result ≡ members_at members.entry }
+    pub(crate) fn of_tape(members: TapeMembers<'t, 'a>) -> Members<'t, 'a>
+        ensures { result ≡ members.entry }
     {
-        Members { members }
+        Members {
+            named: Named::Tape(members),
+        }
+    }
+
+    /// Members in a tree of values.
+    #[inline(always)]
+    pub(crate) fn of_value(members: ValueMembers<'t, 'a>) -> Members<'t, 'a>
+        ensures { result ≡ members.entry }
+    {
+        Members {
+            named: Named::Value(members),
+        }
     }
 
     /// The next member, and none at the end.
@@ -43,7 +60,15 @@ impl<'t, 'a> Members<'t, 'a> {
         ensures value { MatchOption result ((self.old ≡ []) × (self.new ≡ self.old)) (λ m. self.old ≡ (m.0.now, m.1) ∷ self.new) }
         ensures shorter { OnSome result (length self.new < length self.old) }
     {
-        let (name, element) = self.members.next()?;
-        Some((name, Tree::of_element(element)))
+        match &mut self.named {
+            Named::Tape(members) => {
+                let (name, tree) = members.next()?;
+                Some((name, Tree::of_tape(tree)))
+            }
+            Named::Value(members) => {
+                let (name, tree) = members.next()?;
+                Some((name, Tree::of_value(tree)))
+            }
+        }
     }
 }

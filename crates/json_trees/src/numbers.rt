@@ -1,16 +1,38 @@
 //! JSON numbers, from their texts.
-ghost use Rattle.std.specs.Prelude.{◌≡◌, ◌<◌, ◌==◌, length, slice_index, IsTrue, option_map, true, false};
+ghost use Rattle.std.specs.Str.Parse.{AllDigits};
+ghost use Rattle.std.specs.Prelude.{◌≡◌, ◌<◌, ◌==◌, length, slice_index, IsTrue, Some, IfSome, is_some, option_map, true, false};
 ghost use Rattle.fast_float.specs.Text.{minus, scan};
 ghost use Rattle.serde_json.specs.Read.{number_of, number_from};
+ghost use Rattle.serde_json.specs.Data.{unsigned};
 ghost use Rattle.serde_json.specs.View.{number_view};
 
-use fast_float::Numeral;
+use fast_float::{Numeral, parse_u64};
 use serde_json::Number;
+
+/// Any so many digits write an integer of 64 bits.
+const FEW_DIGITS: usize = 19;
+
+/// The integer that digits alone write, with no point and no exponent, if it is one of 64 bits.
+///
+/// Most numbers are of this kind, and need no look for the parts of a numeral.
+#[inline(always)]
+fn plain_integer(digits: &[u8]) -> Option<u64>
+    ensures { IfSome result (λ integer. number_from false (scan digits.now) ≡ Some (unsigned integer)) }
+{
+    // (`parse_u64` takes a plus too)
+    if digits.is_empty() || digits[0] == b'+' {
+        return None;
+    }
+    parse_u64(digits).ok()
+}
 
 /// The number of these digits: an integer where they are one of 64 bits, and else the nearest float, if it is finite.
 fn from_digits(digits: &[u8]) -> Option<Number>
     ensures { option_map number_view result ≡ number_from false (scan digits.now) }
 {
+    if let Some(integer) = plain_integer(digits) {
+        return Some(Number::from(integer));
+    }
     let numeral = Numeral::scan(digits);
     match numeral.to_u64() {
         Some(integer) => Some(Number::from(integer)),
@@ -47,4 +69,29 @@ pub(crate) fn number_of(text: &str) -> Option<Number>
     } else {
         from_digits(text)
     }
+}
+
+/// Whether a text is some digits and nothing else.
+#[inline(always)]
+fn are_digits(text: &[u8]) -> bool
+    ensures { IsTrue result → AllDigits 10 text.now }
+{
+    'digits: for byte in text {
+        if !byte.is_ascii_digit() {
+            return false;
+        }
+    }
+    true
+}
+
+/// Whether a text writes a number that is not too large for a float. Of most it is enough to see that they are digits.
+#[inline(always)]
+pub(crate) fn is_number(text: &str) -> bool
+    ensures { result ≡ is_some (number_of text.now) }
+{
+    let bytes = text.as_bytes();
+    if !bytes.is_empty() && bytes.len() <= FEW_DIGITS && are_digits(bytes) {
+        return true;
+    }
+    number_of(text).is_some()
 }
