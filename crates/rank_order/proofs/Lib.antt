@@ -5,7 +5,7 @@ pub mod Above
 pub mod DependentSteps
 pub mod Building
 pub mod DependentMoves
-pub mod MarkSets
+pub mod MarkHeaps
 pub mod Marking
 pub mod Falling
 pub mod Settling

@@ -1,18 +1,19 @@
-use Rattle.std.proofs.Common.{◌≡◌, ℕ, true, false, List, ◌∷◌, Option, None, Some, subst}
-use Rattle.std.specs.Prelude.{IfSome}
-use Rattle.std.specs.BTreeSet.{BTreeSet, contains, IsLowerBound, Updates}
-use Rattle.rank_order.specs.declared.marks.Mark.{Mark}
+use Rattle.std.proofs.Common.{ℕ, ◌≤◌, List, length, heap_items, sym, subst, rules}
 use Rattle.rank_order.specs.Marks.{IsPopped}
-use Rattle.rank_order.proofs.MarkSets.{mark_cmp, marks_in, popped}
+use Rattle.rank_order.specs.MarkHeaps.{marks_in}
+use Rattle.rank_order.proofs.MarkHeaps.{bottom, popped}
 use Rattle.rank_order.proofs.marks.Marks.pop_mark.Goals as goal
 
-if_popped : (old new : BTreeSet Mark) (result : Option Mark) → IfSome result (IsLowerBound mark_cmp old) → IfSome result (λ mark. Updates mark_cmp old new mark false) → IfSome result (λ mark. old.keys ≡ mark ∷ new.keys) → IfSome result (λ mark. contains mark_cmp old mark ≡ true)
-    → IfSome result (λ mark. IsPopped (marks_in old) (marks_in new) mark.rank mark.place)
-if_popped old new None low updates keys member = tt
-if_popped old new (Some mark) low updates keys member = popped old new mark low updates.0 keys member
+pub pop_repeats-requires-clause-bottom : goal.pop_repeats-requires-clause-bottom
+pop_repeats-requires-clause-bottom c = bottom c.in_ok-mark.field-0 (heap_items c.pop.new.self) (c.in_ok-mark.ensures.below_top c.self.invariant)
 
 pub returns-clause-some : goal.returns-clause-some
 returns-clause-some c =
-    let out = c.pop_first.ensures in
-    subst (λ (marks : List (ℕ × ℕ)). IfSome c.pop_first.result (λ mark. IsPopped marks (marks_in c.pop_first.new.self) mark.rank mark.place)) c.self.view_is
-    (if_popped c.self.inside.set c.pop_first.new.self c.pop_first.result out.least out.updates out.removal out.member)
+    let old = heap_items c.self.inside.heap in
+    let mid = heap_items c.pop.new.self in
+    let new = heap_items c.pop_repeats.new.heap in
+    let mark = c.in_ok-mark.field-0 in
+    let less : length new ≤ length mid = search rules in
+    subst (λ (left : List (ℕ × ℕ)). IsPopped c.args.self.now left (mark.0.rank) (mark.0.place)) (sym c.lower_limit.ensures)
+    (subst (λ (marks : List (ℕ × ℕ)). IsPopped marks (marks_in new) (mark.0.rank) (mark.0.place)) c.self.view_is
+    (popped old mid new mark c.in_ok-mark.ensures.permutation (c.in_ok-mark.ensures.heap_order c.self.invariant).1 less c.pop_repeats.ensures.rest))
