@@ -15,7 +15,10 @@ use Rattle.stage_graph.specs.Walk.{Walk, IsRanked}
 use Rattle.stage_graph.proofs.Lists.{set_cases}
 use Rattle.stage_graph.proofs.Placing.{named_within, sound_after_replace}
 use Rattle.stage_ops.specs.declared.state.Done.{Done}
+use Rattle.stage_ops.specs.declared.state.Reads.{Reads}
+use Rattle.stage_ops.specs.declared.state.Reads.TheVariants.{Nothing, Sources, Picked}
 use Rattle.stage_ops.specs.Among.{IsSoundAmong}
+use Rattle.propagate.specs.Reach.{reads_of}
 use Rattle.propagate.proofs.Ranks.{live_within}
 use Rattle.time_sweep.specs.Sweep.{completion_of, hurried, sooner_trial, trial_of}
 use Rattle.time_sweep.proofs.Settling.{IsHurrying}
@@ -78,6 +81,17 @@ module _ (graph : PlainGraph) (stage : Stage) (stands : stage_at graph.places st
     | inl (at, now) ↦ absurd (other at)
     | inr (differ, now) ↦ now
   ]
+
+  -- with the same reads a stage has read the same places
+  pub hurried_reads : (s : ℕ) (reads : Reads) → reads_of (stage_at (hurried graph stage).places s) reads ≡ reads_of (stage_at graph.places s) reads
+  hurried_reads s reads = elim (set_cases graph.places stage.place s (Some (fast stage)) None within) [
+    | inl (at, now) ↦ ap (λ (here : Option Stage). reads_of here reads) now ∙ fast_reads reads ∙ sym (ap (λ (here : Option Stage). reads_of here reads) (ap (stage_at graph.places) at ∙ stands))
+    | inr (differ, now) ↦ ap (λ (here : Option Stage). reads_of here reads) now
+  ] where
+    fast_reads : (reads : Reads) → reads_of (Some (fast stage)) reads ≡ reads_of (Some stage) reads
+    fast_reads Nothing = refl
+    fast_reads Sources = refl
+    fast_reads (Picked index) = refl
 
   long : length (hurried graph stage).places ≡ length graph.places
   long = length-set graph.places stage.place (Some (fast stage))

@@ -1,4 +1,5 @@
 pub mod Crossing
+pub mod Finding
 pub mod Settling
 pub mod Hurrying
 pub mod Knowing
@@ -6,4 +7,5 @@ pub mod Overlaid
 pub mod Soonest
 pub mod TrialTurns
 pub mod Trying
+pub mod Readers
 pub mod Unreached

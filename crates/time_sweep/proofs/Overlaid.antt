@@ -2,12 +2,14 @@
 use Rattle.std.proofs.Common.{◌≡◌, ◌<◌, ◌≤◌, ℕ, zero, suc, List, [], ◌∷◌, ◌++◌, true, false, Option, Some, None, length, refl, ap, sym, ◌∙◌, arith, unwrap_or, ⊎_elim}
 use Rattle.std.specs.Prelude.{slice_get, slice_set, ◌==◌, if◌then◌else◌}
 use Rattle.std.specs.Option.{option_and_then}
-use Rattle.std.proofs.lemmas.Bool.{cases_lt, cases_Bool, eqb-true, eq-eqb, cond-true, cond-false}
+use Rattle.std.proofs.lemmas.Bool.{cases_lt, cases_Bool, eqb-true, eq-eqb, cond-true, cond-false, or_parts}
 use Rattle.std.proofs.lemmas.List.{get_or_past}
 use Rattle.std.proofs.lemmas.Option.{slice_get-get_or, slice_get_past}
 use Rattle.stage_graph.proofs.Lists.{same_function}
 use Rattle.stage_ops.specs.declared.state.State.{State}
 use Rattle.stage_ops.specs.States.{pending, seen_at, seen_of, state_at}
+use Rattle.rank_order.specs.Lists.{is_among}
+use Rattle.propagate.proofs.Members.{flip_eq}
 use Rattle.time_sweep.specs.declared.changes.Change.{Change}
 use Rattle.time_sweep.specs.Changed.{change_of, changed_places, state_in, states_in}
 use Rattle.time_sweep.proofs.Knowing.{by_place_at, by_place_long}
@@ -138,3 +140,17 @@ places_more (first ∷ list) change = ap (λ places. first.place ∷ places) (pl
 pub places_long : (list : List Change) → length (changed_places list) ≡ length list
 places_long [] = refl
 places_long (first ∷ list) = ap suc (places_long list)
+
+-- a place that is not changed has the state that it had
+module _ (before : List State) (at : List ℕ) (list : List Change) (place : ℕ) (other : is_among place (changed_places list) ≡ false) where
+  none_of : (changes : List Change) (k : ℕ) → is_among place (changed_places changes) ≡ false → change_of place (slice_get changes k) ≡ None
+  none_of [] k apart = refl
+  none_of (first ∷ changes) zero apart = other_change first place (flip_eq first.place place ∙ (or_parts (place == first.place) (is_among place (changed_places changes)) apart).0)
+  none_of (first ∷ changes) (suc k) apart = none_of changes k (or_parts (place == first.place) (is_among place (changed_places changes)) apart).1
+
+  not_changed : (index : Option ℕ) → option_and_then (λ k. change_of place (slice_get list k)) index ≡ None
+  not_changed None = refl
+  not_changed (Some k) = none_of list k other
+
+  pub unchanged : state_in before at list place ≡ state_at before place
+  unchanged = ap (λ (found : Option State). unwrap_or found (state_at before place)) (not_changed (slice_get at place))

@@ -12,10 +12,10 @@ use Rattle.stage_ops.specs.Evaluation.{at, ReadsDecide}
 use Rattle.rank_order.specs.Lists.{is_among}
 use Rattle.rank_order.specs.Marks.{IsFirst}
 use Rattle.propagate.specs.Completions.{differ}
-use Rattle.propagate.specs.Reach.{Stages, Step, come_to}
+use Rattle.propagate.specs.Reach.{Stages, Step, come_to, reads_of}
 use Rattle.propagate.proofs.Members.{false_unless, contains_among, among_contains, among_push_cases}
 use Rattle.propagate.proofs.Comparing.{same_from_differ}
-use Rattle.propagate.proofs.Scratch.{scratch_meets, same_on_feeds}
+use Rattle.propagate.proofs.Scratch.{reads_are_feeds, scratch_meets, same_on_feeds, same_on_reads}
 use Rattle.propagate.proofs.Ranks.{rank_feed}
 use Rattle.propagate.proofs.Ascending.{IsBefore}
 
@@ -122,44 +122,62 @@ module _ {step : Step} (law : ReadsDecide step) {old new : Stages} {place : ℕ}
       feed_lower : (s feed : ℕ) → Contains (feeds_at new s) feed → rank old feed < rank old s
       feed_lower s feed c = rank_feed old hurrying.old_ranked s feed (subst (λ feeds. Contains feeds feed) (hurrying.feeds s) c)
 
-      module _ (told : Bool) (marked_then : ℕ → Bool) (states_then : ℕ → State)
+      -- reader: the places that have read the first marked one, as far as they are known and have it as a feed
+      module _ (told : Bool) (reader marked_then : ℕ → Bool) (states_then : ℕ → State)
+          (unread : (s : ℕ) → known s ≡ true → is_among u (feeds_at old s) ≡ true → reader s ≡ false → is_among u (reads_of (stage_at new s) (states s).reads) ≡ false)
           (tells : told ≡ differ (seen_at states u) (seen_of (come_to step (stage_at new u) states)))
-          (marks : (s : ℕ) → marked_then s ≡ (left s || (told && (is_among u (feeds_at old s) && known s))))
+          (marks : (s : ℕ) → marked_then s ≡ (left s || (told && (is_among u (feeds_at old s) && (known s && reader s)))))
           (holds : (s : ℕ) → states_then s ≡ (if u == s then come_to step (stage_at new u) states else states s)) where
+        abbrev hears : ℕ → Bool
+        hears s = is_among u (feeds_at old s) && (known s && reader s)
+
         here_then : (s : ℕ) → (u == s) ≡ true → states_then s ≡ come_to step (stage_at new u) states
         here_then s same = holds s ∙ cond-true (u == s) (come_to step (stage_at new u) states) (states s) same
 
         there_then : (s : ℕ) → (u == s) ≡ false → states_then s ≡ states s
         there_then s other = holds s ∙ cond-false (u == s) (come_to step (stage_at new u) states) (states s) other
 
-        told_lower : (s : ℕ) → (told && (is_among u (feeds_at old s) && known s)) ≡ true → (rank old u < rank old s) × (known s ≡ true)
+        told_lower : (s : ℕ) → (told && hears s) ≡ true → (rank old u < rank old s) × (known s ≡ true)
         told_lower s is =
-            let inner = and_parts told (is_among u (feeds_at old s) && known s) is in
-            let parts = and_parts (is_among u (feeds_at old s)) (known s) inner.1 in
-            (rank_feed old hurrying.old_ranked s u (among_contains u (feeds_at old s) parts.0), parts.1)
+            let inner = and_parts told (hears s) is in
+            let parts = and_parts (is_among u (feeds_at old s)) (known s && reader s) inner.1 in
+            (rank_feed old hurrying.old_ranked s u (among_contains u (feeds_at old s) parts.0), (and_parts (known s) (reader s) parts.1).0)
 
         marked_cases : (s : ℕ) → marked_then s ≡ true → (left s ≡ true) ⊎ ((rank old u < rank old s) × (known s ≡ true))
         marked_cases s is =
-            ⊎_elim (λ l. inl l) (λ t. inr (told_lower s t)) (or_cases (left s) (told && (is_among u (feeds_at old s) && known s)) (sym (marks s) ∙ is))
+            ⊎_elim (λ l. inl l) (λ t. inr (told_lower s t)) (or_cases (left s) (told && hears s) (sym (marks s) ∙ is))
 
-        unmarked_parts : (s : ℕ) → marked_then s ≡ false → (left s ≡ false) × ((told && (is_among u (feeds_at old s) && known s)) ≡ false)
-        unmarked_parts s is = or_parts (left s) (told && (is_among u (feeds_at old s) && known s)) (sym (marks s) ∙ is)
+        unmarked_parts : (s : ℕ) → marked_then s ≡ false → (left s ≡ false) × ((told && hears s) ≡ false)
+        unmarked_parts s is = or_parts (left s) (told && hears s) (sym (marks s) ∙ is)
 
-        -- what a known place that is not marked sees of the computed place stays
-        sees_same : (s feed : ℕ) → known s ≡ true → marked_then s ≡ false → Contains (feeds_at new s) feed → seen_at states feed ≡ seen_at states_then feed
-        sees_same s feed here unmarked c =
+        -- what a known place that is not marked has read of the computed place stays
+        sees_same : (s read : ℕ) → known s ≡ true → marked_then s ≡ false → Contains (reads_of (stage_at new s) (states s).reads) read → seen_at states read ≡ seen_at states_then read
+        sees_same s read here unmarked c =
             ⊎_elim
             (λ same.
-            let e : u ≡ feed = eqb-true u feed same in
+            let e : u ≡ read = eqb-true u read same in
+            let mine : Contains (reads_of (stage_at new s) (states s).reads) u = subst (λ r. Contains (reads_of (stage_at new s) (states s).reads) r) (sym e) c in
             let among : is_among u (feeds_at old s) ≡ true =
-            contains_among u (feeds_at old s) (subst (λ f. Contains (feeds_at old s) f) (sym e) (subst (λ feeds. Contains feeds feed) (hurrying.feeds s) c)) in
+            contains_among u (feeds_at old s) (subst (λ feeds. Contains feeds u) (hurrying.feeds s) (reads_are_feeds (stage_at new s) (states s).reads u mine)) in
             let quiet : told ≡ false =
             false_unless told (λ loud.
-            true≢false (sym (and_from told (is_among u (feeds_at old s) && known s) loud (and_from (is_among u (feeds_at old s)) (known s) among here)) ∙ (unmarked_parts s unmarked).1)) in
+            let silent : (told && hears s) ≡ false = (unmarked_parts s unmarked).1 in
+            let deaf : reader s ≡ false =
+            false_unless (reader s) (λ reads.
+            true≢false (sym (and_from told (hears s) loud (and_from (is_among u (feeds_at old s)) (known s && reader s) among (and_from (known s) (reader s) here reads))) ∙ silent)) in
+            true≢false (sym (contains_among u (reads_of (stage_at new s) (states s).reads) mine) ∙ unread s here among deaf)) in
             let seen : seen_at states u ≡ seen_of (come_to step (stage_at new u) states) = same_from_differ (seen_at states u) (seen_of (come_to step (stage_at new u) states)) (sym tells ∙ quiet) in
-            ap (seen_at states) (sym e) ∙ seen ∙ ap seen_of (sym (here_then feed same)))
-            (λ other. ap seen_of (sym (there_then feed other)))
-            (cases_Bool (u == feed))
+            ap (seen_at states) (sym e) ∙ seen ∙ ap seen_of (sym (here_then read same)))
+            (λ other. ap seen_of (sym (there_then read other)))
+            (cases_Bool (u == read))
+
+        -- the computed place is none of its feeds
+        own_apart : (s feed : ℕ) → u ≡ s → Contains (feeds_at new s) feed → (u == feed) ≡ false
+        own_apart s feed own c =
+            false_unless (u == feed) (λ is.
+            let lower : rank old feed < rank old s = feed_lower s feed c in
+            let same : rank old feed ≡ rank old s = ap (rank old) (sym (eqb-true u feed is) ∙ own) in
+            omega arith)
 
         meets_then : (s : ℕ) → known s ≡ true → marked_then s ≡ false → states_then s ≡ come_to step (stage_at new s) states_then
         meets_then s here unmarked =
@@ -168,15 +186,17 @@ module _ {step : Step} (law : ReadsDecide step) {old new : Stages} {place : ℕ}
             let e : u ≡ s = eqb-true u s same in
             here_then s same
             ∙ ap (λ p. come_to step (stage_at new p) states) e
-            ∙ same_on_feeds law (stage_at new s) states states_then (λ feed c. sees_same s feed here unmarked c))
+            ∙ same_on_feeds law (stage_at new s) states states_then (λ feed c. ap seen_of (sym (there_then feed (own_apart s feed e c)))))
             (λ other.
             let others : (s == u) ≡ false = false_unless (s == u) (λ is. true≢false (sym (eq-eqb u s (sym (eqb-true s u is))) ∙ other)) in
             let was : marked s ≡ false =
             false_unless (marked s) (λ is.
             true≢false (sym (first.rest s ∙ and_from (marked s) (not (s == u)) is (not_from_false (s == u) others)) ∙ (unmarked_parts s unmarked).0)) in
+            let met : states s ≡ come_to step (stage_at new s) states = settling.meets s here was in
             there_then s other
-            ∙ settling.meets s here was
-            ∙ same_on_feeds law (stage_at new s) states states_then (λ feed c. sees_same s feed here unmarked c))
+            ∙ met
+            ∙ same_on_reads law (stage_at new s) states states_then
+            (λ read c. sees_same s read here unmarked (subst (λ (state : State). Contains (reads_of (stage_at new s) state.reads) read) (sym met) c)))
             (cases_Bool (u == s))
 
         either_then : (s : ℕ) → (states_then s ≡ at step old s) ⊎ (states_then s ≡ at step new s)
@@ -190,7 +210,7 @@ module _ {step : Step} (law : ReadsDecide step) {old new : Stages} {place : ℕ}
         before_lower c m earlier lower =
             ⊎_elim (λ (below : rank old c < rank old u). inl (omega arith)) (λ tie. let same : rank old c ≡ rank old u = tie.0 in inl (omega arith)) earlier
 
-        -- The first marked place is computed, and its dependents are marked if they can tell the difference.
+        -- The first marked place is computed, and those of its dependents that have read it are marked if they can tell the difference.
         pub settling_more : IsSettling step old new known (computed ++ u ∷ []) marked_then states_then
         settling_more = record {
           meets = meets_then;

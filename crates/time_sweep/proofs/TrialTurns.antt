@@ -11,23 +11,23 @@ use Rattle.stage_ops.specs.declared.state.State.{State}
 use Rattle.stage_ops.specs.Evaluation.{at}
 use Rattle.stage_ops.specs.Java.{java_step}
 use Rattle.stage_ops.specs.JavaLaws.{java_reads_decide, java_soon}
-use Rattle.stage_ops.specs.States.{seen_of, IsBy}
+use Rattle.stage_ops.specs.States.{seen_of, state_at, IsBy}
 use Rattle.scratch_eval.specs.Answers.{MomentsFollowRanks}
 use Rattle.scratch_eval.proofs.Evaluating.{moments_follow_ranks}
 use Rattle.rank_order.specs.Lists.{is_among}
 use Rattle.rank_order.specs.Marks.{IsFirst}
 use Rattle.propagate.specs.Completions.{differ}
-use Rattle.propagate.specs.Reach.{AreStates, come_to}
+use Rattle.propagate.specs.Reach.{AreStates, come_to, has_read, reads_of}
 use Rattle.propagate.proofs.Ascending.{distinct_from_before}
-use Rattle.propagate.proofs.Members.{among_push_cases}
-use Rattle.propagate.proofs.Ranks.{live_within}
+use Rattle.propagate.proofs.Members.{among_contains, among_push_cases, false_unless}
+use Rattle.propagate.proofs.Ranks.{live_within, rank_feed}
 use Rattle.propagate.proofs.Turns.{all_in_time, in_time}
 use Rattle.time_sweep.specs.declared.changes.Change.{Change}
 use Rattle.time_sweep.specs.Changed.{changed_places, state_in, states_in}
 use Rattle.time_sweep.specs.Known.{AreRanksFor}
 use Rattle.time_sweep.specs.Sweep.{hurried}
-use Rattle.time_sweep.proofs.Hurrying.{fast, hurried_ranked, hurried_sound, hurrying}
-use Rattle.time_sweep.proofs.Overlaid.{nothing_changed, overlaid, places_long, places_more, state_anywhere}
+use Rattle.time_sweep.proofs.Hurrying.{fast, hurried_ranked, hurried_reads, hurried_sound, hurrying}
+use Rattle.time_sweep.proofs.Overlaid.{nothing_changed, overlaid, places_long, places_more, state_anywhere, unchanged}
 use Rattle.time_sweep.proofs.Settling.{IsSettling, ascending_more, begun, first_comes, first_known, settled_before, settled_whole, settling_more}
 use Rattle.time_sweep.proofs.Unreached.{is_known}
 
@@ -95,10 +95,26 @@ module _ (graph : PlainGraph) (ranked : IsRanked graph.places) (sound : IsSound 
           (among_push_cases s u (changed_places list) among))) in
           omega (arith, short, length-append (changed_places list) (u ∷ []), places_long list)
 
+      -- A dependent is not computed before, so it has the state of the version, and has read what it had read there.
+      unread : (s : ℕ) → is_known ranks s ≡ true → is_among u (feeds_at graph.places s) ≡ true → has_read graph.places (state_at before) u s ≡ false
+          → is_among u (reads_of (stage_at (hurried graph stage).places s) (state_in before at' list s).reads) ≡ false
+      unread s known feed deaf =
+          let lower : rank graph.places u < rank graph.places s = rank_feed graph.places ranked s u (among_contains u (feeds_at graph.places s) feed) in
+          let later : is_among s (changed_places list) ≡ false =
+          false_unless (is_among s (changed_places list)) (λ earlier.
+          ⊎_elim
+          (λ (below : rank graph.places s < rank graph.places u). omega arith)
+          (λ tie. let same : rank graph.places s ≡ rank graph.places u = tie.0 in omega arith)
+          (turn.before s u earlier first.here)) in
+          ap (λ (places : List ℕ). is_among u places)
+          (hurried_reads graph stage stands s (state_in before at' list s).reads
+          ∙ ap (λ (state : State). reads_of (stage_at graph.places s) state.reads) (unchanged before at' list s later))
+          ∙ deaf
+
       module _ {quick : Stage} (same : quick ≡ fast stage) (at_then : List ℕ) (list_then : List Change) (marked_then : ℕ → Bool)
           (at_is : at_then ≡ slice_set at' u (length list))
           (list_is : list_then ≡ list ++ (record { place = u; state = comes graph quick before at' list u }) ∷ [])
-          (marks : (s : ℕ) → marked_then s ≡ (left s || (differ (seen_of (state_in before at' list u)) (seen_of (comes graph quick before at' list u)) && (is_among u (feeds_at graph.places s) && is_known ranks s)))) where
+          (marks : (s : ℕ) → marked_then s ≡ (left s || (differ (seen_of (state_in before at' list u)) (seen_of (comes graph quick before at' list u)) && (is_among u (feeds_at graph.places s) && (is_known ranks s && has_read graph.places (state_at before) u s))))) where
         abbrev now : State
         now = come_to (java_step graph.mode) (stage_at (hurried graph stage).places u) (state_in before at' list)
 
@@ -119,8 +135,10 @@ module _ (graph : PlainGraph) (ranked : IsRanked graph.places) (sound : IsSound 
             subst (λ (computed : List ℕ). IsSettling (java_step graph.mode) graph.places (hurried graph stage).places (is_known ranks) computed marked_then (state_in before at_then list_then))
             (sym (ap changed_places list_now ∙ places_more list (record { place = u; state = now })))
             (settling_more (java_reads_decide graph.mode) (hurrying graph stage stands ranked) (is_known ranks) are.feeds turn first
-            (differ (seen_of (state_in before at' list u)) (seen_of now)) marked_then (state_in before at_then list_then) refl
-            (λ s. marks s ∙ ap (λ (state : State). left s || (differ (seen_of (state_in before at' list u)) (seen_of state) && (is_among u (feeds_at graph.places s) && is_known ranks s))) is_now)
+            (differ (seen_of (state_in before at' list u)) (seen_of now)) (has_read graph.places (state_at before) u) marked_then (state_in before at_then list_then) unread refl
+            (λ s.
+            marks s
+            ∙ ap (λ (state : State). left s || (differ (seen_of (state_in before at' list u)) (seen_of state) && (is_among u (feeds_at graph.places s) && (is_known ranks s && has_read graph.places (state_at before) u s)))) is_now)
             holds)
 
         -- the computed place has its state of the graph in which the action takes no time

@@ -1,12 +1,15 @@
 -- The results of the trials together.
-use Rattle.std.proofs.Common.{◌≡◌, ◌+◌, ◌-◌, ◌*◌, ◌<◌, ◌≤◌, ℕ, zero, suc, List, [], ◌∷◌, ◌++◌, Option, None, Result, Ok, Err, length, get_or, take, drop, refl, ap, sym, ◌∙◌, subst, arith, append-nil, ⊎_elim}
-use Rattle.std.specs.Prelude.{All, IfOk, IsOk, Vec, filter_map, min}
+use Rattle.std.proofs.Common.{◌≡◌, ◌+◌, ◌-◌, ◌*◌, ◌<◌, ◌≤◌, ℕ, zero, suc, List, [], ◌∷◌, ◌++◌, Option, None, Result, Ok, Err, length, get_or, take, drop, refl, ap, sym, ◌∙◌, arith, append-nil, ⊎_elim}
+use Rattle.std.specs.Prelude.{All, IfOk, IsOk, Vec, filter_map, min, ◌/◌, ◌%◌, ◌==◌, false}
 use Rattle.std.specs.Global.{Global}
 use Rattle.std.specs.List.{AllZip, cons_option, flat_map, range_with_len}
-use Rattle.std.proofs.lemmas.Bool.{cases_lt}
+use Rattle.std.proofs.Math.Nat.{mul-div_cancel, mul-le-mul_right, mul-mod_left}
+use Rattle.std.proofs.lemmas.Bool.{cases_lt, cond-false, cond-true, eq-eqb, eqb-true}
+use Rattle.std.proofs.lemmas.Nat.{div-add-mod'}
 use Rattle.std.proofs.lemmas.Grind.{flat_map-append}
 use Rattle.std.proofs.lemmas.List.{length-drop, take-append-drop, take_more}
 use Rattle.std.proofs.lemmas.List.Elements.{All-head, All-tail, filter_map-append}
+use Rattle.propagate.proofs.Members.{false_unless}
 use Rattle.time_sweep.specs.declared.trial.Trial.{Trial}
 use Rattle.time_sweep.specs.Tried.{GiveAll, part_of, trials_in}
 use Rattle.time_sweep.proofs.Hurrying.{range_more}
@@ -41,27 +44,51 @@ drop_past zero (x ∷ xs) past = absurd (omega arith)
 drop_past (suc i) [] past = refl
 drop_past (suc i) (x ∷ xs) past = drop_past i xs (omega arith)
 
--- the trials of the parts are those of the places
-module _ (trial : ℕ → Option Trial) (places : List ℕ) (size : ℕ) where
-  from_part : (count first : ℕ) → length places ≤ (first + count) * size
-      → flat_map (λ part. filter_map trial (part_of places size part)) (range_with_len first count) ≡ filter_map trial (drop (first * size) places)
-  from_part zero first all = ap (filter_map trial) (sym (drop_past (first * size) places (omega arith)))
-  from_part (suc count) first all =
-      let rest : List ℕ = drop (first * size) places in
-      let next : (first + 1) * size ≡ first * size + size = omega arith in
-      let enough : length places ≤ (first + 1 + count) * size = omega arith in
-      ap (λ (later : List Trial). filter_map trial (take size rest) ++ later) (from_part count (first + 1) enough)
-      ∙ ap (λ (k : ℕ). filter_map trial (take size rest) ++ filter_map trial (drop k places)) next
-      ∙ ap (λ (later : List ℕ). filter_map trial (take size rest) ++ filter_map trial later) (sym (drop_drop (first * size) size places))
-      ∙ sym (filter_map-append trial (take size rest) (drop size rest))
-      ∙ ap (filter_map trial) (take-append-drop size rest)
+-- a place between two multiples that follow each other is none
+between : (size k q : ℕ) → k < q * size → q * size < k + size → (k % size == 0) ≡ false
+between size k q below above = false_unless (k % size == 0) (λ same. let whole : k % size ≡ 0 = eqb-true (k % size) 0 same in let split = div-add-mod' k size in
+    ⊎_elim
+    (λ (less : k / size < q). let next : (k / size + 1) * size ≤ q * size = mul-le-mul_right size (omega arith) in let one : (k / size + 1) * size ≡ k / size * size + size = omega arith in omega arith)
+    (λ (more : q ≤ k / size). let next : q * size ≤ k / size * size = mul-le-mul_right size more in omega arith)
+    (cases_lt (k / size) q))
 
-  pub from_parts : (count : ℕ) → length places ≤ count * size
-      → flat_map (λ part. filter_map trial (part_of places size part)) (range_with_len 0 count) ≡ filter_map trial places
-  from_parts count all =
-      let count_is : count ≡ 0 + count = omega arith in
+-- the trials of the pieces are those of the places
+module _ (trial : ℕ → Option Trial) (places : List ℕ) (size : ℕ) where
+  abbrev trials_of : ℕ → List Trial
+  trials_of piece = filter_map trial (part_of places size piece)
+
+  -- from any piece on: the parts that begin there or later
+  from_piece : (parts count k q : ℕ) → length places ≤ parts * size → k ≤ q * 64 → q * 64 < k + 64 → k + count ≡ parts * 64
+      → flat_map trials_of (range_with_len k count) ≡ filter_map trial (drop (q * size) places)
+  from_piece parts zero k q fit upto near all =
+      let last : parts ≤ q = omega (arith, upto, all) in
+      let over : parts * size ≤ q * size = mul-le-mul_right size last in
+      ap (filter_map trial) (sym (drop_past (q * size) places (omega (arith, over, fit))))
+  from_piece parts (suc count) k q fit upto near all =
+      let next : (q + 1) * size ≡ q * size + size = omega arith in
+      ⊎_elim
+      (λ (before : k < q * 64).
+      ap (λ (first : List Trial). first ++ flat_map trials_of (range_with_len (k + 1) count))
+      (ap (filter_map trial) (cond-false (k % 64 == 0) (take size (drop (k / 64 * size) places)) [] (between 64 k q before near)))
+      ∙ from_piece parts count (k + 1) q fit (omega (arith, before)) (omega (arith, near)) (omega (arith, all)))
+      (λ (past : q * 64 ≤ k).
+      let here : k ≡ q * 64 = omega (arith, past, upto) in
+      let whole : k % 64 ≡ 0 = ap (λ n. n % 64) here ∙ mul-mod_left q 64 in
+      let part : k / 64 ≡ q = ap (λ n. n / 64) here ∙ mul-div_cancel q (omega arith) in
+      ap (λ (first : List Trial). first ++ flat_map trials_of (range_with_len (k + 1) count))
+      (ap (filter_map trial) (cond-true (k % 64 == 0) (take size (drop (k / 64 * size) places)) [] (eq-eqb (k % 64) 0 whole) ∙ ap (λ n. take size (drop (n * size) places)) part))
+      ∙ ap (λ (later : List Trial). filter_map trial (take size (drop (q * size) places)) ++ later) (from_piece parts count (k + 1) (q + 1) fit (omega (arith, here)) (omega (arith, here)) (omega (arith, all)))
+      ∙ ap (λ (n : ℕ). filter_map trial (take size (drop (q * size) places)) ++ filter_map trial (drop n places)) next
+      ∙ ap (λ (later : List ℕ). filter_map trial (take size (drop (q * size) places)) ++ filter_map trial later) (sym (drop_drop (q * size) size places))
+      ∙ sym (filter_map-append trial (take size (drop (q * size) places)) (drop size (drop (q * size) places)))
+      ∙ ap (filter_map trial) (take-append-drop size (drop (q * size) places)))
+      (cases_lt k (q * 64))
+
+  pub from_pieces : (pieces : ℕ) → pieces % 64 ≡ 0 → length places ≤ pieces / 64 * size → flat_map trials_of (range_with_len 0 pieces) ≡ filter_map trial places
+  from_pieces pieces whole fit =
       let none : 0 * size ≡ 0 = omega arith in
-      from_part count 0 (subst (λ k. length places ≤ k * size) count_is all) ∙ ap (λ k. filter_map trial (drop k places)) none
+      let split = div-add-mod' pieces 64 in
+      from_piece (pieces / 64) pieces 0 0 fit (omega arith) (omega arith) (omega (arith, split, whole)) ∙ ap (λ k. filter_map trial (drop k places)) none
 
 -- ---- the places that are tried
 

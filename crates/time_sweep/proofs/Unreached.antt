@@ -5,6 +5,7 @@ use Rattle.std.specs.List.{cons_option}
 use Rattle.std.proofs.lemmas.Bool.{true≢false, false≢true}
 use Rattle.stage_graph.specs.declared.stage.Stage.{Stage}
 use Rattle.stage_graph.specs.Plain.{PlainGraph, all_places, stage_at}
+use Rattle.stage_graph.specs.Sound.{IsSound}
 use Rattle.stage_graph.specs.Walk.{IsRanked}
 use Rattle.stage_ops.specs.declared.state.Done.{Done}
 use Rattle.stage_ops.specs.declared.state.State.{State}
@@ -39,6 +40,16 @@ module _ (graph : PlainGraph) (ranked : IsRanked graph.places) (target : ℕ) (r
   unreached place =
       ap (λ (new : Option Done). cond (is_some stage.action) (sooner_trial place (completion_of graph target) new) None) (sym same_completion)
       ∙ none_sooner (is_some stage.action) place (completion_of graph target)
+
+-- the same of the stage at a place, if one stands there
+pub unreached_at : (graph : PlainGraph) → IsRanked graph.places → IsSound graph → (target : ℕ) (ranks : List (Option ℕ)) → AreRanksFor graph.places target ranks → (place : ℕ) → is_known ranks place ≡ false
+    → trial_at graph target place ≡ None
+unreached_at graph ranked sound target ranks are place unknown = of (stage_at graph.places place) refl where
+  of : (here : Option Stage) → stage_at graph.places place ≡ here → trial_of graph target place here ≡ None
+  of None none = refl
+  of (Some stage) here =
+      let own : stage.place ≡ place = (sound.stages place stage here).own_place in
+      unreached graph ranked target ranks are stage (ap (stage_at graph.places) own ∙ here) (ap (is_known ranks) own ∙ unknown) place
 
 -- a target that is pending has no trials
 no_trial : (graph : PlainGraph) (target place : ℕ) (here : Option Stage) → completion_of graph target ≡ None → trial_of graph target place here ≡ None

@@ -1,5 +1,5 @@
--- The results of the trials, part by part.
-use Rattle.std.specs.Prelude.{◌≡◌, ◌≤◌, ◌*◌, ℕ, All, length, List, [], Vec, Result, Ok, Err, IfOk, drop, take}
+-- The results of the trials, piece by piece.
+use Rattle.std.specs.Prelude.{◌≡◌, ◌<◌, ◌≤◌, ◌*◌, ◌/◌, ◌%◌, ◌==◌, if◌then◌else◌, ℕ, All, List, [], Vec, Result, Ok, Err, IfOk, drop, take}
 use Rattle.std.specs.Global.{Global}
 use Rattle.stage_graph.specs.Plain.{PlainGraph, IsLive}
 use Rattle.stage_ops.specs.Java.{java_step}
@@ -13,13 +13,13 @@ abbrev pub trials_in : {E : Type 0} → Result (Vec Trial Global) E → List Tri
 trials_in (Ok trials) = trials.items
 trials_in (Err error) = []
 
--- the trials of a part, where they were made
+-- the trials of a piece, where they were made
 abbrev pub GiveAll : {E : Type 0} → (ℕ → List Trial) → ℕ → Result (Vec Trial Global) E → Type 0
-GiveAll trials part answer = IfOk answer (λ made. made.items ≡ trials part)
+GiveAll trials piece answer = IfOk answer (λ made. made.items ≡ trials piece)
 
--- the places of a part, of which each but the last has this many
+-- the places of a piece: those of a part at the first of the part's 64 pieces, and at other pieces none
 abbrev pub part_of : List ℕ → ℕ → ℕ → List ℕ
-part_of places size part = take size (drop (part * size) places)
+part_of places size piece = if piece % 64 == 0 then take size (drop (piece / 64 * size) places) else []
 
 -- trials of the graph may start from this
 pub record CanStart (graph : PlainGraph) (start : Start) : Type 0 where
@@ -27,5 +27,5 @@ pub record CanStart (graph : PlainGraph) (start : Start) : Type 0 where
   pub known : All (IsKnown start.ranks.items) start.places.items
   pub states : AreStates (java_step graph.mode) graph.places start.before.items
   pub ranks : AreRanksFor graph.places start.target start.ranks.items
-  pub few : length start.places.items ≤ 65536
+  pub some : 0 < start.size
   pub size : start.size ≤ 65536

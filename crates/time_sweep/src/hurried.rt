@@ -1,5 +1,5 @@
 //! How a stage completes where the action of another takes no time.
-ghost use Rattle.std.specs.Prelude.{◌≡◌, ◌<◌, ◌||◌, ◌&&◌, ◌==◌, ◌^◌, ℕ, All, IfOk, OnOk, Some, IfSome, IsSome, is_some, length, option_copied, slice_set, ◌++◌, ◌∷◌, []};
+ghost use Rattle.std.specs.Prelude.{◌≡◌, ◌<◌, ◌||◌, ◌&&◌, ◌==◌, ◌^◌, ℕ, true, All, IfOk, OnOk, Some, IfSome, IsSome, is_some, length, option_copied, slice_set, ◌++◌, ◌∷◌, []};
 ghost use Rattle.stage_graph.specs.Plain.{stage_at, feeds_at, dependents, IsLive};
 ghost use Rattle.stage_graph.specs.Sound.{IsSoundStage};
 ghost use Rattle.stage_graph.specs.Walk.{rank};
@@ -7,10 +7,10 @@ ghost use Rattle.rank_order.specs.Lists.{is_among};
 ghost use Rattle.stage_ops.specs.Among.{IsSoundAmong};
 ghost use Rattle.stage_ops.specs.Evaluation.{at};
 ghost use Rattle.stage_ops.specs.Java.{java_step};
-ghost use Rattle.stage_ops.specs.States.{seen_of, IsBy};
+ghost use Rattle.stage_ops.specs.States.{seen_of, state_at, IsBy};
 ghost use Rattle.rank_order.specs.Marks.{is_marked, AreMarks};
 ghost use Rattle.propagate.specs.Completions.{differ};
-ghost use Rattle.propagate.specs.Reach.{come_to, AreStates};
+ghost use Rattle.propagate.specs.Reach.{come_to, has_read, AreStates};
 ghost use Rattle.time_sweep.specs.Changed.{state_in, states_in};
 ghost use Rattle.time_sweep.specs.Known.{is_below, rank_in, AreRanksFor, IsKnown};
 ghost use Rattle.time_sweep.specs.Sweep.{completion_of, hurried};
@@ -18,10 +18,11 @@ ghost use Rattle.time_sweep.specs.Sweep.{completion_of, hurried};
 use crate::changes::{Changes, Now};
 use crate::differ::differ;
 use crate::known::known_rank;
+use crate::reads::{has_read, reads_in};
 use propagate::StateRepresentation;
 use rank_order::Marks;
 use stage_graph::{Graph, Stage};
-use stage_ops::{Done, JavaOps, Meter, StageOps, State};
+use stage_ops::{Done, JavaOps, Meter, Reads, StageOps, State};
 use std::alloc::{AllocError, Global};
 use version_store::{NoStage, Version};
 
@@ -65,10 +66,54 @@ fn dependents_of<R: StateRepresentation>(version: &Version<R>, place: u32) -> &[
     }
 }
 
-/// Marks the dependents of a place that the target can wait for.
+/// Whether the stage at a place has read one of its feeds in the version.
+fn is_reader<R: StateRepresentation>(
+    graph: &Graph<R>,
+    before: &[State],
+    feed: u32,
+    place: u32,
+) -> bool
+    requires { is_among feed (feeds_at graph.now.places place) ≡ true }
+    ensures { result ≡ has_read graph.now.places (state_at before.now) feed place }
+{
+    let reads = reads_in(before, place);
+    // A stage with both pins reads nothing, and so it is not looked up.
+    if let Reads::Nothing = reads {
+        return false;
+    }
+    match graph.stage(place) {
+        Some(stage) => has_read(stage, reads, feed),
+        None => false,
+    }
+}
+
+/// The rank of a dependent of a place, if the rank is known and the dependent has read the place.
+fn reader_rank<R: StateRepresentation>(
+    graph: &Graph<R>,
+    before: &[State],
+    ranks: &[Option<u32>],
+    place: u32,
+    dependent: u32,
+) -> Option<u32>
+    requires feed { is_among place (feeds_at graph.now.places dependent) ≡ true }
+    ensures known { is_some result ≡ (is_some (rank_in ranks.now dependent) && has_read graph.now.places (state_at before.now) place dependent) }
+    ensures rank { IfSome result (λ rank. rank_in ranks.now dependent ≡ Some rank) }
+{
+    let rank = known_rank(ranks, dependent)?;
+    if is_reader(graph, before, place, dependent) {
+        Some(rank)
+    } else {
+        None
+    }
+}
+
+/// Marks the dependents of a place that have read it in the version, of those with a known rank, among which are all that
+/// the target can wait for. Each other one of these stays as it is: a dependent comes after the place, so the trial has not
+/// computed it yet, and what a stage doesn't read doesn't change its state.
 fn tell<R: StateRepresentation>(
     marks: &mut Marks,
     version: &Version<R>,
+    before: &[State],
     ranks: &[Option<u32>],
     target: u32,
     place: u32,
@@ -76,12 +121,14 @@ fn tell<R: StateRepresentation>(
     requires live { IsLive version.now.graph.places place }
     requires ranks { AreRanksFor version.now.graph.places target ranks.now }
     ensures marked { OnOk result ((other : ℕ) → is_marked (rank version.now.graph.places) marks.new other
-        ≡ (is_marked (rank version.now.graph.places) marks.old other || (is_among place (feeds_at version.now.graph.places other) && is_some (rank_in ranks.now other)))) }
+        ≡ (is_marked (rank version.now.graph.places) marks.old other
+        || (is_among place (feeds_at version.now.graph.places other) && (is_some (rank_in ranks.now other) && has_read version.now.graph.places (state_at before.now) place other)))) }
     ensures marks { OnOk result (AreMarks (rank version.now.graph.places) marks.old → AreMarks (rank version.now.graph.places) marks.new) }
 {
+    let graph = version.graph();
     let dependents = dependents_of(version, place);
     for dependent in dependents {
-        if let Some(rank) = known_rank(ranks, *dependent) {
+        if let Some(rank) = reader_rank(graph, before, ranks, place, *dependent) {
             marks.insert(rank, *dependent)?;
         }
     }
@@ -93,6 +140,7 @@ fn tell_if<R: StateRepresentation>(
     is_told: bool,
     marks: &mut Marks,
     version: &Version<R>,
+    before: &[State],
     ranks: &[Option<u32>],
     target: u32,
     place: u32,
@@ -101,11 +149,11 @@ fn tell_if<R: StateRepresentation>(
     requires ranks { AreRanksFor version.now.graph.places target ranks.now }
     ensures marked { OnOk result ((other : ℕ) → is_marked (rank version.now.graph.places) marks.new other
         ≡ (is_marked (rank version.now.graph.places) marks.old other
-        || (is_told && (is_among place (feeds_at version.now.graph.places other) && is_some (rank_in ranks.now other))))) }
+        || (is_told && (is_among place (feeds_at version.now.graph.places other) && (is_some (rank_in ranks.now other) && has_read version.now.graph.places (state_at before.now) place other))))) }
     ensures marks { OnOk result (AreMarks (rank version.now.graph.places) marks.old → AreMarks (rank version.now.graph.places) marks.new) }
 {
     if is_told {
-        return tell(marks, version, ranks, target, place);
+        return tell(marks, version, before, ranks, target, place);
     }
     Ok(())
 }
@@ -163,7 +211,7 @@ fn state_in<R: StateRepresentation>(
     }
 }
 
-/// Computes the stage at a place, and marks its dependents if they can tell the difference.
+/// Computes the stage at a place, and marks those of its dependents that have read it, if they can tell the difference.
 fn advance<R: StateRepresentation>(
     version: &Version<R>,
     before: &[State],
@@ -193,7 +241,7 @@ fn advance<R: StateRepresentation>(
         || (differ (seen_of (state_in before.now changes.old.at.items changes.old.list.items place))
         (seen_of (come_to (java_step version.now.graph.mode) (stage_at (slice_set version.now.graph.places fast.now.place (Some fast.now)) place)
         (state_in before.now changes.old.at.items changes.old.list.items)))
-        && (is_among place (feeds_at version.now.graph.places other) && is_some (rank_in ranks.now other))))) }
+        && (is_among place (feeds_at version.now.graph.places other) && (is_some (rank_in ranks.now other) && has_read version.now.graph.places (state_at before.now) place other))))) }
     ensures marks { OnOk result (AreMarks (rank version.now.graph.places) marks.old → AreMarks (rank version.now.graph.places) marks.new) }
 {
     let graph = version.graph();
@@ -202,7 +250,7 @@ fn advance<R: StateRepresentation>(
     let state = state_in(graph, before, fast, place, changes);
     let is_told = differ(Now { before, changes }.at(place), &state);
     changes.set(place, state)?;
-    tell_if(is_told, marks, version, ranks, target, place)?;
+    tell_if(is_told, marks, version, before, ranks, target, place)?;
     Ok(())
 }
 
@@ -216,7 +264,7 @@ fn is_below(ranks: &[Option<u32>], one: u32, other: u32) -> bool
     }
 }
 
-/// Computes the stages that can be reached from the one whose action takes no time, as far as the target can wait for them:
+/// Computes the stages that can be reached from the one whose action takes no time, as far as their ranks are known:
 /// by rank, so each of them once, and no more of them once the target's state is found.
 fn settle<R: StateRepresentation>(
     alloc: Global,

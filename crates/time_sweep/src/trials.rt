@@ -1,5 +1,5 @@
 //! All trials of a stage.
-ghost use Rattle.std.specs.Prelude.{◌≡◌, ◌↔◌, ◌<◌, ◌+◌, ◌*◌, ◌≤◌, All, IfOk, IsOk, IsTrue, None, true, false, OnOk, filter_map, length};
+ghost use Rattle.std.specs.Prelude.{◌≡◌, ◌↔◌, ◌<◌, ◌*◌, ◌/◌, ◌%◌, ◌≤◌, All, IfOk, IsOk, IsTrue, None, true, false, OnOk, filter_map, length};
 ghost use Rattle.std.specs.List.{range_with_len, flat_map};
 ghost use Rattle.stage_graph.specs.Plain.{all_places, IsLive};
 ghost use Rattle.stage_ops.specs.Java.{java_step};
@@ -9,9 +9,10 @@ ghost use Rattle.time_sweep.specs.Sweep.{completion_of, sooner_trial, trial_at, 
 ghost use Rattle.time_sweep.specs.Known.{AreRanksFor, IsKnown};
 ghost use Rattle.time_sweep.specs.Tried.{part_of, trials_in, CanStart, GiveAll};
 
+use crate::ancestors::ranks_of;
 use crate::changes::Changes;
 use crate::hurried::hurried_completion;
-use crate::known::{Start, known_rank, ranks_of, states_of};
+use crate::known::{Start, known_rank, states_of};
 use crate::trial::Trial;
 use level_pool::Runner;
 use propagate::StateRepresentation;
@@ -19,6 +20,10 @@ use stage_graph::Stage;
 use stage_ops::{Done, State};
 use std::alloc::{AllocError, Global};
 use version_store::{NoStage, Version};
+
+/// How many pieces there are for each part of the trials. A runner in threads makes at least so many pieces in one thread,
+/// so that with so many for each part all parts can be made beside each other.
+const PIECES_A_PART: usize = 64;
 
 /// A trial by which a stage would complete sooner.
 fn sooner_trial(place: u32, old: &Option<Done>, new: &Option<Done>) -> Option<Trial>
@@ -60,8 +65,8 @@ fn takes_no_time(stage: &Stage) -> bool
     stage.queued == 0 && stage.runs == 0
 }
 
-/// The trial at a place that the target can wait for, where a stage with an action stands there and the target would
-/// complete sooner.
+/// The trial at a place whose rank is known, where a stage with an action stands there and the target would complete
+/// sooner.
 fn trial_at<R: StateRepresentation>(
     alloc: Global,
     version: &Version<R>,
@@ -90,8 +95,8 @@ fn trial_at<R: StateRepresentation>(
     Ok(sooner_trial(place, &old, &new))
 }
 
-/// Whether a trial has to be made at a place: where a stage with an action stands that takes time, and for which the
-/// target can wait.
+/// Whether a trial has to be made at a place: where a stage with an action stands that takes time, and whose rank is known,
+/// as it is wherever the target can wait for the stage.
 fn is_tried<R: StateRepresentation>(
     version: &Version<R>,
     ranks: &[Option<u32>],
@@ -105,16 +110,16 @@ fn is_tried<R: StateRepresentation>(
     let graph = version.graph();
     // With its length a graph says that it is sound, as every graph is.
     let _ = graph.len();
+    if known_rank(ranks, place).is_none() {
+        return false;
+    }
     let Some(stage) = graph.stage(place) else {
         return false;
     };
     if stage.action.is_none() {
         return false;
     }
-    if takes_no_time(stage) {
-        return false;
-    }
-    known_rank(ranks, place).is_some()
+    !takes_no_time(stage)
 }
 
 /// The places at which a trial has to be made, in order.
@@ -138,7 +143,7 @@ fn tried_places<R: StateRepresentation>(
     Ok(places)
 }
 
-/// The numbers from 0 up to a count of parts.
+/// The numbers from 0 up to a count of pieces.
 fn numbers(alloc: Global, count: u32) -> Result<Vec<u32>, AllocError>
     ensures { IfOk result (λ numbers. numbers.items ≡ range_with_len 0 count) }
 {
@@ -164,6 +169,10 @@ fn trials_among<R: StateRepresentation>(
     requires ranks { AreRanksFor version.now.graph.places target ranks.now }
     ensures { IfOk result (λ found. found.items ≡ filter_map (trial_at version.now.graph target) places.now) }
 {
+    // Most pieces have no trials, and make no list of changes.
+    if places.is_empty() {
+        return Ok(Vec::new(alloc));
+    }
     let mut changes = Changes::none(alloc, before.len())?;
     let mut found = Vec::new(alloc);
     for place in places {
@@ -182,51 +191,56 @@ fn trials_among<R: StateRepresentation>(
     Ok(found)
 }
 
-/// The places of a part: at most this many.
-fn part_of(places: &[u32], size: usize, part: u32) -> &[u32]
-    requires few { length places.now ≤ 65536 }
+/// The places of a piece: at the first piece of a part those of the part, which are at most this many, and at each other
+/// piece none.
+fn part_of(places: &[u32], size: usize, piece: u32) -> &[u32]
+    requires some { 0 < size }
     requires size { size ≤ 65536 }
-    ensures { result.now ≡ part_of places.now size part }
+    ensures { result.now ≡ part_of places.now size piece }
 {
-    let start = (part as usize * size).min(places.len());
+    let piece = piece as usize;
+    if piece % PIECES_A_PART != 0 {
+        return &places[..0];
+    }
+    let start = (piece / PIECES_A_PART * size).min(places.len());
     let end = (start + size).min(places.len());
     &places[start..end]
 }
 
-/// The trials of a part.
-fn trials_of_part<R: StateRepresentation>(
+/// The trials of a piece.
+fn trials_of_piece<R: StateRepresentation>(
     alloc: Global,
     version: &Version<R>,
     start: &Start,
-    part: u32,
+    piece: u32,
 ) -> Result<Vec<Trial>, AllocError>
     requires { CanStart version.now.graph start.now }
-    ensures { GiveAll (λ part. filter_map (trial_at version.now.graph start.now.target) (part_of start.now.places.items start.now.size part)) part result }
+    ensures { GiveAll (λ piece. filter_map (trial_at version.now.graph start.now.target) (part_of start.now.places.items start.now.size piece)) piece result }
 {
-    let places = part_of(start.places.as_slice(), start.size, part);
+    let places = part_of(start.places.as_slice(), start.size, piece);
     let before = start.before.as_slice();
     let ranks = start.ranks.as_slice();
     trials_among(alloc, version, before, ranks, start.target, places)
 }
 
-/// The trials of each part, or that memory ran out for it. The runner makes the parts beside each other.
+/// The trials of each piece, or that memory ran out for it. The runner makes the pieces beside each other.
 fn tried<R: StateRepresentation, W: Runner>(
     alloc: Global,
     version: &Version<R>,
     start: &Start,
-    parts: &[u32],
+    pieces: &[u32],
     runner: &W,
 ) -> Result<Vec<Result<Vec<Trial>, AllocError>>, AllocError>
     requires { CanStart version.now.graph start.now }
-    ensures { IfOk result (λ tried. IsPlainMap (GiveAll (λ part. filter_map (trial_at version.now.graph start.now.target) (part_of start.now.places.items start.now.size part))) parts.now tried.items) }
+    ensures { IfOk result (λ tried. IsPlainMap (GiveAll (λ piece. filter_map (trial_at version.now.graph start.now.target) (part_of start.now.places.items start.now.size piece))) pieces.now tried.items) }
 {
     let answer = runner.run(
         alloc,
-        parts,
-        &|part: u32| -> Result<Vec<Trial>, AllocError>
+        pieces,
+        &|piece: u32| -> Result<Vec<Trial>, AllocError>
             requires { CanStart version.now.graph start.now }
-            ensures { GiveAll (λ part. filter_map (trial_at version.entry.now.graph start.entry.now.target) (part_of start.entry.now.places.items start.entry.now.size part)) part result }
-        { trials_of_part(alloc, version, start, part) },
+            ensures { GiveAll (λ piece. filter_map (trial_at version.entry.now.graph start.entry.now.target) (part_of start.entry.now.places.items start.entry.now.size piece)) piece result }
+        { trials_of_piece(alloc, version, start, piece) },
     );
     match answer {
         Ok(tried) => Ok(tried),
@@ -234,7 +248,7 @@ fn tried<R: StateRepresentation, W: Runner>(
     }
 }
 
-/// The trials that were found, if memory ran out for none of the parts.
+/// The trials that were found, if memory ran out for none of the pieces.
 fn found_among(
     alloc: Global,
     tried: &[Result<Vec<Trial>, AllocError>],
@@ -252,14 +266,25 @@ fn found_among(
     Ok(found)
 }
 
-/// How many trials a part has: enough that they outweigh the list that is made for the part, and few enough that there
-/// are parts for all workers.
+/// How many trials a part has, of this many in all. A part makes one list for them, as long as the graph: so there are at
+/// most 63 parts. But where there are 32 trials there are as many parts, which are enough for all workers, and of fewer
+/// trials each is a part of its own.
 fn size_of_parts(count: usize) -> usize
     requires { count ≤ 65536 }
     ensures some { 0 < result }
     ensures most { result ≤ 65536 }
 {
-    (count / 512).max(8)
+    (count / 32).max(1)
+}
+
+/// How many pieces there are for this many trials, in parts of this size.
+fn piece_count(count: usize, size: usize) -> u32
+    requires count { count ≤ 65536 }
+    requires some { 0 < size }
+    ensures whole { result % 64 ≡ 0 }
+    ensures all { count ≤ result / 64 * size }
+{
+    (count.div_ceil(size) * PIECES_A_PART) as u32
 }
 
 /// All trials by which the target would complete sooner, by place.
@@ -276,11 +301,17 @@ pub(crate) fn trials<R: StateRepresentation, W: Runner>(
     if is_pending(version, target) {
         return Ok(Vec::new(alloc));
     }
-    let before = states_of(alloc, version)?;
     let ranks = ranks_of(alloc, version, target)?;
     let places = tried_places(alloc, version, ranks.as_slice(), target)?;
+    // Without trials no states are needed.
+    if places.is_empty() {
+        return Ok(Vec::new(alloc));
+    }
+    let before = states_of(alloc, version)?;
     let size = size_of_parts(places.len());
-    let parts = numbers(alloc, places.len().div_ceil(size) as u32)?;
+    // A runner judges by the number of pieces in how many threads it makes them. So there are many for each part, and the
+    // first of them makes the part's trials.
+    let pieces = numbers(alloc, piece_count(places.len(), size))?;
     let start = Start {
         target,
         before,
@@ -288,6 +319,6 @@ pub(crate) fn trials<R: StateRepresentation, W: Runner>(
         places,
         size,
     };
-    let tried = tried(alloc, version, &start, parts.as_slice(), runner)?;
+    let tried = tried(alloc, version, &start, pieces.as_slice(), runner)?;
     found_among(alloc, tried.as_slice())
 }

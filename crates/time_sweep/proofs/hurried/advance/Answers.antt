@@ -4,10 +4,11 @@ use Rattle.stage_graph.specs.Plain.{PlainGraph, feeds_at, IsLive}
 use Rattle.stage_graph.specs.Sound.{IsSound, IsSoundStage}
 use Rattle.stage_graph.specs.Walk.{rank}
 use Rattle.stage_ops.specs.declared.state.State.{State}
-use Rattle.stage_ops.specs.States.{seen_of}
+use Rattle.stage_ops.specs.States.{seen_of, state_at}
 use Rattle.rank_order.specs.Lists.{is_among}
 use Rattle.rank_order.specs.Marks.{is_marked}
 use Rattle.propagate.specs.Completions.{differ}
+use Rattle.propagate.specs.Reach.{has_read}
 use Rattle.propagate.proofs.Ranks.{live_within}
 use Rattle.time_sweep.specs.Changed.{state_in}
 use Rattle.time_sweep.specs.Known.{rank_in}
@@ -57,4 +58,4 @@ returns-clause-marked g c other =
     ∙ ap (λ (was : State). differ (seen_of was) (seen_of c.state_in-state.result)) c.at.ensures
     ∙ ap (λ (now : State). differ (seen_of (state_in c.args.before.now changes.at.items changes.list.items c.args.place)) (seen_of now)) state_is in
     c.in_ok-tell_if.ensures.marked other
-    ∙ ap (λ (told : Bool). is_marked (rank places) c.args.marks.now other || (told && (is_among c.args.place (feeds_at places other) && is_some (rank_in c.args.ranks.now other)))) told_is
+    ∙ ap (λ (told : Bool). is_marked (rank places) c.args.marks.now other || (told && (is_among c.args.place (feeds_at places other) && (is_some (rank_in c.args.ranks.now other) && has_read places (state_at c.args.before.now) c.args.place other)))) told_is

@@ -1,10 +1,9 @@
-use Rattle.std.proofs.Common.{◌∙◌, ◌*◌, ◌≤◌, List, ℕ, ap, length, subst, sym, arith, vec_len}
+use Rattle.std.proofs.Common.{◌∙◌, ◌*◌, ◌/◌, ◌≤◌, List, ℕ, ap, subst, sym}
 use Rattle.std.specs.Prelude.{All, IsOk, filter_map}
 use Rattle.std.specs.List.{AllZip, flat_map, range_with_len}
-use Rattle.std.proofs.lemmas.Grind.{div_ceil_times}
 use Rattle.time_sweep.specs.Sweep.{trial_at}
 use Rattle.time_sweep.specs.Tried.{GiveAll, part_of, trials_in}
-use Rattle.time_sweep.proofs.Trying.{all_tried, both_ok, from_parts}
+use Rattle.time_sweep.proofs.Trying.{all_tried, both_ok, from_pieces}
 use Rattle.time_sweep.proofs.Unreached.{pending_trials}
 use Rattle.time_sweep.proofs.trials.trials.Goals as goal
 
@@ -17,16 +16,14 @@ returns g c =
     let trial = trial_at c.args.version.now.graph c.args.target in
     let places = c.in_ok-places.places.items in
     let size = c.size_of_parts-size.result in
-    let count = c.div_ceil.result in
     let tried = c.in_ok-tried.tried.items in
-    let each = λ (part : ℕ). filter_map trial (part_of places size part) in
-    let zip : AllZip (GiveAll each) (range_with_len 0 count) tried =
-    subst (λ (parts : List ℕ). AllZip (GiveAll each) parts tried) (c.as_slice-2.ensures.value ∙ c.in_ok-parts.ensures) c.in_ok-tried.ensures in
-    let times = div_ceil_times (vec_len c.in_ok-places.places) size c.size_of_parts-size.ensures.some in
-    let covered : vec_len c.in_ok-places.places ≤ count * size = rw (c.div_ceil.ensures, c.len-2.ensures) times.0 in
-    let enough : length places ≤ count * size = omega (arith, covered, c.in_ok-places.places.ok) in
+    let each = λ (piece : ℕ). filter_map trial (part_of places size piece) in
+    let pieces = c.piece_count.result in
+    let count = c.len-2.ensures ∙ c.in_ok-places.places.ok.0 in
+    let zip : AllZip (GiveAll each) (range_with_len 0 pieces) tried =
+    subst (λ (pieces : List ℕ). AllZip (GiveAll each) pieces tried) (c.as_slice-2.ensures.value ∙ c.in_ok-pieces.ensures) c.in_ok-tried.ensures in
     both_ok c.found_among.result _ _ _
     (λ found is all.
-    is ∙ ap (flat_map trials_in) c.as_slice-3.ensures.value ∙ all_tried each (range_with_len 0 count) tried zip (subst (All (λ one. IsOk one)) c.as_slice-3.ensures.value all)
-    ∙ from_parts trial places size count enough ∙ c.in_ok-places.ensures.trials)
+    is ∙ ap (flat_map trials_in) c.as_slice-3.ensures.value ∙ all_tried each (range_with_len 0 pieces) tried zip (subst (All (λ one. IsOk one)) c.as_slice-3.ensures.value all)
+    ∙ from_pieces trial places size pieces c.piece_count.ensures.whole (subst (λ n. n ≤ pieces / 64 * size) count c.piece_count.ensures.all) ∙ c.in_ok-places.ensures.trials)
     c.found_among.ensures.found c.found_among.ensures.all
