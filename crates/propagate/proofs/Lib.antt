@@ -13,3 +13,4 @@ pub mod Outcomes
 pub mod Turns
 pub mod Naming
 pub mod FirstDependents
+pub mod Remembered

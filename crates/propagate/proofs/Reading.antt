@@ -71,29 +71,18 @@ reader_live stages states feed place h = live (stage_at stages place) h where
   live None e = absurd (false≢true e)
   live (Some stage) e = refl
 
--- one more dependent, which has read the place
-pub readers_more : (reads_it live : ℕ → Bool) (dependents : List ℕ) (i s : ℕ) (was : Bool) → i < length dependents → reads_it (get_or dependents i 0) ≡ true → live (get_or dependents i 0) ≡ true
-    → ((was || among_readers reads_it (take i dependents) s) || (live (get_or dependents i 0) && s == get_or dependents i 0)) ≡ (was || among_readers reads_it (take (i + 1) dependents) s)
-readers_more reads_it live dependents i s was within r l =
-    or_assoc was (among_readers reads_it (take i dependents) s) (live (get_or dependents i 0) && s == get_or dependents i 0)
-    ∙ ap (λ b. was || (among_readers reads_it (take i dependents) s || b)) (turn (live (get_or dependents i 0)) (s == get_or dependents i 0) (reads_it (get_or dependents i 0)) l r)
+-- one more dependent
+pub readers_next : (reads_it : ℕ → Bool) (dependents : List ℕ) (i s : ℕ) (was : Bool) → i < length dependents
+    → ((was || among_readers reads_it (take i dependents) s) || (reads_it (get_or dependents i 0) && s == get_or dependents i 0)) ≡ (was || among_readers reads_it (take (i + 1) dependents) s)
+readers_next reads_it dependents i s was within =
+    or_assoc was (among_readers reads_it (take i dependents) s) (reads_it (get_or dependents i 0) && s == get_or dependents i 0)
+    ∙ ap (λ b. was || (among_readers reads_it (take i dependents) s || b)) (turn (reads_it (get_or dependents i 0)) (s == get_or dependents i 0))
     ∙ ap (λ b. was || b) (sym (list_any_more (λ dependent. (s == dependent) && reads_it dependent) dependents i 0 within)) where
-      turn : (a b c : Bool) → a ≡ true → c ≡ true → (a && b) ≡ (b && c)
-      turn true true true e f = refl
-      turn true false true e f = refl
-      turn false b c e f = absurd (false≢true e)
-      turn true b false e f = absurd (false≢true f)
-
--- and one that has not read it
-pub readers_same : (reads_it : ℕ → Bool) (dependents : List ℕ) (i s : ℕ) (was : Bool) → i < length dependents → reads_it (get_or dependents i 0) ≡ false
-    → (was || among_readers reads_it (take i dependents) s) ≡ (was || among_readers reads_it (take (i + 1) dependents) s)
-readers_same reads_it dependents i s was within r =
-    ap (λ b. was || b) (sym (list_any_more (λ dependent. (s == dependent) && reads_it dependent) dependents i 0 within
-    ∙ turn (among_readers reads_it (take i dependents) s) (s == get_or dependents i 0) (reads_it (get_or dependents i 0)) r)) where
-      turn : (a b c : Bool) → c ≡ false → (a || (b && c)) ≡ a
-      turn true b c e = refl
-      turn false true c e = e
-      turn false false c e = refl
+      turn : (a b : Bool) → (a && b) ≡ (b && a)
+      turn true true = refl
+      turn true false = refl
+      turn false true = refl
+      turn false false = refl
 
 uses_among : (place : ℕ) (here : Option Stage) → uses place here ≡ is_among place (feeds_of_place here)
 uses_among place None = refl

@@ -2,3 +2,4 @@ pub mod Completions
 pub mod Reach
 pub mod Patched
 pub mod KeptStates
+pub mod Recent

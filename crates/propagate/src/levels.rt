@@ -34,9 +34,8 @@ fn take_passes<N>(
     Ok(())
 }
 
-/// The pass of this place, among those of a level.
-#[inline(always)]
-fn pass_at<'a, N>(level: &[u32], passes: &'a [Pass<N>], place: u32) -> &'a Pass<N>
+/// The pass of this place, among those of a level, found by a binary search.
+fn searched_pass<'a, N>(level: &[u32], passes: &'a [Pass<N>], place: u32) -> &'a Pass<N>
     requires climbs { Climbs level.now }
     requires here { Contains level.now place }
     requires passes { passes.now ≡ level.now }
@@ -45,6 +44,22 @@ fn pass_at<'a, N>(level: &[u32], passes: &'a [Pass<N>], place: u32) -> &'a Pass<
     match level.binary_search(&place) {
         Ok(at) => &passes[at],
         Err(_) => unreachable!(),
+    }
+}
+
+/// The pass of this place, among those of a level. Where each place up to it is the next one after the one before, as where a whole
+/// layer is computed, it stands as far from the first one as their numbers differ, and is not searched for.
+#[inline(always)]
+fn pass_at<'a, N>(level: &[u32], passes: &'a [Pass<N>], place: u32) -> &'a Pass<N>
+    requires climbs { Climbs level.now }
+    requires here { Contains level.now place }
+    requires passes { passes.now ≡ level.now }
+    ensures { result.now ≡ place }
+{
+    let ahead = place.wrapping_sub(level[0]) as usize;
+    match level.get(ahead) {
+        Some(other) if *other == place => &passes[ahead],
+        _ => searched_pass(level, passes, place),
     }
 }
 

@@ -7,6 +7,7 @@ mod levels;
 mod patched;
 mod readers;
 mod reads;
+mod recent;
 mod representation;
 mod spread;
 mod states;

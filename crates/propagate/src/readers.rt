@@ -1,16 +1,18 @@
 //! Marks of the places that have to be computed: the edited stages, and those that read a stage which changed.
-ghost use Rattle.std.specs.Prelude.{◌≡◌, ◌<◌, ◌&&◌, ◌||◌, ◌==◌, ℕ, List, IfOk, OnOk, All, is_some, length, map, true};
+ghost use Rattle.std.specs.Prelude.{◌≡◌, ◌<◌, ◌&&◌, ◌||◌, ◌==◌, ℕ, List, IfOk, OnOk, All, is_some, length, map, slice_index, true};
 ghost use Rattle.std.specs.List.{list_any};
 ghost use Rattle.stage_graph.specs.Plain.{stage_at, feeds_at, IsLive};
-ghost use Rattle.stage_graph.specs.Walk.{rank};
+ghost use Rattle.stage_graph.specs.Walk.{rank, IsRanked};
 ghost use Rattle.stage_ops.specs.declared.state.State.{State};
 ghost use Rattle.stage_ops.specs.States.{state_at};
 ghost use Rattle.rank_order.specs.Lists.{is_among};
 ghost use Rattle.rank_order.specs.Marks.{is_marked, AreMarks};
 ghost use Rattle.stage_graph.specs.Plain.{dependents};
 ghost use Rattle.propagate.specs.Reach.{has_read, is_told};
+ghost use Rattle.propagate.specs.Recent.{AllPass, is_met};
 
 use crate::reads::has_read;
+use crate::recent::Recent;
 use crate::representation::StateRepresentation;
 use crate::states::States;
 use rank_order::{Marks, Order, OrderRepresentation};
@@ -79,9 +81,41 @@ fn is_reader<R: StateRepresentation>(
     }
 }
 
+/// Marks the stage at a place if it has read one of its feeds, and remembers it. A stage that is remembered is marked already.
+#[inline(always)]
+fn mark_reader<R: StateRepresentation>(
+    marks: &mut Marks,
+    recent: &mut Recent,
+    graph: &Graph<R>,
+    order: &Order<R>,
+    states: &States<R>,
+    feed: u32,
+    place: u32,
+) -> Result<(), AllocError>
+    requires order { order.now.graph ≡ graph.now }
+    requires count { length states.now ≡ length graph.now.places }
+    requires feed { is_among feed (feeds_at graph.now.places place) ≡ true }
+    requires ranked { IsRanked graph.now.places }
+    requires recent { AllPass (is_met (rank graph.now.places) marks.old (rank graph.now.places feed)) recent.old }
+    ensures marked { OnOk result ((other : ℕ) → is_marked (rank graph.now.places) marks.new other
+        ≡ (is_marked (rank graph.now.places) marks.old other || (has_read graph.now.places (state_at states.now) feed place && other == place))) }
+    ensures marks { OnOk result (AreMarks (rank graph.now.places) marks.old → AreMarks (rank graph.now.places) marks.new) }
+    ensures recent { OnOk result (AllPass (is_met (rank graph.now.places) marks.new (rank graph.now.places feed)) recent.new) }
+{
+    if recent.has(place) {
+        return Ok(());
+    }
+    if is_reader(graph, states, feed, place) {
+        mark(marks, order, place)?;
+        recent.note(place);
+    }
+    Ok(())
+}
+
 /// Marks the stages that have read a feed.
 fn mark_readers<R: StateRepresentation>(
     marks: &mut Marks,
+    recent: &mut Recent,
     graph: &Graph<R>,
     order: &Order<R>,
     states: &States<R>,
@@ -90,16 +124,17 @@ fn mark_readers<R: StateRepresentation>(
     requires order { order.now.graph ≡ graph.now }
     requires count { length states.now ≡ length graph.now.places }
     requires live { IsLive graph.now.places feed }
+    requires ranked { IsRanked graph.now.places }
+    requires recent { AllPass (is_met (rank graph.now.places) marks.old (rank graph.now.places feed)) recent.old }
     ensures marked { OnOk result ((place : ℕ) → is_marked (rank graph.now.places) marks.new place
         ≡ (is_marked (rank graph.now.places) marks.old place
         || (is_among feed (feeds_at graph.now.places place) && has_read graph.now.places (state_at states.now) feed place))) }
     ensures marks { OnOk result (AreMarks (rank graph.now.places) marks.old → AreMarks (rank graph.now.places) marks.new) }
+    ensures recent { OnOk result (AllPass (is_met (rank graph.now.places) marks.new (rank graph.now.places feed)) recent.new) }
 {
     let dependents = dependents_of(order, feed);
     for dependent in dependents {
-        if is_reader(graph, states, feed, *dependent) {
-            mark(marks, order, *dependent)?;
-        }
+        mark_reader(marks, recent, graph, order, states, feed, *dependent)?;
     }
     Ok(())
 }
@@ -107,6 +142,7 @@ fn mark_readers<R: StateRepresentation>(
 /// Marks the stages that have read a place of the level whose state has changed.
 pub(crate) fn mark_level<R: StateRepresentation>(
     marks: &mut Marks,
+    recent: &mut Recent,
     graph: &Graph<R>,
     order: &Order<R>,
     states: &States<R>,
@@ -118,15 +154,20 @@ pub(crate) fn mark_level<R: StateRepresentation>(
     requires live { All (IsLive graph.now.places) level.now }
     requires within { All (λ place. place < length states.now) level.now }
     requires each { length results.now ≡ length level.now }
+    requires ranked { IsRanked graph.now.places }
+    requires level { All (λ place. rank graph.now.places place ≡ rank graph.now.places (slice_index level.now 0)) level.now }
+    requires recent { AllPass (is_met (rank graph.now.places) marks.old (rank graph.now.places (slice_index level.now 0))) recent.old }
     ensures marked { OnOk result ((state : ℕ → State) → results.now ≡ map state level.now → (place : ℕ)
         → is_marked (rank graph.now.places) marks.new place
         ≡ (is_marked (rank graph.now.places) marks.old place || list_any (is_told graph.now.places (state_at states.now) state place) level.now)) }
     ensures marks { OnOk result (AreMarks (rank graph.now.places) marks.old → AreMarks (rank graph.now.places) marks.new) }
+    ensures recent { OnOk result (AllPass (is_met (rank graph.now.places) marks.new (rank graph.now.places (slice_index level.now 0))) recent.new) }
 {
+    recent.grow(level.len())?;
     for at in 0..level.len() {
         let place = level[at];
         if states.differs(place, &results[at]) {
-            mark_readers(marks, graph, order, states, place)?;
+            mark_readers(marks, recent, graph, order, states, place)?;
         }
     }
     Ok(())

@@ -10,6 +10,7 @@ ghost use Rattle.propagate.specs.Reach.{IsChange, AreStates, StaysUntouched, tou
 
 use crate::levels::compute_level;
 use crate::readers::{first_marks, mark_level};
+use crate::recent::Recent;
 use crate::representation::StateRepresentation;
 use crate::states::States;
 use level_pool::{PoolFault, Runner};
@@ -74,6 +75,7 @@ pub(crate) fn propagate_change<R: StateRepresentation, N: Sync, O: StageOps<N> +
     let mut touched = Vec::new(alloc);
     let mut taken = Vec::new(alloc);
     let mut passes = Vec::new(alloc);
+    let mut recent = Recent::new(alloc);
     while !marks.is_empty() {
         marks.take_level(&mut taken)?;
         let level = taken.as_slice();
@@ -88,7 +90,15 @@ pub(crate) fn propagate_change<R: StateRepresentation, N: Sync, O: StageOps<N> +
             &states,
         )?;
         let results = computed.as_slice();
-        mark_level(&mut marks, graph, order, &states, level, results)?;
+        mark_level(
+            &mut marks,
+            &mut recent,
+            graph,
+            order,
+            &states,
+            level,
+            results,
+        )?;
         states.write_level(alloc, level, results)?;
         touched.extend_from_slice(level)?;
     }

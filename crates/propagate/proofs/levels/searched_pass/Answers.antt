@@ -2,7 +2,7 @@ use Rattle.std.proofs.Common.{◌≡◌, arith, sym, ◌∙◌, ⊎_elim, slice_
 use Rattle.std.proofs.lemmas.Bool.{cases_lt}
 use Rattle.std.proofs.lemmas.Grind.{get_or_default_zero}
 use Rattle.std.proofs.lemmas.List.Sorted.{searched}
-use Rattle.propagate.proofs.levels.pass_at.Goals as goal
+use Rattle.propagate.proofs.levels.searched_pass.Goals as goal
 
 -- each place before the answer is less, and each from there on is greater
 pub unreachable-requires : goal.unreachable-requires
