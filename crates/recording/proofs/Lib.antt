@@ -2,5 +2,6 @@ pub mod JsonReading
 pub mod Operands
 pub mod ReadBack
 pub mod Sizes
+pub mod StageMembersFound
 pub mod StagesReadBack
 pub mod StepsReadBack

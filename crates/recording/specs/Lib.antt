@@ -6,6 +6,7 @@ pub mod Members
 pub mod MemberTexts
 pub mod Reads
 pub mod RecordingOf
+pub mod StageMembers
 pub mod StageOf
 pub mod StepOf
 pub mod Tables

@@ -16,6 +16,7 @@ mod object;
 mod parse;
 mod recording;
 mod stage;
+mod stage_members;
 mod step;
 mod unread;
 

@@ -1,9 +1,12 @@
 //! Stages, recorded or new, read from JSON.
+ghost use Rattle.std.specs.Prelude.{◌≡◌};
 ghost use Rattle.recording.specs.StageOf.{op_of, times_of, spec_of};
+ghost use Rattle.recording.specs.StageMembers.{stage_members_of};
 ghost use Rattle.recording.specs.Reads.{IsRead};
 
 use crate::forms::OpName;
-use crate::object::{if_present, optional, required};
+use crate::object::{read_if_present, read_optional, read_required};
+use crate::stage_members::StageMembers;
 use crate::{Fault, Member};
 use json_trees::Tree;
 use stage_graph::{Ends, NameList, Op, Spec};
@@ -26,31 +29,52 @@ pub(crate) struct Times {
 }
 
 /// The operation, with the value of `completed` and the exception of `failed`.
-fn read_op(alloc: Global, object: &Tree<'_, '_>) -> Result<Op, Fault>
+fn read_op(
+    alloc: Global,
+    object: &Tree<'_, '_>,
+    members: &StageMembers<'_, '_>,
+) -> Result<Op, Fault>
+    requires { members.now ≡ stage_members_of object.now }
     ensures { IsRead result (op_of object.now) }
 {
-    match required::<OpName>(alloc, object, Member::Op)? {
+    match read_required::<OpName>(alloc, object, &members.op, Member::Op)? {
         OpName::Plain(op) => Ok(op),
-        OpName::Completed => Ok(Op::Completed(required(alloc, object, Member::Value)?)),
-        OpName::Failed => Ok(Op::Failed(required(alloc, object, Member::Throws)?)),
+        OpName::Completed => Ok(Op::Completed(read_required(
+            alloc,
+            object,
+            &members.value,
+            Member::Value,
+        )?)),
+        OpName::Failed => Ok(Op::Failed(read_required(
+            alloc,
+            object,
+            &members.throws,
+            Member::Throws,
+        )?)),
     }
 }
 
 /// The times; each is 0 if it is absent.
-fn read_times(alloc: Global, form: FormNumber, object: &Tree<'_, '_>) -> Result<Times, Fault>
+fn read_times(
+    alloc: Global,
+    form: FormNumber,
+    object: &Tree<'_, '_>,
+    members: &StageMembers<'_, '_>,
+) -> Result<Times, Fault>
+    requires { members.now ≡ stage_members_of object.now }
     ensures { IsRead result (times_of form object.now) }
 {
     match form {
         FormNumber::One => {
-            let runs = optional(alloc, object, Member::Takes, 0)?;
+            let runs = read_optional(alloc, object, &members.takes, Member::Takes, 0)?;
             Ok(Times { queued: 0, runs })
         }
         FormNumber::Two => {
-            if object.get(Member::Takes.text()).is_some() {
+            if members.takes.is_some() {
                 return Err(Fault::Shape(Member::Takes));
             }
-            let queued = optional(alloc, object, Member::Queued, 0)?;
-            let runs = optional(alloc, object, Member::Runs, 0)?;
+            let queued = read_optional(alloc, object, &members.queued, Member::Queued, 0)?;
+            let runs = read_optional(alloc, object, &members.runs, Member::Runs, 0)?;
             Ok(Times { queued, runs })
         }
     }
@@ -65,16 +89,29 @@ pub(crate) fn read_spec(
 ) -> Result<Spec, Fault>
     ensures { IsRead result (spec_of form object.now) }
 {
-    let name = required(alloc, object, Member::Name)?;
-    let op = read_op(alloc, object)?;
-    let sources = optional(alloc, object, Member::Sources, NameList::new(alloc))?;
-    let inner = optional(alloc, object, Member::Inner, NameList::new(alloc))?;
-    let created = optional(alloc, object, Member::Created, 0)?;
-    let times = read_times(alloc, form, object)?;
-    let action = if_present(alloc, object, Member::Action)?;
-    let pin_result = optional(alloc, object, Member::PinResult, None)?;
-    let pin_moment = optional(alloc, object, Member::PinMoment, None)?;
-    let ends = optional(alloc, object, Member::Ends, Ends::new(alloc))?;
+    let members = StageMembers::of(object);
+    let name = read_required(alloc, object, &members.name, Member::Name)?;
+    let op = read_op(alloc, object, &members)?;
+    let sources = read_optional(
+        alloc,
+        object,
+        &members.sources,
+        Member::Sources,
+        NameList::new(alloc),
+    )?;
+    let inner = read_optional(
+        alloc,
+        object,
+        &members.inner,
+        Member::Inner,
+        NameList::new(alloc),
+    )?;
+    let created = read_optional(alloc, object, &members.created, Member::Created, 0)?;
+    let times = read_times(alloc, form, object, &members)?;
+    let action = read_if_present(alloc, object, &members.action, Member::Action)?;
+    let pin_result = read_optional(alloc, object, &members.pin_result, Member::PinResult, None)?;
+    let pin_moment = read_optional(alloc, object, &members.pin_moment, Member::PinMoment, None)?;
+    let ends = read_optional(alloc, object, &members.ends, Member::Ends, Ends::new(alloc))?;
     Ok(Spec {
         name,
         op,

@@ -1,0 +1,16 @@
+use Rattle.std.proofs.Common.{sym, ap, ◌∙◌}
+use Rattle.serde_json.specs.Data.{put}
+use Rattle.json_trees.specs.Named.{put_all}
+use Rattle.recording.specs.StageMembers.{with_found}
+use Rattle.recording.proofs.StageMembersFound.{stage_members_in-put}
+use Rattle.recording.proofs.stage_members.StageMembers.of.Goals as goal
+
+pub loop-name-preserved : goal.loop-name-preserved
+loop-name-preserved c =
+    let so_far = c.loop-name.invariant.0 in
+    let k = c.in-Some-next.name.now in
+    let d = c.in-Some-next.value in (
+      put k d so_far,
+      c.loop-name.invariant.1 ∙ ap (λ ms. put_all ms so_far) c.in-Some-next.ensures.value,
+      c.put.ensures ∙ ap (with_found k d) c.loop-name.invariant.2 ∙ sym (stage_members_in-put k d so_far),
+    )
