@@ -1,3 +1,7 @@
+pub mod Digits
+pub mod MapMembers
 pub mod Marking
 pub mod Reading
 pub mod Spelling
+pub mod Texts
+pub mod Turns

@@ -1,6 +1,6 @@
 -- What parts read one after another come to.
-use Rattle.std.proofs.Common.{◌≡◌, ℕ, ◌+◌, ◌<◌, List, [], ◌∷◌, ◌++◌, Result, Ok, Err, drop, get_or, length, refl, ap, sym, ◌∙◌, append_assoc}
-use Rattle.std.proofs.lemmas.List.{at_drop_more}
+use Rattle.std.proofs.Common.{◌≡◌, List, [], ◌∷◌, ◌++◌, Result, Ok, Err, refl, ap, sym, ◌∙◌, append_assoc}
+use Rattle.serde_json.specs.Data.{Data, Items, item}
 use Rattle.trace_spans.specs.declared.fault.Fault.{Fault}
 use Rattle.trace_spans.specs.declared.fault.Fault.TheVariants.{TooLong, Json, NotATrace, Shape, SeveralTraces, NoTrace, Memory}
 use Rattle.trace_spans.specs.Members.{then_on}
@@ -21,10 +21,10 @@ pub one_more : {A : Type 0} (read : List A) (first : A) (rest : Result (List A) 
 one_more read first (Ok others) = ap Ok (sym (append_assoc read (first ∷ []) others))
 one_more read first (Err fault) = refl
 
--- the same in a loop over xs, of which F reads the rest
-pub one_more_of : {X A : Type 0} (F : List X → Result (List A) Fault) (xs : List X) (i : ℕ) (x : X) (first : A) (read now : List A) → i < length xs → x ≡ get_or xs i x → F (x ∷ drop (i + 1) xs) ≡ then_on (F (drop (i + 1) xs)) (λ others. Ok (first ∷ others)) → now ≡ read ++ first ∷ [] → F xs ≡ then_on (F (drop i xs)) (λ rest. Ok (read ++ rest)) → F xs ≡ then_on (F (drop (i + 1) xs)) (λ rest. Ok (now ++ rest))
-one_more_of F xs i x first read now lt is step new so_far =
+-- the same in a loop over items, of which F reads the rest
+pub one_more_item : {A : Type 0} (F : Items → Result (List A) Fault) (all : Result (List A) Fault) (old new : Items) (x : Data) (first : A) (read now : List A) → all ≡ then_on (F old) (λ rest. Ok (read ++ rest)) → old ≡ item x new → F (item x new) ≡ then_on (F new) (λ others. Ok (first ∷ others)) → now ≡ read ++ first ∷ [] → all ≡ then_on (F new) (λ rest. Ok (now ++ rest))
+one_more_item F all old new x first read now so_far is step added =
     so_far
-    ∙ ap (λ r. then_on r (λ rest. Ok (read ++ rest))) (at_drop_more F xs i x lt ∙ ap (λ y. F (y ∷ drop (i + 1) xs)) (sym is) ∙ step)
-    ∙ one_more read first (F (drop (i + 1) xs))
-    ∙ ap (λ all. then_on (F (drop (i + 1) xs)) (λ rest. Ok (all ++ rest))) (sym new)
+    ∙ ap (λ r. then_on r (λ rest. Ok (read ++ rest))) (ap F is ∙ step)
+    ∙ one_more read first (F new)
+    ∙ ap (λ front. then_on (F new) (λ rest. Ok (front ++ rest))) (sym added)

@@ -4,10 +4,13 @@ pub mod FaultNumbers
 pub mod FaultTexts
 pub mod Identifiers
 pub mod Jaeger
+pub mod Lines
 pub mod Marks
 pub mod Members
 pub mod MemberTexts
 pub mod Otlp
 pub mod Reads
+pub mod References
+pub mod Services
 pub mod Spans
 pub mod Texts

@@ -1,7 +1,6 @@
 //! The names of exceptions, and where spans tell them.
 ghost use Rattle.std.specs.Prelude.{◌≡◌, IfOk, map, option_map, string_bytes, take};
 ghost use Rattle.std.specs.Str.{chars, encode_utf8_all};
-ghost use Rattle.serde_json.specs.View.{view, items_view};
 ghost use Rattle.trace_spans.specs.Exceptions.{exception_in, exception_in_event, exception_in_log, exception_in_tag, exception_name, first_tag, is_name_character, kept, last_exception, tag_in, tag_text};
 ghost use Rattle.trace_spans.specs.Members.{then_on, items_in};
 ghost use Rattle.trace_spans.specs.Reads.{IsRead, IsReadAs};
@@ -10,7 +9,7 @@ use crate::fault::Fault;
 use crate::member::Member;
 use crate::object::{item_object, items_or_none, member, text_or_empty};
 use crate::text::Text;
-use serde_json::Value;
+use json_trees::Tree;
 use std::alloc::{AllocError, Global};
 
 /// The most characters of an exception's name.
@@ -67,29 +66,29 @@ fn exception_name(alloc: Global, text: &str) -> Result<Option<Text>, AllocError>
 
 /// The value of a tag, where it is a text.
 #[tactic(auto, unfolding(crate::specs::Exceptions::tag_text))]
-pub(crate) fn tag_text(format: Format, tag: &Value) -> Option<&str>
-    ensures { option_map (λ t. t.now) result ≡ tag_text format (view tag.now) }
+pub(crate) fn tag_text<'a>(format: Format, tag: &Tree<'_, 'a>) -> Option<&'a str>
+    ensures { option_map (λ t. t.now) result ≡ tag_text format tag.now }
 {
     let value = member(tag, Member::Value)?;
     match format {
-        Format::Otlp => member(value, Member::StringValue)?.as_str(),
+        Format::Otlp => member(&value, Member::StringValue)?.as_str(),
         Format::Jaeger => value.as_str(),
     }
 }
 
 /// The first tag with a key.
 #[tactic(auto, unfolding(crate::specs::Exceptions::tag_in))]
-pub(crate) fn tag_with_key<'a>(
-    object: &'a Value,
+pub(crate) fn tag_with_key<'t, 'a>(
+    object: &Tree<'t, 'a>,
     list: Member,
     key: &str,
-) -> Result<Option<&'a Value>, Fault>
-    ensures { IsReadAs (option_map (λ v. view v.now)) result (tag_in list key.now (view object.now)) }
+) -> Result<Option<Tree<'t, 'a>>, Fault>
+    ensures { IsRead result (tag_in list key.now object.now) }
 {
-    let tags = items_or_none(object, list)?;
-    for tag in tags {
-        item_object(tag, list)?;
-        if text_or_empty(tag, Member::Key)? == key {
+    let mut tags = items_or_none(object, list)?;
+    while let Some(tag) = tags.next() {
+        item_object(&tag, list)?;
+        if text_or_empty(&tag, Member::Key)? == key {
             return Ok(Some(tag));
         }
     }
@@ -101,16 +100,16 @@ pub(crate) fn tag_with_key<'a>(
 pub(crate) fn exception_in_tag(
     alloc: Global,
     format: Format,
-    object: &Value,
+    object: &Tree<'_, '_>,
     list: Member,
     key: &str,
 ) -> Result<Option<Text>, Fault>
-    ensures { IsRead result (exception_in_tag format list key.now (view object.now)) }
+    ensures { IsRead result (exception_in_tag format list key.now object.now) }
 {
     let Some(tag) = tag_with_key(object, list, key)? else {
         return Ok(None);
     };
-    match tag_text(format, tag) {
+    match tag_text(format, &tag) {
         Some(text) => Ok(exception_name(alloc, text)?),
         None => Ok(None),
     }
@@ -118,8 +117,8 @@ pub(crate) fn exception_in_tag(
 
 /// The exception's name that a log tells.
 #[tactic(auto, unfolding(crate::specs::Exceptions::exception_in_log))]
-fn exception_in_log(alloc: Global, log: &Value) -> Result<Option<Text>, Fault>
-    ensures { IsRead result (exception_in_log (view log.now)) }
+fn exception_in_log(alloc: Global, log: &Tree<'_, '_>) -> Result<Option<Text>, Fault>
+    ensures { IsRead result (exception_in_log log.now) }
 {
     match exception_in_tag(alloc, Format::Jaeger, log, Member::Fields, "exception.type")? {
         Some(name) => Ok(Some(name)),
@@ -129,8 +128,12 @@ fn exception_in_log(alloc: Global, log: &Value) -> Result<Option<Text>, Fault>
 
 /// The exception's name that an event or a log tells.
 #[tactic(auto, unfolding(crate::specs::Exceptions::exception_in_event))]
-fn exception_in_event(alloc: Global, format: Format, event: &Value) -> Result<Option<Text>, Fault>
-    ensures { IsRead result (exception_in_event format (view event.now)) }
+fn exception_in_event(
+    alloc: Global,
+    format: Format,
+    event: &Tree<'_, '_>,
+) -> Result<Option<Text>, Fault>
+    ensures { IsRead result (exception_in_event format event.now) }
 {
     match format {
         Format::Otlp => {
@@ -144,16 +147,16 @@ fn exception_in_event(alloc: Global, format: Format, event: &Value) -> Result<Op
 fn last_exception(
     alloc: Global,
     format: Format,
-    span: &Value,
+    span: &Tree<'_, '_>,
     list: Member,
 ) -> Result<Option<Text>, Fault>
-    ensures { IsRead result (then_on (items_in list (view span.now)) (last_exception format list)) }
+    ensures { IsRead result (then_on (items_in list span.now) (last_exception format list)) }
 {
-    let events = items_or_none(span, list)?;
+    let mut events = items_or_none(span, list)?;
     let mut last = None;
-    for event in events {
-        item_object(event, list)?;
-        if let Some(name) = exception_in_event(alloc, format, event)? {
+    while let Some(event) = events.next() {
+        item_object(&event, list)?;
+        if let Some(name) = exception_in_event(alloc, format, &event)? {
             last = Some(name);
         }
     }
@@ -165,9 +168,9 @@ fn last_exception(
 pub(crate) fn exception_of(
     alloc: Global,
     format: Format,
-    span: &Value,
+    span: &Tree<'_, '_>,
 ) -> Result<Option<Text>, Fault>
-    ensures { IsRead result (exception_in format (view span.now)) }
+    ensures { IsRead result (exception_in format span.now) }
 {
     let (events, tags) = match format {
         Format::Otlp => (Member::Events, Member::Attributes),

@@ -3,7 +3,6 @@ ghost use Rattle.std.specs.Prelude.{◌≡◌, IfOk, map, string_bytes};
 ghost use Rattle.std.specs.List.{list_all};
 ghost use Rattle.std.specs.Str.{chars, encode_utf8_all};
 ghost use Rattle.std.specs.Char.{to_ascii_lowercase};
-ghost use Rattle.serde_json.specs.View.{view};
 ghost use Rattle.trace_spans.specs.Identifiers.{compared, compared_in, id_in, is_hexadecimal, is_id, is_zero, span_id_in, without_zeros};
 ghost use Rattle.trace_spans.specs.Reads.{IsRead, IsReadAs};
 
@@ -11,7 +10,7 @@ use crate::fault::Fault;
 use crate::member::Member;
 use crate::object::text_or_empty;
 use crate::text::Text;
-use serde_json::Value;
+use json_trees::Tree;
 use std::alloc::{AllocError, Global};
 
 /// The most digits that an id has.
@@ -38,13 +37,17 @@ fn are_zeros(bytes: &[u8]) -> bool
 }
 
 /// The digits after the leading zeros, in lower case.
+///
+/// A zero is one byte, and so is each letter whose case changes: no character has to be read, and the text that is
+/// made has its room at once.
 fn significant(alloc: Global, id: &str) -> Result<String, AllocError>
     ensures { IfOk result (λ short. string_bytes short ≡ encode_utf8_all (map to_ascii_lowercase (without_zeros (chars id.now)))) }
 {
-    id.chars()
-        .skip_while(|digit| *digit == '0')
-        .map(|digit| digit.to_ascii_lowercase())
-        .collect(alloc)
+    let mut digits = id;
+    while let Some(after) = digits.strip_prefix('0') {
+        digits = after;
+    }
+    digits.to_ascii_lowercase(alloc)
 }
 
 /// Whether a text is an id.
@@ -72,8 +75,8 @@ pub fn compared(alloc: Global, id: &str) -> Result<Text, AllocError>
 
 /// The id that a member is, which is empty where the object has no such member.
 #[tactic(auto, unfolding(crate::specs::Identifiers::id_in))]
-pub(crate) fn id_of(object: &Value, member: Member) -> Result<&str, Fault>
-    ensures { IsReadAs (λ id. id.now) result (id_in member (view object.now)) }
+pub(crate) fn id_of<'a>(object: &Tree<'_, 'a>, member: Member) -> Result<&'a str, Fault>
+    ensures { IsReadAs (λ id. id.now) result (id_in member object.now) }
 {
     let text = text_or_empty(object, member)?;
     if is_id(text) {
@@ -85,8 +88,12 @@ pub(crate) fn id_of(object: &Value, member: Member) -> Result<&str, Fault>
 
 /// The id that a member is, as it is compared.
 #[tactic(auto, unfolding(crate::specs::Identifiers::compared_in))]
-pub(crate) fn compared_id(alloc: Global, object: &Value, member: Member) -> Result<Text, Fault>
-    ensures { IsRead result (compared_in member (view object.now)) }
+pub(crate) fn compared_id(
+    alloc: Global,
+    object: &Tree<'_, '_>,
+    member: Member,
+) -> Result<Text, Fault>
+    ensures { IsRead result (compared_in member object.now) }
 {
     let id = id_of(object, member)?;
     Ok(compared(alloc, id)?)
@@ -94,8 +101,8 @@ pub(crate) fn compared_id(alloc: Global, object: &Value, member: Member) -> Resu
 
 /// The id of a span, in lower case.
 #[tactic(auto, unfolding(crate::specs::Identifiers::span_id_in))]
-pub(crate) fn span_id(alloc: Global, object: &Value, member: Member) -> Result<Text, Fault>
-    ensures { IsRead result (span_id_in member (view object.now)) }
+pub(crate) fn span_id(alloc: Global, object: &Tree<'_, '_>, member: Member) -> Result<Text, Fault>
+    ensures { IsRead result (span_id_in member object.now) }
 {
     let id = id_of(object, member)?;
     if are_zeros(id.as_bytes()) {

@@ -1,21 +1,25 @@
 //! Jaeger JSON: the spans of traces, and the processes that they name.
-ghost use Rattle.std.specs.Prelude.{◌≡◌, option_map};
-ghost use Rattle.serde_json.specs.View.{view, items_view};
+ghost use Rattle.std.specs.Prelude.{◌≡◌, [], Some, Ok, option_map};
+ghost use Rattle.serde_json.specs.Data.{no_items, item};
 ghost use Rattle.trace_spans.specs.declared.exception.Format.TheVariants as format;
 ghost use Rattle.trace_spans.specs.Exceptions.{exception_if};
-ghost use Rattle.trace_spans.specs.Jaeger.{end_in, error_in, failed_in, has_tag, jaeger_span, jaeger_spans, kind_in, references_in, references_of, service_in, spans_of_trace, start_in, time_after};
+ghost use Rattle.trace_spans.specs.Jaeger.{end_in, error_in, failed_in, has_tag, is_true, jaeger_span, jaeger_spans, kind_in, references_in, references_of, service_in, spans_of_items, spans_of_trace, start_in, time_after};
+ghost use Rattle.trace_spans.specs.declared.member.Member.TheVariants as member;
+ghost use Rattle.trace_spans.specs.Identifiers.{compared_in};
+ghost use Rattle.trace_spans.specs.Members.{then_on};
+ghost use Rattle.trace_spans.specs.Otlp.{one_unless_empty};
 ghost use Rattle.trace_spans.specs.Reads.{IsRead, IsReadAs};
+ghost use Rattle.trace_spans.specs.References.{with_more};
 
 use crate::exception::{Format, exception_of, tag_text, tag_with_key};
 use crate::fault::Fault;
 use crate::identifier::{compared_id, span_id};
 use crate::member::Member;
-use crate::object::{
-    item_object, items_or_none, member, object_or_null, text_or_empty, whole_number,
-};
+use crate::object::{item_object, items_or_none, member, text_or_empty, whole_number};
+use crate::services::ServicesByProcess;
 use crate::span::{Kind, Span, Spans};
 use crate::text::{Text, TextList};
-use serde_json::Value;
+use json_trees::{Items, Tree};
 use std::alloc::Global;
 
 /// How many nanoseconds the unit of Jaeger's times has.
@@ -30,13 +34,13 @@ struct References {
 
 /// When a span starts.
 #[tactic(auto, unfolding(crate::specs::Jaeger::start_in))]
-fn start_of(span: &Value) -> Result<Option<u64>, Fault>
-    ensures { IsRead result (start_in (view span.now)) }
+fn start_of(span: &Tree<'_, '_>) -> Result<Option<u64>, Fault>
+    ensures { IsRead result (start_in span.now) }
 {
     let Some(value) = member(span, Member::StartTime) else {
         return Ok(None);
     };
-    match whole_number(value).and_then(|time| time.checked_mul(MICROSECOND)) {
+    match whole_number(&value).and_then(|time| time.checked_mul(MICROSECOND)) {
         Some(time) => Ok(Some(time)),
         None => Err(Fault::Shape(Member::StartTime)),
     }
@@ -57,8 +61,8 @@ fn time_after(start: u64, duration: i64) -> Option<u64>
 
 /// When a span ends: its duration after its start.
 #[tactic(auto, unfolding(crate::specs::Jaeger::end_in))]
-fn end_of(span: &Value, start: Option<u64>) -> Result<Option<u64>, Fault>
-    ensures { IsRead result (end_in start (view span.now)) }
+fn end_of(span: &Tree<'_, '_>, start: Option<u64>) -> Result<Option<u64>, Fault>
+    ensures { IsRead result (end_in start span.now) }
 {
     let Some(value) = member(span, Member::Duration) else {
         return Ok(None);
@@ -77,24 +81,33 @@ fn end_of(span: &Value, start: Option<u64>) -> Result<Option<u64>, Fault>
 
 /// Whether the first tag with a key is this text.
 #[tactic(auto, unfolding(crate::specs::Jaeger::has_tag))]
-fn has_tag(span: &Value, key: &str, wanted: &str) -> Result<bool, Fault>
-    ensures { IsRead result (has_tag key.now wanted.now (view span.now)) }
+fn has_tag(span: &Tree<'_, '_>, key: &str, wanted: &str) -> Result<bool, Fault>
+    ensures { IsRead result (has_tag key.now wanted.now span.now) }
 {
     match tag_with_key(span, Member::Tags, key)? {
-        Some(tag) => Ok(tag_text(Format::Jaeger, tag) == Some(wanted)),
+        Some(tag) => Ok(tag_text(Format::Jaeger, &tag) == Some(wanted)),
         None => Ok(false),
+    }
+}
+
+/// Whether a value is true, or the text `true`.
+fn is_true(value: &Tree<'_, '_>) -> bool
+    ensures { result ≡ is_true (Some value.now) }
+{
+    match value.as_bool() {
+        Some(truth) => truth,
+        None => value.as_str() == Some("true"),
     }
 }
 
 /// Whether the tag `error` is true.
 #[tactic(auto, unfolding(crate::specs::Jaeger::error_in))]
-fn has_error(span: &Value) -> Result<bool, Fault>
-    ensures { IsRead result (error_in (view span.now)) }
+fn has_error(span: &Tree<'_, '_>) -> Result<bool, Fault>
+    ensures { IsRead result (error_in span.now) }
 {
     match tag_with_key(span, Member::Tags, "error")? {
-        Some(tag) => match member(tag, Member::Value) {
-            Some(Value::Bool(failed)) => Ok(*failed),
-            Some(value) => Ok(value.as_str() == Some("true")),
+        Some(tag) => match member(&tag, Member::Value) {
+            Some(value) => Ok(is_true(&value)),
             None => Ok(false),
         },
         None => Ok(false),
@@ -102,8 +115,8 @@ fn has_error(span: &Value) -> Result<bool, Fault>
 }
 
 #[tactic(auto, unfolding(crate::specs::Jaeger::failed_in))]
-fn has_failed(span: &Value) -> Result<bool, Fault>
-    ensures { IsRead result (failed_in (view span.now)) }
+fn has_failed(span: &Tree<'_, '_>) -> Result<bool, Fault>
+    ensures { IsRead result (failed_in span.now) }
 {
     if has_error(span)? {
         return Ok(true);
@@ -112,8 +125,8 @@ fn has_failed(span: &Value) -> Result<bool, Fault>
 }
 
 #[tactic(auto, unfolding(crate::specs::Jaeger::kind_in))]
-fn kind_of(span: &Value) -> Result<Kind, Fault>
-    ensures { IsRead result (kind_in (view span.now)) }
+fn kind_of(span: &Tree<'_, '_>) -> Result<Kind, Fault>
+    ensures { IsRead result (kind_in span.now) }
 {
     if has_tag(span, "span.kind", "producer")? {
         return Ok(Kind::Producer);
@@ -125,37 +138,53 @@ fn kind_of(span: &Value) -> Result<Kind, Fault>
     }
 }
 
-/// The references that a list has into a trace.
-fn listed_references(alloc: Global, trace: &Text, list: &[Value]) -> Result<References, Fault>
-    ensures { IsRead result (references_of trace.now (items_view list.now)) }
+/// Adds a reference of a span to those before it, if it is into the trace.
+fn add_reference(
+    alloc: Global,
+    trace: &Text,
+    reference: &Tree<'_, '_>,
+    references: &mut References,
+) -> Result<(), Fault>
+    ensures { IsReadAs (λ _. references.new) result (with_more references.old (references_of trace.now (item reference.now no_items))) }
 {
-    let mut parents = TextList::new(alloc);
-    let mut links = TextList::new(alloc);
-    for reference in list {
-        item_object(reference, Member::References)?;
-        let kind = text_or_empty(reference, Member::RefType)?;
-        let referred = compared_id(alloc, reference, Member::JaegerTrace)?;
-        let id = compared_id(alloc, reference, Member::JaegerSpan)?;
-        if referred.same(trace) {
-            if kind == "CHILD_OF" {
-                parents.push(id)?;
-            } else {
-                links.push(id)?;
-            }
+    item_object(reference, Member::References)?;
+    let kind = text_or_empty(reference, Member::RefType)?;
+    let referred = compared_id(alloc, reference, Member::JaegerTrace)?;
+    let id = compared_id(alloc, reference, Member::JaegerSpan)?;
+    if referred.same(trace) {
+        if kind == "CHILD_OF" {
+            references.parents.push(id)?;
+        } else {
+            references.links.push(id)?;
         }
     }
-    Ok(References { parents, links })
+    Ok(())
 }
 
-/// The references of a span into its trace; without a list of them `parentSpanID` is the parent.
-#[tactic(auto, unfolding(crate::specs::Jaeger::references_in))]
-fn references_of(alloc: Global, trace: &Text, span: &Value) -> Result<References, Fault>
-    ensures { IsRead result (references_in trace.now (view span.now)) }
+/// The references that a list has into a trace: the first, and those after it.
+fn listed_references(
+    alloc: Global,
+    trace: &Text,
+    first: &Tree<'_, '_>,
+    mut others: Items<'_, '_>,
+) -> Result<References, Fault>
+    ensures { IsRead result (references_of trace.now (item first.now others.entry)) }
 {
-    let list = items_or_none(span, Member::References)?;
-    if !list.is_empty() {
-        return listed_references(alloc, trace, list);
+    let mut references = References {
+        parents: TextList::new(alloc),
+        links: TextList::new(alloc),
+    };
+    add_reference(alloc, trace, first, &mut references)?;
+    while let Some(reference) = others.next() {
+        add_reference(alloc, trace, &reference, &mut references)?;
     }
+    Ok(references)
+}
+
+/// The parent that `parentSpanID` names, if it names one.
+fn named_parent(alloc: Global, span: &Tree<'_, '_>) -> Result<References, Fault>
+    ensures { IsRead result (then_on (compared_in member.JaegerParent span.now) (λ id. Ok (record { parents = one_unless_empty id; links = [] }))) }
+{
     let mut parents = TextList::new(alloc);
     let parent = compared_id(alloc, span, Member::JaegerParent)?;
     if !parent.as_str().is_empty() {
@@ -165,27 +194,43 @@ fn references_of(alloc: Global, trace: &Text, span: &Value) -> Result<References
     Ok(References { parents, links })
 }
 
+/// The references of a span into its trace; without a list of them `parentSpanID` is the parent.
+#[tactic(auto, unfolding(crate::specs::Jaeger::references_in))]
+fn references_of(alloc: Global, trace: &Text, span: &Tree<'_, '_>) -> Result<References, Fault>
+    ensures { IsRead result (references_in trace.now span.now) }
+{
+    let mut list = items_or_none(span, Member::References)?;
+    match list.next() {
+        Some(first) => listed_references(alloc, trace, &first, list),
+        None => named_parent(alloc, span),
+    }
+}
+
 /// The service of the process that a span names, which is empty where there is none.
 #[tactic(auto, unfolding(crate::specs::Jaeger::service_in))]
-fn service_of<'a>(processes: Option<&'a Value>, span: &Value) -> Result<&'a str, Fault>
-    ensures { IsReadAs (λ service. service.now) result (service_in (option_map (λ v. view v.now) processes.entry) (view span.now)) }
+fn service_of<'a>(
+    processes: Option<&ServicesByProcess<'_, 'a>>,
+    span: &Tree<'_, '_>,
+) -> Result<&'a str, Fault>
+    ensures { IsReadAs (λ service. service.now) result (service_in (option_map (λ p. p.now) processes.entry) span.now) }
 {
     let process = text_or_empty(span, Member::Process)?;
     let Some(processes) = processes else {
         return Ok("");
     };
     match processes.get(process) {
-        None | Some(Value::Null) => Ok(""),
-        Some(process) => {
-            item_object(process, Member::Processes)?;
-            text_or_empty(process, Member::ServiceName)
-        }
+        Some(process) => process.service(),
+        None => Ok(""),
     }
 }
 
 /// The name of the exception with which a span failed.
-fn exception_if_failed(alloc: Global, failed: bool, span: &Value) -> Result<Option<Text>, Fault>
-    ensures { IsRead result (exception_if failed format.Jaeger (view span.now)) }
+fn exception_if_failed(
+    alloc: Global,
+    failed: bool,
+    span: &Tree<'_, '_>,
+) -> Result<Option<Text>, Fault>
+    ensures { IsRead result (exception_if failed format.Jaeger span.now) }
 {
     if failed {
         exception_of(alloc, Format::Jaeger, span)
@@ -196,8 +241,12 @@ fn exception_if_failed(alloc: Global, failed: bool, span: &Value) -> Result<Opti
 
 /// A span of a trace with these processes.
 #[tactic(auto, unfolding(crate::specs::Jaeger::jaeger_span))]
-fn read_span(alloc: Global, processes: Option<&Value>, span: &Value) -> Result<Span, Fault>
-    ensures { IsRead result (jaeger_span (option_map (λ v. view v.now) processes.entry) (view span.now)) }
+fn read_span(
+    alloc: Global,
+    processes: Option<&ServicesByProcess<'_, '_>>,
+    span: &Tree<'_, '_>,
+) -> Result<Span, Fault>
+    ensures { IsRead result (jaeger_span (option_map (λ p. p.now) processes.entry) span.now) }
 {
     item_object(span, Member::Spans)?;
     let trace = compared_id(alloc, span, Member::JaegerTrace)?;
@@ -226,31 +275,42 @@ fn read_span(alloc: Global, processes: Option<&Value>, span: &Value) -> Result<S
     })
 }
 
-/// The spans of a trace.
-#[tactic(auto, unfolding(crate::specs::Jaeger::spans_of_trace))]
-fn read_trace(alloc: Global, trace: &Value) -> Result<Spans, Fault>
-    ensures { IsRead result (spans_of_trace (view trace.now)) }
+/// The spans of a trace with these processes.
+fn read_spans(
+    alloc: Global,
+    processes: Option<&ServicesByProcess<'_, '_>>,
+    mut items: Items<'_, '_>,
+) -> Result<Spans, Fault>
+    ensures { IsRead result (spans_of_items (option_map (λ p. p.now) processes.entry) items.entry) }
 {
-    item_object(trace, Member::Data)?;
-    let processes = object_or_null(trace, Member::Processes)?;
-    let items = items_or_none(trace, Member::Spans)?;
     let mut spans = Spans::new(alloc);
-    for item in items {
-        let span = read_span(alloc, processes, item)?;
+    while let Some(item) = items.next() {
+        let span = read_span(alloc, processes, &item)?;
         spans.push(span)?;
     }
     Ok(spans)
 }
 
+/// The spans of a trace.
+#[tactic(auto, unfolding(crate::specs::Jaeger::spans_of_trace))]
+fn read_trace(alloc: Global, trace: &Tree<'_, '_>) -> Result<Spans, Fault>
+    ensures { IsRead result (spans_of_trace trace.now) }
+{
+    item_object(trace, Member::Data)?;
+    let processes = ServicesByProcess::of_trace(alloc, trace)?;
+    let items = items_or_none(trace, Member::Spans)?;
+    read_spans(alloc, processes.as_ref(), items)
+}
+
 /// The spans of a text of Jaeger JSON.
 #[tactic(auto, unfolding(crate::specs::Jaeger::jaeger_spans))]
-pub(crate) fn read_jaeger(alloc: Global, text: &Value) -> Result<Spans, Fault>
-    ensures { IsRead result (jaeger_spans (view text.now)) }
+pub(crate) fn read_jaeger(alloc: Global, text: &Tree<'_, '_>) -> Result<Spans, Fault>
+    ensures { IsRead result (jaeger_spans text.now) }
 {
-    let items = items_or_none(text, Member::Data)?;
+    let mut items = items_or_none(text, Member::Data)?;
     let mut spans = Spans::new(alloc);
-    for item in items {
-        let more = read_trace(alloc, item)?;
+    while let Some(item) = items.next() {
+        let more = read_trace(alloc, &item)?;
         spans.append(more)?;
     }
     Ok(spans)

@@ -9,12 +9,15 @@ mod exception;
 mod fault;
 mod identifier;
 mod jaeger;
-mod json;
+mod json_text;
+mod lines;
 mod member;
 mod object;
 mod otlp;
+mod services;
 mod span;
 mod text;
+mod told;
 mod trace;
 
 pub use fault::Fault;

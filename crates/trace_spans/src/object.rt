@@ -1,40 +1,30 @@
 //! The members of a JSON object, in the form that is asked. Null is absence.
-ghost use Rattle.std.specs.Prelude.{◌≡◌, ◌<◌, None, length, option_map, true};
+ghost use Rattle.std.specs.Prelude.{◌≡◌, ◌<◌, length, true};
 ghost use Rattle.std.specs.Str.{all_ascii_digits};
 ghost use Rattle.std.specs.Str.Parse.{digits_value};
-ghost use Rattle.serde_json.specs.View.{view, items_view};
 ghost use Rattle.trace_spans.specs.Members.{below_64_bits, item_in, items_in, member_of, number_in, object_in, spelled, text_in, whole_number};
 ghost use Rattle.trace_spans.specs.Reads.{IsRead, IsReadAs};
 
 use crate::fault::Fault;
 use crate::member::Member;
-use serde_json::Value;
+use json_trees::{Items, Tree};
 
 /// The member, where it is there and isn't null.
 #[tactic(auto, unfolding(crate::specs::Members::member_of))]
-pub(crate) fn member(object: &Value, member: Member) -> Option<&Value>
-    ensures { option_map (λ v. view v.now) result ≡ member_of member (view object.now) }
+pub(crate) fn member<'t, 'a>(object: &Tree<'t, 'a>, member: Member) -> Option<Tree<'t, 'a>>
+    ensures { result ≡ member_of member object.now }
 {
-    let Some(value) = object.get(member.text()) else {
-        return absent(object);
-    };
+    let value = object.get(member.text())?;
     if value.is_null() {
-        return absent(object);
+        return None;
     }
     Some(value)
 }
 
-// No value, for as long as the object is there.
-fn absent(_object: &Value) -> Option<&Value>
-    ensures { option_map (λ v. view v.now) result ≡ None }
-{
-    None
-}
-
 /// A text, which is empty where the object has no such member.
 #[tactic(auto, unfolding(crate::specs::Members::text_in))]
-pub(crate) fn text_or_empty(object: &Value, asked: Member) -> Result<&str, Fault>
-    ensures { IsReadAs (λ text. text.now) result (text_in asked (view object.now)) }
+pub(crate) fn text_or_empty<'a>(object: &Tree<'_, 'a>, asked: Member) -> Result<&'a str, Fault>
+    ensures { IsReadAs (λ text. text.now) result (text_in asked object.now) }
 {
     let Some(value) = member(object, asked) else {
         return Ok("");
@@ -47,25 +37,31 @@ pub(crate) fn text_or_empty(object: &Value, asked: Member) -> Result<&str, Fault
 
 /// The items of an array, none where the object has no such member.
 #[tactic(auto, unfolding(crate::specs::Members::items_in))]
-pub(crate) fn items_or_none(object: &Value, asked: Member) -> Result<&[Value], Fault>
-    ensures { IsReadAs (λ items. items_view items.now) result (items_in asked (view object.now)) }
+pub(crate) fn items_or_none<'t, 'a>(
+    object: &Tree<'t, 'a>,
+    asked: Member,
+) -> Result<Items<'t, 'a>, Fault>
+    ensures { IsRead result (items_in asked object.now) }
 {
     let Some(value) = member(object, asked) else {
-        return Ok(&[]);
+        return Ok(Items::none());
     };
     match value.as_array() {
-        Some(items) => Ok(items.as_slice()),
+        Some(items) => Ok(items),
         None => Err(Fault::Shape(asked)),
     }
 }
 
 /// An object, or null where the outer one has no such member.
 #[tactic(auto, unfolding(crate::specs::Members::object_in))]
-pub(crate) fn object_or_null(object: &Value, asked: Member) -> Result<Option<&Value>, Fault>
-    ensures { IsReadAs (option_map (λ v. view v.now)) result (object_in asked (view object.now)) }
+pub(crate) fn object_or_null<'t, 'a>(
+    object: &Tree<'t, 'a>,
+    asked: Member,
+) -> Result<Option<Tree<'t, 'a>>, Fault>
+    ensures { IsRead result (object_in asked object.now) }
 {
     let Some(value) = member(object, asked) else {
-        return Ok(absent(object));
+        return Ok(None);
     };
     if value.is_object() {
         Ok(Some(value))
@@ -76,8 +72,8 @@ pub(crate) fn object_or_null(object: &Value, asked: Member) -> Result<Option<&Va
 
 /// An item of an array, which is an object.
 #[tactic(auto, unfolding(crate::specs::Members::item_in))]
-pub(crate) fn item_object(item: &Value, list: Member) -> Result<(), Fault>
-    ensures { IsRead result (item_in list (view item.now)) }
+pub(crate) fn item_object(item: &Tree<'_, '_>, list: Member) -> Result<(), Fault>
+    ensures { IsRead result (item_in list item.now) }
 {
     if item.is_object() {
         Ok(())
@@ -122,8 +118,8 @@ fn are_digits(text: &str) -> bool
 
 /// A whole number, in a number or in digits.
 #[tactic(auto, unfolding(crate::specs::Members::whole_number))]
-pub(crate) fn whole_number(value: &Value) -> Option<u64>
-    ensures { result ≡ whole_number (view value.now) }
+pub(crate) fn whole_number(value: &Tree<'_, '_>) -> Option<u64>
+    ensures { result ≡ whole_number value.now }
 {
     match value.as_str() {
         Some(text) => spelled(text),
@@ -133,13 +129,13 @@ pub(crate) fn whole_number(value: &Value) -> Option<u64>
 
 /// A whole number, if the object has such a member.
 #[tactic(auto, unfolding(crate::specs::Members::number_in))]
-pub(crate) fn number_or_none(object: &Value, asked: Member) -> Result<Option<u64>, Fault>
-    ensures { IsRead result (number_in asked (view object.now)) }
+pub(crate) fn number_or_none(object: &Tree<'_, '_>, asked: Member) -> Result<Option<u64>, Fault>
+    ensures { IsRead result (number_in asked object.now) }
 {
     let Some(value) = member(object, asked) else {
         return Ok(None);
     };
-    match whole_number(value) {
+    match whole_number(&value) {
         Some(number) => Ok(Some(number)),
         None => Err(Fault::Shape(asked)),
     }

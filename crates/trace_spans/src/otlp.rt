@@ -1,9 +1,10 @@
 //! OTLP/JSON: the spans of resources and scopes.
-ghost use Rattle.std.specs.Prelude.{◌≡◌, option_map};
-ghost use Rattle.serde_json.specs.View.{view};
+ghost use Rattle.std.specs.Prelude.{◌≡◌, ◌++◌, Ok, option_map};
+ghost use Rattle.serde_json.specs.Data.{no_items, item};
 ghost use Rattle.trace_spans.specs.declared.exception.Format.TheVariants as format;
 ghost use Rattle.trace_spans.specs.Exceptions.{exception_if};
-ghost use Rattle.trace_spans.specs.Otlp.{failed_in, kind_in, links_in, otlp_span, otlp_spans, parents_in, service_in, service_of_resource, spans_of_resource, spans_of_scope, time_in};
+ghost use Rattle.trace_spans.specs.Members.{then_on};
+ghost use Rattle.trace_spans.specs.Otlp.{failed_in, kind_in, links_in, links_of, otlp_span, otlp_spans, parents_in, service_in, service_of_resource, spans_of_resource, spans_of_scope, time_in};
 ghost use Rattle.trace_spans.specs.Reads.{IsRead, IsReadAs};
 
 use crate::exception::{Format, exception_of, tag_text, tag_with_key};
@@ -13,7 +14,7 @@ use crate::member::Member;
 use crate::object::{item_object, items_or_none, number_or_none, object_or_null, text_or_empty};
 use crate::span::{Kind, Span, Spans};
 use crate::text::{Text, TextList};
-use serde_json::Value;
+use json_trees::Tree;
 use std::alloc::Global;
 
 /// The status code of a span that failed.
@@ -21,8 +22,8 @@ const FAILED: u64 = 2;
 
 /// A time, if it is known: 0 stands for none.
 #[tactic(auto, unfolding(crate::specs::Otlp::time_in))]
-fn time_of(span: &Value, member: Member) -> Result<Option<u64>, Fault>
-    ensures { IsRead result (time_in member (view span.now)) }
+fn time_of(span: &Tree<'_, '_>, member: Member) -> Result<Option<u64>, Fault>
+    ensures { IsRead result (time_in member span.now) }
 {
     match number_or_none(span, member)? {
         Some(0) => Ok(None),
@@ -31,8 +32,8 @@ fn time_of(span: &Value, member: Member) -> Result<Option<u64>, Fault>
 }
 
 #[tactic(auto, unfolding(crate::specs::Otlp::kind_in))]
-fn kind_of(span: &Value) -> Result<Kind, Fault>
-    ensures { IsRead result (kind_in (view span.now)) }
+fn kind_of(span: &Tree<'_, '_>) -> Result<Kind, Fault>
+    ensures { IsRead result (kind_in span.now) }
 {
     match number_or_none(span, Member::Kind)? {
         Some(4) => Ok(Kind::Producer),
@@ -42,19 +43,19 @@ fn kind_of(span: &Value) -> Result<Kind, Fault>
 }
 
 #[tactic(auto, unfolding(crate::specs::Otlp::failed_in))]
-fn has_failed(span: &Value) -> Result<bool, Fault>
-    ensures { IsRead result (failed_in (view span.now)) }
+fn has_failed(span: &Tree<'_, '_>) -> Result<bool, Fault>
+    ensures { IsRead result (failed_in span.now) }
 {
     match object_or_null(span, Member::Status)? {
-        Some(status) => Ok(number_or_none(status, Member::Code)? == Some(FAILED)),
+        Some(status) => Ok(number_or_none(&status, Member::Code)? == Some(FAILED)),
         None => Ok(false),
     }
 }
 
 /// The parent that a span names, if it names one.
 #[tactic(auto, unfolding(crate::specs::Otlp::parents_in))]
-fn parents_of(alloc: Global, span: &Value) -> Result<TextList, Fault>
-    ensures { IsRead result (parents_in (view span.now)) }
+fn parents_of(alloc: Global, span: &Tree<'_, '_>) -> Result<TextList, Fault>
+    ensures { IsRead result (parents_in span.now) }
 {
     let mut parents = TextList::new(alloc);
     let parent = compared_id(alloc, span, Member::OtlpParent)?;
@@ -64,27 +65,44 @@ fn parents_of(alloc: Global, span: &Value) -> Result<TextList, Fault>
     Ok(parents)
 }
 
+/// Adds a link of a span to those before it, if it is into the trace.
+fn add_link(
+    alloc: Global,
+    trace: &Text,
+    link: &Tree<'_, '_>,
+    links: &mut TextList,
+) -> Result<(), Fault>
+    ensures { IsReadAs (λ _. links.new) result (then_on (links_of trace.now (item link.now no_items)) (λ more. Ok (links.old ++ more))) }
+{
+    item_object(link, Member::Links)?;
+    let linked = compared_id(alloc, link, Member::OtlpTrace)?;
+    let id = compared_id(alloc, link, Member::OtlpSpan)?;
+    if linked.same(trace) {
+        links.push(id)?;
+    }
+    Ok(())
+}
+
 /// The links of a span into its trace.
 #[tactic(auto, unfolding(crate::specs::Otlp::links_in))]
-fn links_of(alloc: Global, trace: &Text, span: &Value) -> Result<TextList, Fault>
-    ensures { IsRead result (links_in trace.now (view span.now)) }
+fn links_of(alloc: Global, trace: &Text, span: &Tree<'_, '_>) -> Result<TextList, Fault>
+    ensures { IsRead result (links_in trace.now span.now) }
 {
-    let items = items_or_none(span, Member::Links)?;
+    let mut items = items_or_none(span, Member::Links)?;
     let mut links = TextList::new(alloc);
-    for link in items {
-        item_object(link, Member::Links)?;
-        let linked = compared_id(alloc, link, Member::OtlpTrace)?;
-        let id = compared_id(alloc, link, Member::OtlpSpan)?;
-        if linked.same(trace) {
-            links.push(id)?;
-        }
+    while let Some(link) = items.next() {
+        add_link(alloc, trace, &link, &mut links)?;
     }
     Ok(links)
 }
 
 /// The name of the exception with which a span failed.
-fn exception_if_failed(alloc: Global, failed: bool, span: &Value) -> Result<Option<Text>, Fault>
-    ensures { IsRead result (exception_if failed format.Otlp (view span.now)) }
+fn exception_if_failed(
+    alloc: Global,
+    failed: bool,
+    span: &Tree<'_, '_>,
+) -> Result<Option<Text>, Fault>
+    ensures { IsRead result (exception_if failed format.Otlp span.now) }
 {
     if failed {
         exception_of(alloc, Format::Otlp, span)
@@ -95,8 +113,8 @@ fn exception_if_failed(alloc: Global, failed: bool, span: &Value) -> Result<Opti
 
 /// A span of a service.
 #[tactic(auto, unfolding(crate::specs::Otlp::otlp_span))]
-fn read_span(alloc: Global, service: &str, span: &Value) -> Result<Span, Fault>
-    ensures { IsRead result (otlp_span service.now (view span.now)) }
+fn read_span(alloc: Global, service: &str, span: &Tree<'_, '_>) -> Result<Span, Fault>
+    ensures { IsRead result (otlp_span service.now span.now) }
 {
     item_object(span, Member::Spans)?;
     let trace = compared_id(alloc, span, Member::OtlpTrace)?;
@@ -126,22 +144,22 @@ fn read_span(alloc: Global, service: &str, span: &Value) -> Result<Span, Fault>
 
 /// The service in the attributes of a resource.
 #[tactic(auto, unfolding(crate::specs::Otlp::service_of_resource))]
-fn service_of_resource(resource: &Value) -> Result<Option<&str>, Fault>
-    ensures { IsReadAs (option_map (λ service. service.now)) result (service_of_resource (view resource.now)) }
+fn service_of_resource<'a>(resource: &Tree<'_, 'a>) -> Result<Option<&'a str>, Fault>
+    ensures { IsReadAs (option_map (λ service. service.now)) result (service_of_resource resource.now) }
 {
     match tag_with_key(resource, Member::Attributes, "service.name")? {
-        Some(tag) => Ok(tag_text(Format::Otlp, tag)),
+        Some(tag) => Ok(tag_text(Format::Otlp, &tag)),
         None => Ok(None),
     }
 }
 
 /// The service that a resource tells, which is empty where it tells none.
 #[tactic(auto, unfolding(crate::specs::Otlp::service_in))]
-fn service_of(resource_spans: &Value) -> Result<&str, Fault>
-    ensures { IsReadAs (λ service. service.now) result (service_in (view resource_spans.now)) }
+fn service_of<'a>(resource_spans: &Tree<'_, 'a>) -> Result<&'a str, Fault>
+    ensures { IsReadAs (λ service. service.now) result (service_in resource_spans.now) }
 {
     match object_or_null(resource_spans, Member::Resource)? {
-        Some(resource) => match service_of_resource(resource)? {
+        Some(resource) => match service_of_resource(&resource)? {
             Some(service) => Ok(service),
             None => Ok(""),
         },
@@ -151,14 +169,14 @@ fn service_of(resource_spans: &Value) -> Result<&str, Fault>
 
 /// The spans of a scope.
 #[tactic(auto, unfolding(crate::specs::Otlp::spans_of_scope))]
-fn read_scope(alloc: Global, service: &str, scope: &Value) -> Result<Spans, Fault>
-    ensures { IsRead result (spans_of_scope service.now (view scope.now)) }
+fn read_scope(alloc: Global, service: &str, scope: &Tree<'_, '_>) -> Result<Spans, Fault>
+    ensures { IsRead result (spans_of_scope service.now scope.now) }
 {
     item_object(scope, Member::ScopeSpans)?;
-    let items = items_or_none(scope, Member::Spans)?;
+    let mut items = items_or_none(scope, Member::Spans)?;
     let mut spans = Spans::new(alloc);
-    for item in items {
-        let span = read_span(alloc, service, item)?;
+    while let Some(item) = items.next() {
+        let span = read_span(alloc, service, &item)?;
         spans.push(span)?;
     }
     Ok(spans)
@@ -166,15 +184,15 @@ fn read_scope(alloc: Global, service: &str, scope: &Value) -> Result<Spans, Faul
 
 /// The spans of a resource.
 #[tactic(auto, unfolding(crate::specs::Otlp::spans_of_resource))]
-fn read_resource(alloc: Global, resource: &Value) -> Result<Spans, Fault>
-    ensures { IsRead result (spans_of_resource (view resource.now)) }
+fn read_resource(alloc: Global, resource: &Tree<'_, '_>) -> Result<Spans, Fault>
+    ensures { IsRead result (spans_of_resource resource.now) }
 {
     item_object(resource, Member::ResourceSpans)?;
     let service = service_of(resource)?;
-    let items = items_or_none(resource, Member::ScopeSpans)?;
+    let mut items = items_or_none(resource, Member::ScopeSpans)?;
     let mut spans = Spans::new(alloc);
-    for item in items {
-        let more = read_scope(alloc, service, item)?;
+    while let Some(item) = items.next() {
+        let more = read_scope(alloc, service, &item)?;
         spans.append(more)?;
     }
     Ok(spans)
@@ -182,13 +200,13 @@ fn read_resource(alloc: Global, resource: &Value) -> Result<Spans, Fault>
 
 /// The spans of a text of OTLP/JSON.
 #[tactic(auto, unfolding(crate::specs::Otlp::otlp_spans))]
-pub(crate) fn read_otlp(alloc: Global, text: &Value) -> Result<Spans, Fault>
-    ensures { IsRead result (otlp_spans (view text.now)) }
+pub(crate) fn read_otlp(alloc: Global, text: &Tree<'_, '_>) -> Result<Spans, Fault>
+    ensures { IsRead result (otlp_spans text.now) }
 {
-    let items = items_or_none(text, Member::ResourceSpans)?;
+    let mut items = items_or_none(text, Member::ResourceSpans)?;
     let mut spans = Spans::new(alloc);
-    for item in items {
-        let more = read_resource(alloc, item)?;
+    while let Some(item) = items.next() {
+        let more = read_resource(alloc, &item)?;
         spans.append(more)?;
     }
     Ok(spans)

@@ -1,21 +1,20 @@
 //! Traces.
-ghost use Rattle.std.specs.Prelude.{◌≡◌, map, option_copied};
-ghost use Rattle.serde_json.specs.View.{view};
+ghost use Rattle.std.specs.Prelude.{◌≡◌, option_copied};
+ghost use Rattle.trace_spans.specs.Members.{then_on};
 ghost use Rattle.trace_spans.specs.Reads.{IsRead};
-ghost use Rattle.trace_spans.specs.Spans.{all_tell, format_of, spans_of, spans_of_text, spans_of_texts};
+ghost use Rattle.trace_spans.specs.Spans.{spans_of, spans_of_texts};
+ghost use Rattle.trace_spans.specs.Texts.{texts_of, texts_of_text};
 
 use crate::choice::{chosen_trace, spans_of_trace};
-use crate::exception::Format;
 use crate::fault::Fault;
-use crate::jaeger::read_jaeger;
-use crate::json::read_texts;
-use crate::member::Member;
-use crate::object::member;
-use crate::otlp::read_otlp;
+use crate::json_text::read_json;
+use crate::lines::read_lines;
 use crate::span::Spans;
 use crate::text::Text;
-use serde_json::Value;
+use crate::told::spans_of_text;
+use json::Scratch;
 use std::alloc::Global;
+use std::str;
 
 /// How many bytes a file may have.
 const LONGEST: usize = 268_435_456;
@@ -27,53 +26,33 @@ pub struct Trace {
     pub spans: Spans,
 }
 
-/// How a text tells spans.
-#[tactic(auto, unfolding(crate::specs::Spans::format_of))]
-fn format_of(text: &Value) -> Result<Format, Fault>
-    ensures { IsRead result (format_of (view text.now)) }
+/// The spans of a text that is one JSON text, or whose lines are.
+#[tactic(auto, unfolding(crate::specs::Texts::texts_of_text))]
+fn read_text(alloc: Global, text: &str) -> Result<Spans, Fault>
+    ensures { IsRead result (then_on (texts_of_text text.now) spans_of_texts) }
 {
-    if member(text, Member::ResourceSpans).is_some() {
-        return Ok(Format::Otlp);
-    }
-    if member(text, Member::Data).is_some() {
-        return Ok(Format::Jaeger);
-    }
-    Err(Fault::NotATrace)
-}
-
-/// Whether each text tells spans.
-fn check_formats(texts: &[Value]) -> Result<(), Fault>
-    ensures { IsRead result (all_tell (map view texts.now)) }
-{
-    for text in texts {
-        format_of(text)?;
-    }
-    Ok(())
-}
-
-/// The spans of a text.
-#[tactic(auto, unfolding(crate::specs::Spans::spans_of_text))]
-fn spans_of_text(alloc: Global, text: &Value) -> Result<Spans, Fault>
-    ensures { IsRead result (spans_of_text (view text.now)) }
-{
-    match format_of(text)? {
-        Format::Otlp => read_otlp(alloc, text),
-        Format::Jaeger => read_jaeger(alloc, text),
+    let mut room = Scratch::new(alloc);
+    let fault = match read_json(alloc, text, &mut room) {
+        Ok(document) => return spans_of_text(alloc, &document.root()),
+        Err(fault) => fault,
+    };
+    // (a line needs less room than the whole text)
+    drop(room);
+    match fault {
+        Fault::Memory => Err(Fault::Memory),
+        _ => read_lines(alloc, text),
     }
 }
 
-/// The spans of texts.
-#[tactic(auto, unfolding(crate::specs::Spans::spans_of_texts))]
-fn read_spans(alloc: Global, texts: &[Value]) -> Result<Spans, Fault>
-    ensures { IsRead result (spans_of_texts (map view texts.now)) }
+/// The spans of the JSON texts that bytes are.
+#[tactic(auto, unfolding(crate::specs::Texts::texts_of))]
+fn read_spans(alloc: Global, bytes: &[u8]) -> Result<Spans, Fault>
+    ensures { IsRead result (then_on (texts_of bytes.now) spans_of_texts) }
 {
-    check_formats(texts)?;
-    let mut spans = Spans::new(alloc);
-    for text in texts {
-        let more = spans_of_text(alloc, text)?;
-        spans.append(more)?;
+    match str::from_utf8(bytes) {
+        Ok(text) => read_text(alloc, text),
+        Err(_) => Err(Fault::Json),
     }
-    Ok(spans)
 }
 
 /// The trace in a file, of several the one that is asked for.
@@ -84,8 +63,7 @@ pub fn read_trace(alloc: Global, bytes: &[u8], wanted: Option<&str>) -> Result<T
     if bytes.len() > LONGEST {
         return Err(Fault::TooLong);
     }
-    let texts = read_texts(alloc, bytes)?;
-    let spans = read_spans(alloc, &texts)?;
+    let spans = read_spans(alloc, bytes)?;
     let id = chosen_trace(alloc, wanted, &spans)?;
     let spans = spans_of_trace(alloc, &id, spans)?;
     if spans.as_slice().is_empty() {

@@ -1,9 +1,12 @@
-use Rattle.std.proofs.Common.{◌≡◌, ◌++◌, drop, Ok}
-use Rattle.serde_json.specs.View.{items_view}
+use Rattle.std.proofs.Common.{◌≡◌, ◌++◌, Ok}
+use Rattle.serde_json.specs.Events.{items_len}
 use Rattle.trace_spans.specs.Members.{then_on}
 use Rattle.trace_spans.specs.Otlp.{spans_of_resources}
 use Rattle.trace_spans.proofs.otlp.read_otlp.Given as goal
 
 -- what was read so far, and what the items that are left are
 abbrev pub invariant-loop-item : goal.invariant-loop-item
-invariant-loop-item l = spans_of_resources (items_view l.items) ≡ then_on (spans_of_resources (items_view (drop l.item-index l.items))) (λ rest. Ok (l.spans ++ rest))
+invariant-loop-item l = spans_of_resources l.initial.items ≡ then_on (spans_of_resources l.items) (λ rest. Ok (l.spans ++ rest))
+
+abbrev pub decreases-loop-item : goal.decreases-loop-item
+decreases-loop-item l = items_len l.items

@@ -1,10 +1,9 @@
-use Rattle.std.proofs.Common.{refl, arith}
-use Rattle.serde_json.specs.View.{items_view}
+use Rattle.std.proofs.Common.{refl}
 use Rattle.trace_spans.specs.Otlp.{spans_of_items}
-use Rattle.trace_spans.proofs.Reading.{one_more_of}
+use Rattle.trace_spans.proofs.Reading.{one_more_item}
 use Rattle.trace_spans.proofs.otlp.read_scope.Goals as goal
 
 pub loop-item-preserved : goal.loop-item-preserved
 loop-item-preserved c =
-    one_more_of (λ xs. spans_of_items c.args.service.now (items_view xs)) c.in_ok-items.items.now c.loop-item.item-index c.item-item.result c.in_ok-span.span c.loop-item.spans c.push.new.self
-    (omega arith) c.item-item.is (rw c.in_ok-span.ensures refl) c.in_ok-push.ensures.added c.loop-item.invariant
+    one_more_item (spans_of_items c.args.service.now) _ c.loop-item.items c.next.new.self c.in-Some.item c.in_ok-span.span c.loop-item.spans c.push.new.self
+    c.loop-item.invariant c.in-Some.ensures.value (rw c.in_ok-span.ensures refl) c.in_ok-push.ensures.added

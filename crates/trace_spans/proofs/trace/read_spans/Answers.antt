@@ -2,7 +2,7 @@ use Rattle.std.proofs.Common.{refl}
 use Rattle.std.proofs.lemmas.Bool.{false_from_ne_true}
 use Rattle.std.proofs.lemmas.Str.{IsUtf8-from_is_utf8, is_utf8-from_IsUtf8}
 use Rattle.trace_spans.specs.Texts.{texts_of}
-use Rattle.trace_spans.proofs.json.read_texts.Goals as goal
+use Rattle.trace_spans.proofs.trace.read_spans.Goals as goal
 
 pub returns-in-Ok : goal.returns-in-Ok
 unfolding texts_of
