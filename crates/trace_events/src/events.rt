@@ -56,7 +56,7 @@ fn happens_at(hosts: &[Host], waiting: &[Option<usize>], at: At) -> Option<Happe
 fn no_events(alloc: Global, count: usize) -> Result<Vec<Vec<Event>>, AllocError>
     ensures { IfOk result (λ all. (vec_len all ≡ count) × ((span : ℕ) → events_at all.items span ≡ [])) }
 {
-    let mut all = Vec::new(alloc);
+    let mut all = Vec::with_capacity(alloc, count)?;
     for _span in 0..count {
         all.push(Vec::new(alloc))?;
     }

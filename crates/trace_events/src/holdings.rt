@@ -44,7 +44,7 @@ pub fn holdings_of(alloc: Global, family: &Family) -> Result<Vec<Holding>, Alloc
     let count = family.intervals.len();
     let moments = moments(alloc, &family.intervals)?;
     let all = all_events(alloc, count, &family.hosts, &family.waiting, &moments)?;
-    let mut holdings = Vec::new(alloc);
+    let mut holdings = Vec::with_capacity(alloc, count)?;
     for span in 0..count {
         let ended = has_ended(&family.intervals, span);
         let holding = held_by(alloc, ended, span, events_at(&all, span))?;

@@ -12,7 +12,7 @@ pub(crate) type At = ((u64, u8), (u64, usize));
 fn all_moments(alloc: Global, intervals: &[Interval]) -> Result<Vec<At>, AllocError>
     ensures { IfOk result (λ moments. moments.items ≡ all_moments intervals.now) }
 {
-    let mut moments = Vec::new(alloc);
+    let mut moments = Vec::with_capacity(alloc, intervals.len().saturating_mul(2))?;
     for (place, interval) in intervals.iter().enumerate() {
         let start = interval.start;
         moments.push(((start, Turn::Starts.number()), (start, place)))?;

@@ -37,6 +37,10 @@ abbrev pub is_none_met : List ℕ → Bool
 is_none_met [] = true
 is_none_met (place ∷ places) = false
 
+-- what the references of a span without links mean
+abbrev pub references_of_parents : List Span → ℕ → List (List ℕ) → List ℕ × Bool
+references_of_parents spans place parents = (with_meant spans place [] parents, not (is_none_met (with_meant spans place [] parents)))
+
 -- what the references of a span mean, and whether it names a parent that is in the trace
 abbrev pub references_of : List Span → ℕ → Span → List ℕ × Bool
 references_of spans place span = (meant spans place span, not (is_none_met (with_meant spans place [] span.parents)))

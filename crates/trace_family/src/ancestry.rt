@@ -1,5 +1,5 @@
 //! Lines of ancestors: one span, its parent, that one's parent, and so on.
-ghost use Rattle.std.specs.Prelude.{◌≡◌, ℕ, IfOk};
+ghost use Rattle.std.specs.Prelude.{◌≡◌, ℕ, IfOk, IsTrue, None};
 ghost use Rattle.trace_family.specs.Ancestry.{comes_first, first_of, parent_at};
 ghost use Rattle.trace_family.specs.Lines.{line_at, line_of_one, line_of_two};
 
@@ -82,7 +82,7 @@ pub(crate) fn lines_of_one(
 ) -> Result<Vec<Line>, AllocError>
     ensures { IfOk result (λ lines. (place : ℕ) → line_at lines.items place ≡ line_of_one parents.now place) }
 {
-    let mut lines = Vec::new(alloc);
+    let mut lines = Vec::with_capacity(alloc, parents.len())?;
     for place in 0..parents.len() {
         let line = Line {
             first: place,
@@ -93,7 +93,21 @@ pub(crate) fn lines_of_one(
     Ok(lines)
 }
 
+/// Whether each line has all ancestors, so that no span comes after it.
+fn are_whole(lines: &[Line]) -> bool
+    ensures { IsTrue result → (place : ℕ) → (line_at lines.now place).after ≡ None }
+{
+    for place in 0..lines.len() {
+        if line_at(lines, place).after.is_some() {
+            return false;
+        }
+    }
+    true
+}
+
 /// The lines of twice as many spans.
+///
+/// Few traces have more than some generations: lines that have all ancestors are those of twice as many spans too.
 pub(crate) fn doubled(
     alloc: Global,
     intervals: &[Interval],
@@ -101,9 +115,26 @@ pub(crate) fn doubled(
 ) -> Result<Vec<Line>, AllocError>
     ensures { IfOk result (λ more. (place : ℕ) → line_at more.items place ≡ line_of_two intervals.now lines.now place) }
 {
-    let mut more = Vec::new(alloc);
+    if are_whole(lines) {
+        return Vec::from_slice(alloc, lines);
+    }
+    let mut more = Vec::with_capacity(alloc, lines.len())?;
     for place in 0..lines.len() {
         more.push(line_of_two(intervals, lines, place))?;
     }
     Ok(more)
+}
+
+/// The lines of twice as many spans in place of lines, which stay where they have all ancestors.
+pub(crate) fn twice_as_long(
+    alloc: Global,
+    intervals: &[Interval],
+    lines: Vec<Line>,
+) -> Result<Vec<Line>, AllocError>
+    ensures { IfOk result (λ more. (place : ℕ) → line_at more.items place ≡ line_of_two intervals.now lines.items place) }
+{
+    if are_whole(&lines) {
+        return Ok(lines);
+    }
+    doubled(alloc, intervals, &lines)
 }

@@ -4,7 +4,7 @@ ghost use Rattle.std.specs.List.{range_with_len};
 ghost use Rattle.trace_family.specs.Ancestry.{most_spans, without_circles};
 ghost use Rattle.trace_family.specs.Lines.{AreLines, is_line_first, parent_by_lines};
 
-use crate::ancestry::{Line, doubled, line_at, lines_of_one, parent_at};
+use crate::ancestry::{Line, line_at, lines_of_one, parent_at, twice_as_long};
 use crate::moment::Interval;
 use std::alloc::{AllocError, Global};
 
@@ -21,7 +21,7 @@ fn longest_lines(
 {
     let mut lines = lines_of_one(alloc, parents)?;
     for _power in 0..DOUBLINGS {
-        let more = doubled(alloc, intervals, &lines)?;
+        let more = twice_as_long(alloc, intervals, lines)?;
         lines = more;
     }
     Ok(lines)
@@ -57,7 +57,7 @@ fn parents_by_lines(
 ) -> Result<Vec<Option<usize>>, AllocError>
     ensures { IfOk result (λ others. others.items ≡ map (parent_by_lines lines.now parents.now) (range_with_len 0 (length parents.now))) }
 {
-    let mut others = Vec::new(alloc);
+    let mut others = Vec::with_capacity(alloc, parents.len())?;
     for place in 0..parents.len() {
         others.push(parent_by_lines(lines, parents, place))?;
     }

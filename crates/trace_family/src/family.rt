@@ -37,7 +37,7 @@ pub struct Family {
 fn named_parents(alloc: Global, references: &[References]) -> Result<Vec<Option<usize>>, AllocError>
     ensures { IfOk result (λ parents. parents.items ≡ map parent_meant references.now) }
 {
-    let mut parents = Vec::new(alloc);
+    let mut parents = Vec::with_capacity(alloc, references.len())?;
     for of_span in references {
         parents.push(of_span.parent())?;
     }

@@ -28,7 +28,7 @@ fn levels_of(
 ) -> Result<Vec<Vec<Line>>, AllocError>
     ensures { IfOk result (λ levels. (length levels.items ≡ 16) × AreLevels intervals.now parents.now levels.items) }
 {
-    let mut levels = Vec::new(alloc);
+    let mut levels = Vec::with_capacity(alloc, LEVELS)?;
     let mut lines = lines_of_one(alloc, parents)?;
     for _power in 0..LEVELS {
         let more = doubled(alloc, intervals, &lines)?;
@@ -93,7 +93,7 @@ pub(crate) fn hosts_of(
     ensures { IfOk result (λ hosts. hosts.items ≡ hosts_of intervals.now parents.now) }
 {
     let levels = levels_of(alloc, intervals, parents)?;
-    let mut hosts = Vec::new(alloc);
+    let mut hosts = Vec::with_capacity(alloc, parents.len())?;
     for place in 0..parents.len() {
         let host = host_above(&levels, intervals, parents, place);
         hosts.push(host_at(intervals, place, host))?;

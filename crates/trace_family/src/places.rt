@@ -18,7 +18,7 @@ fn has_place(places: &HashMap<String, usize>, id: &str) -> bool
 pub(crate) fn places_of(alloc: Global, spans: &[Span]) -> Result<HashMap<String, usize>, AllocError>
     ensures { IfOk result (λ places. IsPlacing places spans.now) }
 {
-    let mut places = HashMap::new(alloc);
+    let mut places = HashMap::with_capacity(alloc, spans.len())?;
     for (place, span) in spans.iter().enumerate() {
         let id = compared(alloc, span.id.as_str())?.into_string();
         if !has_place(&places, id.as_str()) {

@@ -1,7 +1,7 @@
 //! Which spans the references of spans mean.
-ghost use Rattle.std.specs.Prelude.{◌≡◌, ℕ, List, IfOk, OnOk, slice_get};
+ghost use Rattle.std.specs.Prelude.{◌≡◌, ℕ, List, [], ◌∷◌, IfOk, OnOk, slice_get};
 ghost use Rattle.trace_family.specs.MetPlaces.{HasMet};
-ghost use Rattle.trace_family.specs.Parents.{IsPlacing, all_references, other_place, references_of, with_meant};
+ghost use Rattle.trace_family.specs.Parents.{IsPlacing, all_references, other_place, references_of, references_of_parents, with_meant};
 ghost use Rattle.trace_spans.specs.declared.span.Span.{Span};
 
 use crate::met::{Met, is_none_met, meet, none_met, places_met};
@@ -76,8 +76,31 @@ fn meet_meant(
     Ok(())
 }
 
-/// What the references of the span at a place mean.
-fn references_of(
+/// What the references of the span at a place mean that has one, to a parent.
+fn references_of_one(
+    alloc: Global,
+    places: &HashMap<String, usize>,
+    place: usize,
+    parent: &Text,
+) -> Result<References, AllocError>
+    ensures { (spans : List Span) → IsPlacing places.now spans → IfOk result (λ references. references ≡ references_of_parents spans place (parent.now ∷ [])) }
+{
+    let Some(other) = other_place(places, place, parent) else {
+        return Ok(References {
+            meant: Vec::new(alloc),
+            is_named: false,
+        });
+    };
+    let mut meant = Vec::with_capacity(alloc, 1)?;
+    meant.push(other)?;
+    Ok(References {
+        meant,
+        is_named: true,
+    })
+}
+
+/// What the references of the span at a place mean that has several.
+fn references_of_some(
     alloc: Global,
     places: &HashMap<String, usize>,
     place: usize,
@@ -95,12 +118,29 @@ fn references_of(
     })
 }
 
+/// What the references of the span at a place mean.
+///
+/// Most spans have a parent and no links: for those no table is made of what was met.
+fn references_of(
+    alloc: Global,
+    places: &HashMap<String, usize>,
+    place: usize,
+    span: &Span,
+) -> Result<References, AllocError>
+    ensures { (spans : List Span) → IsPlacing places.now spans → IfOk result (λ references. references ≡ references_of spans place span.now) }
+{
+    match (span.parents.as_slice(), span.links.as_slice()) {
+        ([parent], []) => references_of_one(alloc, places, place, parent),
+        _ => references_of_some(alloc, places, place, span),
+    }
+}
+
 /// What the references of each span mean.
 pub(crate) fn all_references(alloc: Global, spans: &[Span]) -> Result<Vec<References>, AllocError>
     ensures { IfOk result (λ references. references.items ≡ all_references spans.now) }
 {
     let places = places_of(alloc, spans)?;
-    let mut all = Vec::new(alloc);
+    let mut all = Vec::with_capacity(alloc, spans.len())?;
     for (place, span) in spans.iter().enumerate() {
         let references = references_of(alloc, &places, place, span)?;
         all.push(references)?;

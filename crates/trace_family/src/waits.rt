@@ -87,7 +87,7 @@ pub(crate) fn waiting_parents(
 ) -> Result<Vec<Option<usize>>, AllocError>
     ensures { IfOk result (λ waiting. waiting.items ≡ waiting_parents spans.now intervals.now references.now parents.now) }
 {
-    let mut waiting = Vec::new(alloc);
+    let mut waiting = Vec::with_capacity(alloc, spans.len())?;
     for place in 0..spans.len() {
         waiting.push(waiting_parent(spans, intervals, references, parents, place))?;
     }

@@ -20,6 +20,7 @@ fn base_name(alloc: Global, span: &Span) -> Result<Text, AllocError>
     let mut name = words_or(alloc, "service", MOST_OF_SERVICE, span.service.as_str())?;
     let most = MOST_TOGETHER.saturating_sub(name.len());
     let own = words_or(alloc, "span", most, span.name.as_str())?;
+    name.reserve(own.len().saturating_add(1))?;
     name.push_str(".")?;
     name.push_str(own.as_str())?;
     Ok(Text::of(name))

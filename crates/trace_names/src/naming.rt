@@ -8,14 +8,22 @@ use std::alloc::{AllocError, Global};
 use std::fmt::Write;
 use trace_spans::{Span, Text, TextList};
 
+/// The most bytes of a dot and a number.
+const LONGEST_NUMBER: usize = 21;
+
 /// A base name with its number, from the second on.
 fn with_number(alloc: Global, base: &Text, number: u64) -> Result<Text, AllocError>
     ensures { IfOk result (λ name. name ≡ with_number base.now number) }
 {
-    let mut name = String::from_str(alloc, base.as_str())?;
-    if number > 1 {
-        write!(name, ".{number}")?;
+    if number <= 1 {
+        return Text::new(alloc, base.as_str());
     }
+    let mut name = String::with_capacity(
+        alloc,
+        base.as_str().len().saturating_add(LONGEST_NUMBER),
+    )?;
+    name.push_str(base.as_str())?;
+    write!(name, ".{number}")?;
     Ok(Text::of(name))
 }
 

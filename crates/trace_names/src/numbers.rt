@@ -23,7 +23,7 @@ fn count_of(counts: &HashMap<String, u64>, base: &Text) -> u64
     counts.get(base.as_str()).copied().unwrap_or(0)
 }
 
-/// Counts one more of a base name.
+/// Counts one more of a base name. One that was counted before has a key: no copy of it is made.
 #[tactic(auto, using(std::proofs::lemmas::Map::Text::text_keys))]
 fn count(
     alloc: Global,
@@ -33,6 +33,10 @@ fn count(
 ) -> Result<(), AllocError>
     ensures { OnOk result ((other : List ℕ) → unwrap_or (get_by_text counts.new other) 0 ≡ (if bytes_eq base.now other then number else unwrap_or (get_by_text counts.old other) 0)) }
 {
+    if let Some(held) = counts.get_mut(base.as_str()) {
+        *held = number;
+        return Ok(());
+    }
     counts.insert(String::from_str(alloc, base.as_str())?, number)?;
     Ok(())
 }
@@ -98,6 +102,8 @@ pub(crate) fn number_at(numbers: &Numbers, place: usize, base: &Text) -> u64
     requires { unwrap_or (get_by_text numbers.now.counts base.now) 0 < 2 ^ 64 - 1 }
     ensures { (bases : List (List ℕ)) (order : List ℕ) → AreCounts numbers.now.counts bases order → AreNumbers numbers.now.numbers.items bases order → slice_get bases place ≡ Some base.now → result ≡ count_before bases base.now place order + 1 }
 {
-    let number = given(&numbers.numbers, place);
-    number.unwrap_or(count_of(&numbers.counts, base) + 1)
+    match given(&numbers.numbers, place) {
+        Some(number) => number,
+        None => count_of(&numbers.counts, base) + 1,
+    }
 }

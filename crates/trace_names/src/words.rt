@@ -5,6 +5,12 @@ ghost use Rattle.trace_names.specs.Words.{cut, is_word_character, joined, with_l
 
 use std::alloc::{AllocError, Global};
 
+/// For no more bytes of words room is made at first.
+const MOST_ROOM: usize = 46;
+
+/// For no fewer bytes: what a string has room for after its first byte, so that short names grow no more often.
+const LEAST_ROOM: usize = 8;
+
 fn is_word_character(byte: u8) -> bool
     ensures { result ≡ is_word_character byte }
 {
@@ -22,12 +28,20 @@ fn push_letter(words: &mut String, is_apart: bool, byte: u8) -> Result<(), Alloc
     words.push(byte as char)
 }
 
+/// For how many bytes of words room is made at first. Most texts begin with a word, and no longer names are kept.
+fn first_room(text: &str) -> usize {
+    match text.as_bytes() {
+        [first, ..] if is_word_character(*first) => text.len().min(MOST_ROOM).max(LEAST_ROOM),
+        _ => 0,
+    }
+}
+
 /// The words of a text, joined by dashes.
 fn joined(alloc: Global, text: &str) -> Result<String, AllocError>
     ensures bytes { IfOk result (λ words. string_bytes words ≡ joined text.now) }
     ensures ascii { IfOk result (λ words. IsAscii (string_bytes words)) }
 {
-    let mut words = String::new(alloc);
+    let mut words = String::with_capacity(alloc, first_room(text))?;
     let mut is_apart = false;
     for byte in text.as_bytes() {
         if is_word_character(*byte) {

@@ -4,7 +4,8 @@ use Rattle.std.specs.Prelude.{nat_eq, find, option_map}
 use Rattle.std.specs.Option.{option_or}
 use Rattle.std.proofs.lemmas.List.{append-nil, map-append, take_more}
 use Rattle.std.proofs.lemmas.List.Concat.{flat_map-append}
-use Rattle.trace_stages.specs.Beginnings.{all_begins, begun_from}
+use Rattle.trace_stages.specs.Beginnings.{all_begins, begun_from, joined_with_links}
+use Rattle.trace_family.specs.declared.moment.Interval.{Interval}
 use Rattle.trace_stages.specs.Known.{had_of, plain_hads}
 use Rattle.trace_walk.specs.declared.holding.Begin.{Begin}
 use Rattle.trace_walk.specs.declared.holding.Holding.{Holding}
@@ -55,3 +56,11 @@ all_noted holdings i holding begins old new lt is so_far updated q =
     ∙ ap (λ o. option_or o (begun_from (get_or holdings i holding).begins.items q)) (so_far q)
     ∙ sym (begun_from-append (all_begins (plain_hads (take i holdings))) (get_or holdings i holding).begins.items q)
     ∙ ap (λ those. begun_from those q) (sym (begins_more holdings i holding lt))
+
+lone : (intervals : List Interval) (place : ℕ) (from : Option StageId) → joined_with_links intervals place from [] ≡ record { joins = []; stage = from }
+lone intervals place None = refl
+lone intervals place (Some id) = refl
+
+-- a span without links begins from what it has, with no joins
+pub joined_without_links : (intervals : List Interval) (place : ℕ) (from : Option StageId) (links : List ℕ) → links ≡ [] → joined_with_links intervals place from links ≡ record { joins = []; stage = from }
+joined_without_links intervals place from links e = ap (λ those. joined_with_links intervals place from those) e ∙ lone intervals place from

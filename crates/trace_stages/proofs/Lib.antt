@@ -4,5 +4,6 @@ pub mod Firsts
 pub mod Joining
 pub mod Ordering
 pub mod Recorded
+pub mod Sources
 pub mod Tables
 pub mod Throwing

@@ -65,6 +65,10 @@ sources_of known begun place =
     option_list (from_host known begun place)
     ++ map Whole (filter (is_linked known.family.intervals place (from_host known begun place)) (links_at known.family.references place))
 
+-- one stage for what a span begins from and for links
+abbrev pub joined_with_links : List Interval → ℕ → Option StageId → List ℕ → PlainJoined
+joined_with_links intervals place from links = joined_of (joins_of.Entry place) [] (option_list from ++ map Whole (filter (is_linked intervals place from) links))
+
 -- but for an open span of one stage, which nothing completes, each span has a stage that begins
 abbrev pub is_begun : PlainKnown → ℕ → Bool
 is_begun known place = known.has_two place || has_ended known.family.intervals place

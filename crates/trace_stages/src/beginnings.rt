@@ -2,7 +2,7 @@
 ghost use Rattle.std.specs.Prelude.{◌≡◌, ◌++◌, ℕ, IfOk, OnOk, cond, filter, map, nat_eq, Some, None};
 ghost use Rattle.std.specs.HashMap.{get_by};
 ghost use Rattle.std.specs.Option.{option_or};
-ghost use Rattle.trace_stages.specs.Beginnings.{all_begins, all_entries, begun_from, entry, from_host, host_at, is_begun, is_linked, links_at, option_list, sources_of};
+ghost use Rattle.trace_stages.specs.Beginnings.{all_begins, all_entries, begun_from, entry, from_host, host_at, is_begun, is_linked, joined_with_links, links_at, option_list};
 ghost use Rattle.trace_stages.specs.Known.{plain_hads, plain_known};
 ghost use Rattle.trace_walk.specs.Joins.{plain_joined};
 ghost use Rattle.trace_walk.specs.declared.stage.StageId.TheVariants.{Whole};
@@ -118,18 +118,25 @@ fn with_links(
     Ok(sources)
 }
 
-/// All that a span begins from.
-fn sources_of(
+/// One stage for what a span begins from and for its links; for most spans, which have none, nothing is gathered.
+#[tactic(auto, using(crate::proofs::Beginning::joined_without_links))]
+fn joined_with_links(
     alloc: Global,
-    known: &Known<'_>,
-    begun: &Begun,
+    intervals: &[Interval],
     place: usize,
-) -> Result<Vec<StageId>, AllocError>
-    ensures { IfOk result (λ sources. sources.items ≡ sources_of (plain_known known.now) (λ other. get_by (nat_eq other) begun.now) place) }
+    from: Option<StageId>,
+    links: &[usize],
+) -> Result<Joined, AllocError>
+    ensures { IfOk result (λ joined. plain_joined joined ≡ joined_with_links intervals.now place from links.now) }
 {
-    let from = from_host(known, begun, place);
-    let links = links_at(&known.family.references, place);
-    with_links(alloc, &known.family.intervals, place, from, links)
+    if links.is_empty() {
+        return Ok(Joined {
+            joins: Vec::new(alloc),
+            stage: from,
+        });
+    }
+    let sources = with_links(alloc, intervals, place, from, links)?;
+    join_all(alloc, JoinsOf::Entry(place), Vec::new(alloc), &sources)
 }
 
 /// Whether a span has a stage that begins.
@@ -154,8 +161,9 @@ fn entry(
             stage: None,
         });
     }
-    let sources = sources_of(alloc, known, begun, place)?;
-    join_all(alloc, JoinsOf::Entry(place), Vec::new(alloc), &sources)
+    let from = from_host(known, begun, place);
+    let links = links_at(&known.family.references, place);
+    joined_with_links(alloc, &known.family.intervals, place, from, links)
 }
 
 /// From what each span begins, and its joins.
@@ -163,7 +171,7 @@ pub(crate) fn all_entries(alloc: Global, known: &Known<'_>) -> Result<Vec<Joined
     ensures { IfOk result (λ entries. map plain_joined entries.items ≡ all_entries (plain_known known.now)) }
 {
     let begun = all_begun(alloc, &known.holdings)?;
-    let mut entries = Vec::new(alloc);
+    let mut entries = Vec::with_capacity(alloc, known.family.intervals.len())?;
     for place in 0..known.family.intervals.len() {
         let joined = entry(alloc, known, &begun, place)?;
         entries.push(joined)?;

@@ -140,7 +140,7 @@ pub(crate) fn failures_of(
 ) -> Result<Failures, AllocError>
     ensures { IfOk result (λ failures. (place : ℕ) → failing failures place ≡ failures_by (plain_known known.now) visits.now place) }
 {
-    let mut failures = HashMap::new(alloc);
+    let mut failures = HashMap::with_capacity(alloc, visits.len() / 2)?;
     for visit in visits {
         if let Visit::Leaves(place) = visit {
             let exception = failure(alloc, known, &failures, *place)?;

@@ -95,7 +95,7 @@ pub(crate) fn fates_of(alloc: Global, spans: &[Span]) -> Result<Vec<Fate>, Alloc
     ensures { IfOk result (λ fates. fates.items ≡ map (fate spans.now) (range_with_len 0 (length spans.now))) }
 {
     let firsts = firsts_of(alloc, spans)?;
-    let mut fates = Vec::new(alloc);
+    let mut fates = Vec::with_capacity(alloc, spans.len())?;
     for place in 0..spans.len() {
         fates.push(fate_of_span(&firsts, spans, place))?;
     }

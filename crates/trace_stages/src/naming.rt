@@ -29,7 +29,7 @@ fn name_of(scene: &Scene<'_>, id: StageId) -> StageName
 fn names_of(alloc: Global, scene: &Scene<'_>, ids: &[StageId]) -> Result<Vec<StageName>, AllocError>
     ensures { IfOk result (λ names. names.items ≡ map (name_of (plain_scene scene.now)) ids.now) }
 {
-    let mut names = Vec::new(alloc);
+    let mut names = Vec::with_capacity(alloc, ids.len())?;
     for id in ids {
         names.push(name_of(scene, *id))?;
     }
@@ -65,7 +65,7 @@ fn imported_work(
 ) -> Result<ImportedStage, AllocError>
     ensures { IfOk result (λ stage. plain_stage stage ≡ imported_work (plain_scene scene.now) id work) }
 {
-    let mut sources = Vec::new(alloc);
+    let mut sources = Vec::with_capacity(alloc, usize::from(work.source.is_some()))?;
     if let Some(source) = work.source {
         sources.push(name_of(scene, source))?;
     }
@@ -106,7 +106,7 @@ pub(crate) fn all_imported(
 ) -> Result<Vec<ImportedStage>, AllocError>
     ensures { IfOk result (λ stages. plain_stages stages.items ≡ map (imported (plain_scene scene.now)) ids.now) }
 {
-    let mut stages = Vec::new(alloc);
+    let mut stages = Vec::with_capacity(alloc, ids.len())?;
     for id in ids {
         let stage = imported(alloc, scene, *id)?;
         stages.push(stage)?;

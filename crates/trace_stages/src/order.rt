@@ -5,9 +5,8 @@ ghost use Rattle.trace_stages.specs.Scene.{plain_scene};
 ghost use Rattle.trace_walk.specs.declared.stage.StageId.{StageId};
 
 use crate::known::{has_two, joins_at};
-use crate::scene::{Scene, entry_joins, thrown_at};
-use crate::stage::Action;
-use crate::works::{begin_work, whole_work};
+use crate::scene::{Scene, entry_joins, entry_stage, thrown_at};
+use crate::works::whole_source;
 use std::alloc::{AllocError, Global};
 use std::collections::HashSet;
 use trace_tour::Visit;
@@ -129,12 +128,13 @@ fn put_after(ids: &mut Vec<StageId>, joins: &[StageId], id: StageId) -> Result<(
 }
 
 /// The source of a stage of a span.
+#[tactic(auto, using(crate::proofs::Sources::start_source))]
 fn source_of(scene: &Scene<'_>, id: StageId) -> Option<StageId>
     ensures { result ≡ source_of (plain_scene scene.now) id }
 {
     match id {
-        StageId::Start(place) => begin_work(scene, place, 0, Action::Null).source,
-        StageId::Whole(place) => whole_work(scene, place).source,
+        StageId::Start(place) => entry_stage(&scene.entries, place),
+        StageId::Whole(place) => whole_source(scene, place),
         _ => None,
     }
 }
@@ -186,7 +186,7 @@ pub(crate) fn ordered(
 ) -> Result<Vec<StageId>, AllocError>
     ensures { IfOk result (λ ids. ids.items ≡ ordered (plain_scene scene.now) visits.now) }
 {
-    let mut ids = Vec::new(alloc);
+    let mut ids = Vec::with_capacity(alloc, visits.len() / 2)?;
     let mut put = none_put(alloc);
     for of_span in visits {
         visit(alloc, scene, &mut ids, &mut put, *of_span)?;

@@ -132,6 +132,15 @@ pub(crate) fn join_outcome(sight: Sight<'_>, own: &[Outcome], sources: &[StageId
     }
 }
 
+/// For how many outcomes room is made: those of joins, and that of the one by which a span is thrown on.
+fn outcome_room(joins: &[Vec<StageId>]) -> usize {
+    if joins.is_empty() {
+        0
+    } else {
+        joins.len().saturating_add(1)
+    }
+}
+
 /// How joins end, one after another.
 pub(crate) fn join_outcomes(
     alloc: Global,
@@ -140,7 +149,7 @@ pub(crate) fn join_outcomes(
 ) -> Result<Vec<Outcome>, AllocError>
     ensures { IfOk result (λ outcomes. outcomes.items ≡ join_outcomes (plain_sight sight.entry) (plain_joins joins.now)) }
 {
-    let mut outcomes = Vec::new(alloc);
+    let mut outcomes = Vec::with_capacity(alloc, outcome_room(joins))?;
     for sources in joins {
         let outcome = join_outcome(sight, &outcomes, sources);
         outcomes.push(outcome)?;

@@ -96,7 +96,7 @@ fn all_outcomes(
     ensures { IfOk result (λ all. plain_outcomes all.items ≡ all_outcomes (plain_known known.now) (failing failures.now) (plain_joins thrown.now)) }
 {
     let sight = own_sight(known, failures);
-    let mut all = Vec::new(alloc);
+    let mut all = Vec::with_capacity(alloc, known.family.intervals.len())?;
     for place in 0..known.family.intervals.len() {
         let joins = joins_at(&known.holdings, place);
         all.push(span_outcomes(alloc, sight, joins, thrown_at(thrown, place))?)?;
@@ -112,7 +112,7 @@ fn all_entry_outcomes(
 ) -> Result<Vec<Vec<Outcome>>, AllocError>
     ensures { IfOk result (λ all. plain_outcomes all.items ≡ all_entry_outcomes (plain_sight sight.entry) (map plain_joined entries.now)) }
 {
-    let mut all = Vec::new(alloc);
+    let mut all = Vec::with_capacity(alloc, entries.len())?;
     for joined in entries {
         all.push(join_outcomes(alloc, sight, &joined.joins)?)?;
     }

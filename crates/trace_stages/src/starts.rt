@@ -12,7 +12,7 @@ pub(crate) type StartAt = (u64, usize);
 fn all_starts(alloc: Global, intervals: &[Interval]) -> Result<Vec<StartAt>, AllocError>
     ensures { IfOk result (λ starts. starts.items ≡ all_starts intervals.now) }
 {
-    let mut starts = Vec::new(alloc);
+    let mut starts = Vec::with_capacity(alloc, intervals.len())?;
     for (place, interval) in intervals.iter().enumerate() {
         starts.push((interval.start, place))?;
     }
@@ -32,7 +32,7 @@ fn sorted_starts(alloc: Global, intervals: &[Interval]) -> Result<Vec<StartAt>, 
 fn places_of(alloc: Global, starts: &[StartAt]) -> Result<Vec<usize>, AllocError>
     ensures { IfOk result (λ places. places.items ≡ map (λ start. start.1) starts.now) }
 {
-    let mut places = Vec::new(alloc);
+    let mut places = Vec::with_capacity(alloc, starts.len())?;
     for (_start, place) in starts {
         places.push(*place)?;
     }

@@ -159,7 +159,7 @@ pub(crate) fn all_thrown(
     ensures { IfOk result (λ all. plain_joins all.items ≡ all_thrown (plain_known known.now) (failing failures.now)) }
 {
     let throwers = throwers_of(alloc, known, failures)?;
-    let mut all = Vec::new(alloc);
+    let mut all = Vec::with_capacity(alloc, known.family.intervals.len())?;
     for place in 0..known.family.intervals.len() {
         let thrower = throwers.get(&place).copied();
         let sources = thrown_sources(alloc, known, failures, place, thrower)?;

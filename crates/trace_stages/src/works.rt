@@ -5,7 +5,7 @@ ghost use Rattle.trace_stages.specs.Works.{after_source, at_end, begin_from, beg
 
 use crate::failures::{action_of, last_step, thrown};
 use crate::fates::fate_at;
-use crate::known::{has_at, has_two, joins_at};
+use crate::known::{has_at, has_ended, has_two, joins_at};
 use crate::outcomes::{Outcome, interval_at, outcome_of};
 use crate::scene::{Scene, entry_stage, outcomes_at, thrown_at, whole_sight};
 use crate::stage::{Action, Op};
@@ -133,4 +133,19 @@ pub(crate) fn whole_work(scene: &Scene<'_>, place: usize) -> Work
     let runs = end.saturating_sub(interval.start);
     let action = action_of(thrown(fate_at(&scene.known.fates, place)));
     begin_work(scene, place, runs, action)
+}
+
+/// The source of the stage that ends when a span did, with nothing else of what that stage does.
+#[tactic(auto, using(crate::proofs::Sources::open_source, crate::proofs::Sources::two_source, crate::proofs::Sources::one_source))]
+pub(crate) fn whole_source(scene: &Scene<'_>, place: usize) -> Option<StageId>
+    ensures { result ≡ (whole_work (plain_scene scene.now) place).source }
+{
+    if !has_ended(&scene.known.family.intervals, place) {
+        return None;
+    }
+    if has_two(&scene.known, place) {
+        Some(at_end(scene, place))
+    } else {
+        entry_stage(&scene.entries, place)
+    }
 }

@@ -40,7 +40,7 @@ pub(crate) fn roots(
 fn no_children(alloc: Global, count: usize) -> Result<Vec<Vec<usize>>, AllocError>
     ensures { IfOk result (λ all. (vec_len all ≡ count) × ((place : ℕ) → children_at all.items place ≡ [])) }
 {
-    let mut all = Vec::new(alloc);
+    let mut all = Vec::with_capacity(alloc, count)?;
     for _place in 0..count {
         all.push(Vec::new(alloc))?;
     }

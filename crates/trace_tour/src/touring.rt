@@ -50,6 +50,15 @@ fn visit(
     Ok(())
 }
 
+/// For how many visits room is made at first: as a rule each span of an order is entered and left, where there is a root.
+fn first_room(first: &[usize], order: &[usize]) -> usize {
+    if first.is_empty() {
+        0
+    } else {
+        order.len().saturating_mul(2)
+    }
+}
+
 /// The visits of all spans, in an order.
 pub fn visits_of(
     alloc: Global,
@@ -60,7 +69,7 @@ pub fn visits_of(
 {
     let all = all_children(alloc, parents, order)?;
     let first = roots(alloc, parents, order)?;
-    let mut visits = Vec::new(alloc);
+    let mut visits = Vec::with_capacity(alloc, first_room(&first, order))?;
     let mut coming = Vec::new(alloc);
     put_first(&mut coming, &first, MOST_GENERATIONS)?;
     while let Some(next) = coming.pop() {

@@ -88,8 +88,8 @@ fn finish(of: JoinsOf, gathering: Gathering) -> Result<Joined, AllocError>
     Ok(Joined { joins, stage })
 }
 
-/// One stage for several: a join, or more of them where there are more sources than one has.
-pub fn join_all(
+/// One stage for sources of which there are some.
+fn join_some(
     alloc: Global,
     of: JoinsOf,
     joins: Vec<Vec<StageId>>,
@@ -99,10 +99,31 @@ pub fn join_all(
 {
     let mut gathering = Gathering {
         joins,
-        together: Vec::new(alloc),
+        together: Vec::with_capacity(alloc, sources.len().min(MOST_SOURCES))?,
     };
     for source in sources {
         gathering = gather(alloc, of, gathering, *source)?;
     }
     finish(of, gathering)
+}
+
+/// One stage for several: a join, or more of them where there are more sources than one has.
+///
+/// A source that is alone stands for itself: most are, and nothing is gathered for them.
+pub fn join_all(
+    alloc: Global,
+    of: JoinsOf,
+    joins: Vec<Vec<StageId>>,
+    sources: &[StageId],
+) -> Result<Joined, AllocError>
+    ensures { IfOk result (λ joined. plain_joined joined ≡ joined_of of (plain_joins joins) sources.now) }
+{
+    match sources {
+        [] => Ok(Joined { joins, stage: None }),
+        [only] => Ok(Joined {
+            joins,
+            stage: Some(*only),
+        }),
+        _ => join_some(alloc, of, joins, sources),
+    }
 }

@@ -13,6 +13,21 @@ pub(crate) fn none_known(alloc: Global) -> HashSet<usize>
     HashSet::new(alloc)
 }
 
+/// As many as a table may have room for to be used again: to empty a larger one takes longer than to make one.
+const SMALL_ROOM: usize = 16;
+
+/// No span is known any more; a small table is used again.
+pub(crate) fn forget(alloc: Global, known: HashSet<usize>) -> HashSet<usize>
+    ensures { Knows result [] }
+{
+    if known.capacity() > SMALL_ROOM {
+        return HashSet::new(alloc);
+    }
+    let mut known = known;
+    known.clear();
+    known
+}
+
 /// Whether a span is known.
 pub(crate) fn knows(known: &HashSet<usize>, place: usize) -> bool
     ensures { (places : List ℕ) → Knows known.now places → result ≡ list_any (nat_eq place) places }

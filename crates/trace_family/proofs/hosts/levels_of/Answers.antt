@@ -6,8 +6,8 @@ use Rattle.trace_family.proofs.hosts.levels_of.Goals as goal
 
 pub loop-power-init : goal.loop-power-init
 loop-power-init c = (
-  ap length c.new-levels.ensures.items,
-  no_levels c.args.intervals.now c.args.parents.now c.new-levels.result.items c.new-levels.ensures.items,
+  ap length c.in_ok-levels.ensures.items,
+  no_levels c.args.intervals.now c.args.parents.now c.in_ok-levels.levels.items c.in_ok-levels.ensures.items,
   lines_of_one c.args.intervals.now c.args.parents.now c.in_ok-lines.lines.items c.in_ok-lines.ensures,
 )
 

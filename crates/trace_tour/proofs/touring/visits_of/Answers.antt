@@ -6,7 +6,7 @@ use Rattle.trace_tour.proofs.touring.visits_of.Goals as goal
 pub loop-next-init : goal.loop-next-init
 loop-next-init c = (
   c.in_ok-all.ensures,
-  begins c.args.parents.now c.args.order.now c.new-visits.result.items c.new-coming.result.items c.put_first.new.coming.items c.deref.result.now c.in_ok-first.first.items c.new-visits.ensures.items c.new-coming.ensures.items c.deref.ensures.value c.in_ok-first.ensures c.in_ok-put_first.ensures,
+  begins c.args.parents.now c.args.order.now c.in_ok-visits.visits.items c.new-coming.result.items c.put_first.new.coming.items c.deref-2.result.now c.in_ok-first.first.items c.in_ok-visits.ensures.items c.new-coming.ensures.items c.deref-2.ensures.value c.in_ok-first.ensures c.in_ok-put_first.ensures,
 )
 
 pub loop-next-smaller : goal.loop-next-smaller

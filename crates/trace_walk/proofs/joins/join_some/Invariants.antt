@@ -1,7 +1,7 @@
 use Rattle.std.proofs.Common.{◌≡◌, [], take}
 use Rattle.std.specs.Prelude.{fold}
 use Rattle.trace_walk.specs.Joins.{gathered, plain_gathering, plain_joins}
-use Rattle.trace_walk.proofs.joins.join_all.Given as goal
+use Rattle.trace_walk.proofs.joins.join_some.Given as goal
 
 -- what was gathered so far
 abbrev pub invariant-loop-source : goal.invariant-loop-source
