@@ -1,5 +1,5 @@
 -- Reports have no float and do not nest deep, so what is written of them reads back.
-use Rattle.std.proofs.Common.{ℕ, Bool, true, false, List, Option, None, Some, cond, arith}
+use Rattle.std.proofs.Common.{ℕ, ◌≤◌, Bool, true, false, List, Option, None, Some, cond, arith}
 use Rattle.std.specs.Prelude.{IfSome}
 use Rattle.std.specs.Option.{option_map, option_and_then}
 use Rattle.act_expr.specs.declared.outcome.Outcome.{Outcome}
@@ -10,7 +10,8 @@ use Rattle.stage_ops.specs.declared.reason.Cause.TheVariants.{Created, After, In
 use Rattle.stage_ops.specs.declared.state.Done.{Done}
 use Rattle.stage_ops.specs.declared.state.Join.{Join}
 use Rattle.stage_ops.specs.declared.state.Join.TheVariants.{Waits, Returns, Cancelled, Throws}
-use Rattle.serde_json.specs.Data.{Data}
+use Rattle.serde_json.specs.Data.{Data, depth}
+use Rattle.serde_json.specs.Read.{max_depth}
 use Rattle.version_store.specs.declared.before.Before.{Before}
 use Rattle.version_store.specs.declared.before.Before.TheVariants as stood
 use Rattle.version_store.specs.Plain.{PlainVersion}
@@ -27,10 +28,13 @@ use Rattle.report_text.specs.Texts.{shift_at}
 use Rattle.report_json.specs.declared.entry.Entry.{Entry}
 use Rattle.report_json.specs.declared.entry.Entry.TheVariants.{Name, State, Times, Step, Change, Shift, ChangeAgainst, ShiftAgainst}
 use Rattle.report_json.specs.Entries.{entries, entry_at, entry_of}
-use Rattle.report_json.specs.Json.{count, object, outcome_json}
+use Rattle.report_json.specs.declared.line_lists.Listed.{Listed}
+use Rattle.report_json.specs.declared.line_lists.Listed.TheVariants as list
+use Rattle.report_json.specs.Json.{at_line, count, object, outcome_json}
+use Rattle.report_json.specs.Lists.{listed_json}
 use Rattle.report_json.specs.Reports.{against_members, all_members, blame_members, changes_members, comparison_json, drift_members, one_members, path_members, report_json, sweep_json, sweep_members, times_members, trials}
 use Rattle.report_json.specs.Stages.{before_json, cause_members, completion_members, join_members, kind_of_feed, old_and_new, shift_members, stage_members, state_members, step_members, there_json, timing_members, trial_members}
-use Rattle.report_json.proofs.Exact.{IsExact, count_exact, deeper, list_exact, null_exact, object_exact, optional_exact, outcome_exact, text_exact, value_exact}
+use Rattle.report_json.proofs.Exact.{IsExact, at_line_exact, count_exact, deeper, far_from_the_limit, list_exact, null_exact, object_exact, optional_exact, outcome_exact, text_exact, value_exact}
 
 -- ---- what is said of a stage
 
@@ -204,3 +208,14 @@ sweep_exact version target most stage = object_exact 4 (sweep_members version ta
 pub sweep_report_exact : (version : PlainVersion) (target : ℕ) (most : Option ℕ) → IfSome (sweep_json version target most) (IsExact 5)
 sweep_report_exact version target most =
     of_stage_exact (λ stage. object (sweep_members version target most stage)) (stage_at version.graph.places target) (sweep_exact version target most)
+
+-- ---- those that are lists of stages, with the number of the line that is answered
+
+listed_exact : (listed : Listed) (version : PlainVersion) → IsExact 5 (listed_json listed version)
+listed_exact list.All version = all_exact version
+listed_exact list.Times version = times_exact version
+listed_exact list.Changes version = changes_exact version
+listed_exact list.Drift version = drift_exact version
+
+pub listed_shallow : (line : Option ℕ) (listed : Listed) (version : PlainVersion) → depth (at_line line (listed_json listed version)) ≤ max_depth
+listed_shallow line listed version = (at_line_exact 126 line (listed_json listed version) (far_from_the_limit (listed_json listed version) (listed_exact listed version))).shallow

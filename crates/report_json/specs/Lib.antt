@@ -1,7 +1,9 @@
 pub mod Entries
 pub mod Forms
 pub mod Json
+pub mod Lists
 pub mod Objects
 pub mod Reports
 pub mod Stages
+pub mod Tokens
 pub mod Told

@@ -1,6 +1,6 @@
 //! The lists of the reports.
 ghost use Rattle.std.specs.Prelude.{◌≡◌, ◌++◌, [], IfOk, OnOk, map};
-ghost use Rattle.std.specs.List.{cons_option, range_with_len};
+ghost use Rattle.std.specs.List.{cons_option};
 ghost use Rattle.std.specs.Option.{option_map};
 ghost use Rattle.serde_json.specs.View.{view};
 ghost use Rattle.report_json.specs.Entries.{entries, entry_at, entry_of};
@@ -116,17 +116,42 @@ pub(crate) fn entries_of_all<R: StateRepresentation>(
 ) -> Result<Value, AllocError>
     ensures { IfOk result (λ value. view value ≡ entries entry version.now against.now (of_all_places version.now)) }
 {
-    let places = places(alloc, version.graph().len() as u32)?;
-    entries(alloc, entry, version, against, places.as_slice())
+    let mut values = Vec::new(alloc);
+    for place in 0..version.graph().len() as u32 {
+        let found = entry_at(alloc, entry, version, against, place)?;
+        push_found(&mut values, found)?;
+    }
+    Ok(Value::Array(values))
 }
 
-// The numbers of so many places.
-fn places(alloc: Global, count: u32) -> Result<Vec<u32>, AllocError>
-    ensures { IfOk result (λ places. places.items ≡ range_with_len 0 count) }
+/// Whether so few stages are touched that it takes less to bring them into the order of their places than to look at all.
+pub(crate) fn are_few_touched<R: StateRepresentation>(version: &Version<R>) -> bool {
+    version.touched().len() < version.graph().len() / 16
+}
+
+/// How much later or earlier than in the parent each stage completes that does so at another moment, by place.
+pub(crate) fn shifts<R: StateRepresentation>(
+    alloc: Global,
+    version: &Version<R>,
+) -> Result<Value, AllocError>
+    ensures { IfOk result (λ value. view value ≡ entries Entry.Shift version.now version.now (of_all_places version.now)) }
 {
-    let mut places = Vec::with_capacity(alloc, count as usize)?;
-    for place in 0..count {
-        places.push(place)?;
+    if are_few_touched(version) {
+        touched_shifts(alloc, version)
+    } else {
+        entries_of_all(alloc, Entry::Shift, version, version)
     }
-    Ok(places)
+}
+
+// The same. A stage that the edits don't touch completes as it did, so only the touched stages are looked at.
+fn touched_shifts<R: StateRepresentation>(
+    alloc: Global,
+    version: &Version<R>,
+) -> Result<Value, AllocError>
+    ensures { IfOk result (λ value. view value ≡ entries Entry.Shift version.now version.now (of_all_places version.now)) }
+{
+    let touched = version.touched_by_place(alloc)?;
+    // With the touched stages the version says that all others are as in its parent.
+    let _ = version.touched();
+    entries(alloc, Entry::Shift, version, version, touched.as_slice())
 }

@@ -5,6 +5,11 @@
 mod changes;
 mod entry;
 mod form;
+mod line;
+mod line_lists;
+mod line_reports;
+mod line_stages;
+mod line_values;
 mod lines;
 mod object;
 mod one;

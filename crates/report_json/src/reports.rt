@@ -6,7 +6,7 @@ ghost use Rattle.report_json.specs.Json.{count, object, optional};
 ghost use Rattle.report_json.specs.Reports.{against_members, all_members, changes_members, comparison_json, drift_members, report_json, times_members};
 ghost use Rattle.report_text.specs.declared.what.What.TheVariants.{Blame, One, Path};
 
-use crate::entry::{Entry, entries, entries_of_all};
+use crate::entry::{Entry, entries, entries_of_all, shifts};
 use crate::one::{blame_value, one_value, path_value, titled};
 use propagate::StateRepresentation;
 use report_text::{Comparison, What, mode_text};
@@ -69,7 +69,7 @@ fn drift_value<R: StateRepresentation>(
 ) -> Result<Value, AllocError>
     ensures { IfOk result (λ value. view value ≡ object (drift_members version.now)) }
 {
-    let stages = entries_of_all(alloc, Entry::Shift, version, version)?;
+    let stages = shifts(alloc, version)?;
     let mut object = titled(alloc, "drift", version)?;
     object.value("parent", parent_value(version))?;
     object.value("stages", stages)?;

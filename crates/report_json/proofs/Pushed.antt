@@ -1,0 +1,238 @@
+-- What was added to a line, token by token.
+use Rattle.std.proofs.Common.{◌≡◌, ℕ, suc, ◌+◌, ◌^◌, ◌<◌, ◌≤◌, max, ℤ, pos, negsuc, List, [], ◌∷◌, ◌++◌, length, take, get_or, Option, None, Some, Result, Ok, Err, OnOk, FitsSigned, w64, codes, decimal, refl, sym, ap, ap₂, ◌∙◌, subst, append_assoc, append-nil, arith}
+use Rattle.std.specs.Fmt.{signed_decimal}
+use Rattle.std.specs.List.{AllByRecursion, cons_option, flat_map, range_with_len}
+use Rattle.std.specs.Prelude.{filter_map, option_and_then, option_map}
+use Rattle.std.proofs.lemmas.List.{take_more}
+use Rattle.std.proofs.lemmas.List.Elements.{filter_map-append}
+use Rattle.json.specs.Json.{Json, if_last, value}
+use Rattle.json.specs.Lex.{tokens}
+use Rattle.json.specs.Print.{print}
+use Rattle.json.specs.Token.{Token, begin_array, begin_object, end_array, end_object, key}
+use Rattle.json.specs.Tree.{items_tokens, members_tokens, depth as json_depth, items_depth as json_items_depth, members_depth as json_members_depth}
+use Rattle.json.proofs.Printed.Trees.{value-json_tokens}
+use Rattle.serde_json.specs.Data as tree
+use Rattle.serde_json.specs.Data.{Data, null, boolean, number, string, array, Items, no_items, item, Members, no_members, member, put, depth, items_depth, members_depth}
+use Rattle.serde_json.specs.Find.{of_integer}
+use Rattle.serde_json.specs.Read.{max_depth, of_items, of_json, of_members, read}
+use Rattle.serde_json.specs.View.{items_of}
+use Rattle.serde_json.specs.Written.{compact_text, items_outline, members_outline, outline}
+use Rattle.serde_json.proofs.Numbers.{number_of-decimal, number_of-negative}
+use Rattle.serde_json.proofs.Texts.{print-outline}
+use Rattle.time_sweep.proofs.Hurrying.{range_more}
+use Rattle.report_json.specs.Json.{NamedValues, at_line, count, list, object, with}
+use Rattle.report_json.specs.Tokens.{ReadsBack, Tells, TellsItems, TellsMember, TellsRows, data_tokens, line_rows, members_in, rows_tokens}
+
+-- ---- numbers
+
+pub count_reads : (n : ℕ) → n < 2 ^ 64 → ReadsBack (count n)
+count_reads n h = ap (option_map number) (number_of-decimal n h)
+
+pub count_told : {E : Type 0} (r : Result (Unit {0}) E) (n : ℕ) (old new : List Token) → n < 2 ^ 64 → OnOk r (new ≡ old ++ Token.number (decimal n) ∷ []) → OnOk r (Tells (count n) old new)
+count_told (Ok done) n old new h told = record { tokens = told; reads = count_reads n h }
+count_told (Err fault) n old new h told = tt
+
+integer_reads : (z : ℤ) → FitsSigned w64 z → ReadsBack (number (of_integer z))
+integer_reads (pos n) h = ap (option_map number) (number_of-decimal n (omega (arith, h)))
+integer_reads (negsuc n) h = ap (option_map number) (number_of-negative n (omega (arith, h)))
+
+integer_tokens : (z : ℤ) → Token.number (signed_decimal z) ∷ [] ≡ data_tokens (number (of_integer z))
+integer_tokens (pos n) = refl
+integer_tokens (negsuc n) = refl
+
+pub integer_told : {E : Type 0} (r : Result (Unit {0}) E) (z same : ℤ) (old new : List Token) → FitsSigned w64 z → same ≡ z → OnOk r (new ≡ old ++ Token.number (signed_decimal same) ∷ [])
+    → OnOk r (Tells (number (of_integer z)) old new)
+integer_told (Ok done) z same old new h is told = record { tokens = told ∙ ap (λ w. old ++ Token.number (signed_decimal w) ∷ []) is ∙ ap (λ l. old ++ l) (integer_tokens z); reads = integer_reads z h }
+integer_told (Err fault) z same old new h is told = tt
+
+-- ---- members
+
+pub member_is : (name : List ℕ) (d e : Data) (old new : List Token) → d ≡ e → TellsMember name d old new → TellsMember name e old new
+member_is name d e old new is told = record { tokens = told.tokens ∙ ap (λ x. old ++ key name ∷ data_tokens x) is; reads = rw (← is) told.reads }
+
+pub named_told : (name : List ℕ) (d : Data) (old so_far new : List Token) → so_far ≡ old ++ key name ∷ [] → Tells d so_far new → TellsMember name d old new
+named_told name d old so_far new named told = record {
+  tokens = told.tokens ∙ ap (λ l. l ++ data_tokens d) named ∙ append_assoc old (key name ∷ []) (data_tokens d);
+  reads = told.reads;
+}
+
+pub one_row : (name : List ℕ) (d : Data) (old new : List Token) → TellsMember name d old new → TellsRows ((name, d) ∷ []) old new
+one_row name d old new told = record { tokens = told.tokens ∙ ap (λ l. old ++ key name ∷ l) (sym (append-nil (data_tokens d))); reads = (told.reads, tt) }
+
+rows_append : (xs ys : NamedValues) → rows_tokens (xs ++ ys) ≡ rows_tokens xs ++ rows_tokens ys
+rows_append [] ys = refl
+rows_append (x ∷ xs) ys = ap (λ l. (key x.0 ∷ data_tokens x.1) ++ l) (rows_append xs ys) ∙ sym (append_assoc (key x.0 ∷ data_tokens x.1) (rows_tokens xs) (rows_tokens ys))
+
+all_read : (xs ys : NamedValues) → AllByRecursion (λ m. ReadsBack m.1) xs → AllByRecursion (λ m. ReadsBack m.1) ys → AllByRecursion (λ m. ReadsBack m.1) (xs ++ ys)
+all_read [] ys h k = k
+all_read (x ∷ xs) ys h k = (h.0, all_read xs ys h.1 k)
+
+pub next_row : (rows : NamedValues) (name : List ℕ) (d : Data) (old so_far new : List Token) → TellsRows rows old so_far → TellsMember name d so_far new → TellsRows (rows ++ (name, d) ∷ []) old new
+next_row rows name d old so_far new first then =
+    let last : TellsRows ((name, d) ∷ []) so_far new = one_row name d so_far new then in record {
+      tokens = last.tokens ∙ ap (λ l. l ++ rows_tokens ((name, d) ∷ [])) first.tokens ∙ append_assoc old (rows_tokens rows) (rows_tokens ((name, d) ∷ [])) ∙ ap (λ l. old ++ l) (sym (rows_append rows ((name, d) ∷ [])));
+      reads = all_read rows ((name, d) ∷ []) first.reads last.reads;
+    }
+
+pub both_rows : (xs ys : NamedValues) (old so_far new : List Token) → TellsRows xs old so_far → TellsRows ys so_far new → TellsRows (xs ++ ys) old new
+both_rows xs ys old so_far new first then = record {
+  tokens =
+      then.tokens ∙ ap (λ l. l ++ rows_tokens ys) first.tokens ∙ append_assoc old (rows_tokens xs) (rows_tokens ys)
+      ∙ ap (λ l. old ++ l) (sym (rows_append xs ys));
+  reads = all_read xs ys first.reads then.reads;
+}
+
+pub no_rows_told : (old : List Token) → TellsRows [] old old
+no_rows_told old = record { tokens = sym (append-nil old); reads = tt }
+
+-- the number of the line, where there is one
+pub number_told : {E : Type 0} (r : Result (Unit {0}) E) (line : Option ℕ) (amount : ℕ) (old new : List Token) → line ≡ Some amount
+    → OnOk r (TellsMember (codes "line") (count amount) old new) → OnOk r (TellsRows (line_rows line) old new)
+number_told (Ok done) line amount old new is told = rw is (one_row (codes "line") (count amount) old new told)
+number_told (Err fault) line amount old new is told = tt
+
+-- ---- objects
+
+members_listed : (rows : NamedValues) → members_tokens (members_outline (members_in rows)) ≡ rows_tokens rows ++ end_object ∷ []
+members_listed [] = refl
+members_listed (row ∷ rows) = ap (λ l. key row.0 ∷ (data_tokens row.1 ++ l)) (members_listed rows) ∙ sym (append_assoc (key row.0 ∷ data_tokens row.1) (rows_tokens rows) (end_object ∷ []))
+
+members_read : (rows : NamedValues) (found : Members) → AllByRecursion (λ m. ReadsBack m.1) rows → of_members (members_outline (members_in rows)) found ≡ Some (with found rows)
+members_read [] found h = refl
+members_read (row ∷ rows) found h = rw h.0 (members_read rows (put row.0 row.1 found) h.1)
+
+module _ (rows : NamedValues) (sorted : with no_members rows ≡ members_in rows) where
+  object_of : (ms : Members) (old one two three : List Token) → ms ≡ members_in rows
+      → one ≡ old ++ begin_object ∷ [] → TellsRows rows one two → three ≡ two ++ end_object ∷ [] → Tells (tree.object ms) old three
+  object_of ms old one two three is begun told ended = record {
+    tokens =
+        ended ∙ ap (λ l. l ++ end_object ∷ []) (told.tokens ∙ ap (λ l. l ++ rows_tokens rows) begun) ∙ in_a_row old (rows_tokens rows)
+        ∙ ap (λ l. old ++ begin_object ∷ l) (sym (members_listed rows)) ∙ ap (λ ms. old ++ data_tokens (tree.object ms)) (sym is);
+    reads =
+        ap (λ ms. of_json (outline (tree.object ms))) is ∙ ap (option_map tree.object) (members_read rows no_members told.reads)
+        ∙ ap (λ ms. Some (tree.object ms)) (sorted ∙ sym is);
+  } where
+    in_a_row : (old rows : List Token) → ((old ++ begin_object ∷ []) ++ rows) ++ end_object ∷ [] ≡ old ++ begin_object ∷ (rows ++ end_object ∷ [])
+    in_a_row old rows = simp append_assoc
+
+  -- the object of these members, in the order of their names
+  pub object_told : {E : Type 0} (r : Result (Unit {0}) E) (named : NamedValues) (old one two three : List Token) → with no_members named ≡ members_in rows
+      → one ≡ old ++ begin_object ∷ [] → TellsRows rows one two → OnOk r (three ≡ two ++ end_object ∷ []) → OnOk r (Tells (object named) old three)
+  object_told (Ok done) named old one two three is begun told ended = object_of (with no_members named) old one two three is begun told ended
+  object_told (Err fault) named old one two three is begun told ended = tt
+
+-- the same with the number of the line that is answered, whose name is before all others
+pub report_told : {E : Type 0} (r : Result (Unit {0}) E) (line : Option ℕ) (named rows : NamedValues) (old one two three : List Token) → with no_members named ≡ members_in rows
+    → with no_members rows ≡ members_in rows
+    → ((amount : ℕ) → put (codes "line") (count amount) (with no_members named) ≡ members_in ((codes "line", count amount) ∷ rows))
+    → ((amount : ℕ) → with no_members ((codes "line", count amount) ∷ rows) ≡ members_in ((codes "line", count amount) ∷ rows))
+    → one ≡ old ++ begin_object ∷ [] → TellsRows (line_rows line ++ rows) one two → OnOk r (three ≡ two ++ end_object ∷ []) → OnOk r (Tells (at_line line (object named)) old three)
+report_told (Err fault) line named rows old one two three is sorted first stays begun told ended = tt
+report_told (Ok done) None named rows old one two three is sorted first stays begun told ended = object_of rows sorted _ old one two three is begun told ended
+report_told (Ok done) (Some amount) named rows old one two three is sorted first stays begun told ended =
+    object_of ((codes "line", count amount) ∷ rows) (stays amount) _ old one two three (first amount) begun told ended
+
+-- ---- lists
+
+pub no_items_told : (old : List Token) → TellsItems [] old old
+no_items_told old = record { tokens = sym (append-nil old); reads = tt }
+
+data_append : (xs ys : List Data) → flat_map data_tokens (xs ++ ys) ≡ flat_map data_tokens xs ++ flat_map data_tokens ys
+data_append [] ys = refl
+data_append (x ∷ xs) ys = ap (λ l. data_tokens x ++ l) (data_append xs ys) ∙ sym (append_assoc (data_tokens x) (flat_map data_tokens xs) (flat_map data_tokens ys))
+
+items_read : (xs ys : List Data) → AllByRecursion ReadsBack xs → AllByRecursion ReadsBack ys → AllByRecursion ReadsBack (xs ++ ys)
+items_read [] ys h k = k
+items_read (x ∷ xs) ys h k = (h.0, items_read xs ys h.1 k)
+
+both_told : (xs ys : List Data) (old so_far new : List Token) → TellsItems xs old so_far → TellsItems ys so_far new → TellsItems (xs ++ ys) old new
+both_told xs ys old so_far new first then = record {
+  tokens =
+      then.tokens ∙ ap (λ l. l ++ flat_map data_tokens ys) first.tokens ∙ append_assoc old (flat_map data_tokens xs) (flat_map data_tokens ys)
+      ∙ ap (λ l. old ++ l) (sym (data_append xs ys));
+  reads = items_read xs ys first.reads then.reads;
+}
+
+pub begun_told : (old new : List Token) → new ≡ old → TellsItems [] old new
+begun_told old new is = rw is (no_items_told old)
+
+pub items_are : {E : Type 0} (r : Result (Unit {0}) E) (found same : Option Data) (old new : List Token) → found ≡ same → OnOk r (TellsItems (cons_option found []) old new)
+    → OnOk r (TellsItems (cons_option same []) old new)
+items_are r found same old new is told = subst (λ (here : Option Data). OnOk r (TellsItems (cons_option here []) old new)) is told
+
+-- one more place of a list
+pub next_told : {X : Type 0} (f : X → Option Data) (places : List X) (i : ℕ) (d : X) (old so_far new : List Token) → i < length places
+    → TellsItems (filter_map f (take i places)) old so_far → TellsItems (cons_option (f (get_or places i d)) []) so_far new → TellsItems (filter_map f (take (i + 1) places)) old new
+next_told f places i d old so_far new within first then =
+    subst (λ (ds : List Data). TellsItems ds old new) (sym (ap (filter_map f) (take_more places i d within) ∙ filter_map-append f (take i places) (get_or places i d ∷ [])))
+    (both_told (filter_map f (take i places)) (cons_option (f (get_or places i d)) []) old so_far new first then)
+
+-- one more place
+pub next_place_told : (f : ℕ → Option Data) (place : ℕ) (old so_far new : List Token) → TellsItems (filter_map f (range_with_len 0 place)) old so_far
+    → TellsItems (cons_option (f place) []) so_far new → TellsItems (filter_map f (range_with_len 0 (place + 1))) old new
+next_place_told f place old so_far new first then =
+    subst (λ (ds : List Data). TellsItems ds old new) (sym (ap (filter_map f) (range_more place) ∙ filter_map-append f (range_with_len 0 place) (place ∷ [])))
+    (both_told (filter_map f (range_with_len 0 place)) (cons_option (f place) []) old so_far new first then)
+
+items_listed : (ds : List Data) → items_tokens (items_outline (items_of ds)) ≡ flat_map data_tokens ds ++ end_array ∷ []
+items_listed [] = refl
+items_listed (d ∷ ds) = ap (λ l. data_tokens d ++ l) (items_listed ds) ∙ sym (append_assoc (data_tokens d) (flat_map data_tokens ds) (end_array ∷ []))
+
+items_made : (ds : List Data) → AllByRecursion ReadsBack ds → of_items (items_outline (items_of ds)) ≡ Some (items_of ds)
+items_made [] h = refl
+items_made (d ∷ ds) h = rw (h.0, items_made ds h.1) refl
+
+list_of : (ds : List Data) (old one two three : List Token) → one ≡ old ++ begin_array ∷ [] → TellsItems ds one two → three ≡ two ++ end_array ∷ [] → Tells (list ds) old three
+list_of ds old one two three begun told ended = record {
+  tokens =
+      ended ∙ ap (λ l. l ++ end_array ∷ []) (told.tokens ∙ ap (λ l. l ++ flat_map data_tokens ds) begun) ∙ in_a_row old (flat_map data_tokens ds)
+      ∙ ap (λ l. old ++ begin_array ∷ l) (sym (items_listed ds));
+  reads = ap (option_map array) (items_made ds told.reads);
+} where
+  in_a_row : (old items : List Token) → ((old ++ begin_array ∷ []) ++ items) ++ end_array ∷ [] ≡ old ++ begin_array ∷ (items ++ end_array ∷ [])
+  in_a_row old items = simp append_assoc
+
+-- the list of these items
+pub list_told : {E : Type 0} (r : Result (Unit {0}) E) (ds same : List Data) (old one two three : List Token) → ds ≡ same → one ≡ old ++ begin_array ∷ [] → TellsItems ds one two
+    → OnOk r (three ≡ two ++ end_array ∷ []) → OnOk r (Tells (list same) old three)
+list_told (Ok done) ds same old one two three is begun told ended = subst (λ (items : List Data). Tells (list items) old three) is (list_of ds old one two three begun told ended)
+list_told (Err fault) ds same old one two three is begun told ended = tt
+
+-- one item
+pub one_item : {E : Type 0} (r : Result (Unit {0}) E) (d : Data) (found : Option Data) (old new : List Token) → found ≡ Some d → OnOk r (Tells d old new)
+    → OnOk r (TellsItems (cons_option found []) old new)
+one_item (Ok done) d found old new is told = rw is (record { tokens = told.tokens ∙ ap (λ l. old ++ l) (sym (append-nil (data_tokens d))); reads = (told.reads, tt) })
+one_item (Err fault) d found old new is told = tt
+
+-- ---- the line of an object, and what is read of it
+
+mutual
+  outline_depth : (d : Data) → json_depth (outline d) ≡ depth d
+  outline_depth null = refl
+  outline_depth (boolean b) = refl
+  outline_depth (number n) = refl
+  outline_depth (string s) = refl
+  outline_depth (array ds) = ap suc (items_outline_depth ds)
+  outline_depth (tree.object ms) = ap suc (members_outline_depth ms)
+
+  items_outline_depth : (ds : Items) → json_items_depth (items_outline ds) ≡ items_depth ds
+  items_outline_depth no_items = refl
+  items_outline_depth (item d ds) = ap₂ max (outline_depth d) (items_outline_depth ds)
+
+  members_outline_depth : (ms : Members) → json_members_depth (members_outline ms) ≡ members_depth ms
+  members_outline_depth no_members = refl
+  members_outline_depth (member name d ms) = ap₂ max (outline_depth d) (members_outline_depth ms)
+
+-- what is read where this is found
+abbrev whole : Option (Json × List Token) → Option Data
+whole found = option_and_then of_json (option_and_then (λ p. if_last p.0 p.1) found)
+
+pub text_of_told : (d : Data) (line : List Token) → Tells d [] line → print line ≡ compact_text d
+text_of_told d line told = ap print told.tokens ∙ print-outline d
+
+pub told_reads_back : (d : Data) (line : List Token) → Tells d [] line → tokens (print line) ≡ line → depth d ≤ max_depth → read (compact_text d) ≡ Some d
+told_reads_back d line told same shallow =
+    ap read (sym (text_of_told d line told))
+    ∙ ap (λ found. whole (value max_depth found)) (same ∙ told.tokens ∙ sym (append-nil (data_tokens d)))
+    ∙ ap whole (value-json_tokens (outline d) max_depth [] (let same_depth = outline_depth d in omega (arith, same_depth, shallow)))
+    ∙ told.reads

@@ -1,0 +1,70 @@
+-- A stage that the edits don't touch completes as in the parent, so the report of moved stages needs only the touched ones, by place.
+use Rattle.std.proofs.Common.{ℕ, ◌≡◌, Bool, true, false, List, [], ◌∷◌, Option, Some, None, refl, sym, ap, ◌∙◌, inl, inr, arith}
+use Rattle.std.specs.Prelude.{IfSome, filter, filter_map, is_some, nat_lt}
+use Rattle.std.specs.List.{cons_option}
+use Rattle.std.specs.Option.{option_and_then, option_map}
+use Rattle.std.proofs.lemmas.Bool.{cases_Bool, cond-false, cond-true, le-ltb}
+use Rattle.serde_json.specs.Data.{Data}
+use Rattle.stage_graph.specs.declared.stage.Stage.{Stage}
+use Rattle.stage_graph.specs.Plain.{all_places, stage_at}
+use Rattle.stage_ops.specs.declared.state.Done.{Done}
+use Rattle.stage_ops.specs.declared.state.State.{State}
+use Rattle.rank_order.specs.Lists.{is_among}
+use Rattle.version_store.specs.Plain.{Origin, PlainVersion}
+use Rattle.version_store.specs.Queries.{before, held, held_by, moment_in, state_of, touched_by_place, touched_in, touched_of, KeepsOthers}
+use Rattle.report_text.specs.declared.shift.Shift.{Shift as Moved}
+use Rattle.report_text.specs.Texts.{shift_between, shift_since}
+use Rattle.report_json.specs.declared.entry.Entry.TheVariants.{Shift}
+use Rattle.report_json.specs.Entries.{entries, entry_at, entry_of}
+use Rattle.report_json.specs.Json.{list, object}
+use Rattle.report_json.specs.Reports.{of_all_places}
+use Rattle.report_json.specs.Stages.{shift_members}
+
+-- ---- a stage that is not touched has not moved
+
+not_below : (tick : ℕ) → nat_lt tick tick ≡ false
+not_below tick = le-ltb tick tick (omega arith)
+
+same_moment : (tick : ℕ) → shift_between tick tick ≡ None
+same_moment tick = by_test (nat_lt tick tick) (not_below tick) refl where
+  by_test : (b : Bool) → b ≡ false → nat_lt tick tick ≡ b → shift_between tick tick ≡ None
+  by_test true none is = cc
+  by_test false none is = cc
+
+same_state : (done : Option Done) → shift_since (held done) (option_map (λ (done : Done). done.moment) done) ≡ None
+same_state None = refl
+same_state (Some done) = same_moment done.moment
+
+module _ (version : PlainVersion) (keeps : IfSome version.origin (λ origin. KeepsOthers origin version.graph)) where
+  by_origin : (origin : Option Origin) → IfSome origin (λ origin. KeepsOthers origin version.graph) → (place : ℕ) (stage : Stage)
+      → is_among place (touched_in origin version.graph) ≡ false → stage_at version.graph.places place ≡ Some stage → shift_since (before origin place) (moment_in (state_of version.graph place)) ≡ None
+  by_origin None others place stage elsewhere stands = refl
+  by_origin (Some origin) others place stage elsewhere stands =
+      let (same_stage, same) = others place (ap is_some stands) elsewhere in
+      ap (λ (there : Option Stage). shift_since (held_by origin.graph place there) (moment_in (state_of version.graph place))) (sym same_stage ∙ stands)
+      ∙ ap (λ (state : State). shift_since (held state.done) (moment_in (state_of version.graph place))) (sym same)
+      ∙ same_state (state_of version.graph place).done
+
+  no_entry : (place : ℕ) → is_among place (touched_of version) ≡ false → entry_at Shift version version place ≡ None
+  no_entry place elsewhere = by_stage (stage_at version.graph.places place) refl where
+    by_stage : (here : Option Stage) → stage_at version.graph.places place ≡ here → option_and_then (entry_of Shift version version place) here ≡ None
+    by_stage None empty = refl
+    by_stage (Some stage) stands =
+        ap (option_map (λ (moved : Moved). object (shift_members stage moved))) (by_origin version.origin keeps place stage elsewhere stands)
+
+-- ---- places with no entry can be filtered out
+
+entries_of : (f : ℕ → Option Data) (test : ℕ → Bool) → ((place : ℕ) → test place ≡ false → f place ≡ None) → (places : List ℕ) → filter_map f (filter test places) ≡ filter_map f places
+entries_of f test none [] = refl
+entries_of f test none (place ∷ places) = elim (cases_Bool (test place)) [
+  | inl passes ↦ ap (filter_map f) (cond-true (test place) (place ∷ filter test places) (filter test places) passes) ∙ ap (λ rest. cons_option (f place) rest) (entries_of f test none places)
+  | inr fails ↦
+      ap (filter_map f) (cond-false (test place) (place ∷ filter test places) (filter test places) fails) ∙ entries_of f test none places
+      ∙ ap (λ here. cons_option here (filter_map f places)) (sym (none place fails))
+]
+
+-- the touched places give what all places give
+pub shifts_of_touched : (version : PlainVersion) → IfSome version.origin (λ origin. KeepsOthers origin version.graph)
+    → entries Shift version version (touched_by_place version) ≡ entries Shift version version (of_all_places version)
+shifts_of_touched version keeps =
+    ap list (entries_of (entry_at Shift version version) (λ place. is_among place (touched_of version)) (no_entry version keeps) (all_places version.graph.places))

@@ -1,0 +1,9 @@
+use Rattle.std.proofs.Common.{◌∷◌, [], refl}
+use Rattle.report_json.specs.Json.{value_json}
+use Rattle.report_json.proofs.Pushed.{object_told, one_row}
+use Rattle.report_json.proofs.line_values.push_one_value.Goals as goal
+
+pub returns : goal.returns
+returns c =
+    let rows = (c.args.name.now, value_json c.args.content) ∷ [] in
+    object_told rows refl c.end_object.result rows _ _ _ _ refl c.in_ok-begin_object.ensures (one_row _ _ _ _ c.in_ok-stage_value.ensures) c.end_object.ensures
