@@ -5,7 +5,7 @@
 //! toward zero. Operands are evaluated from left to right, and the first throw is the answer.
 ghost use Rattle.std.specs.Prelude.{◌≡◌, ◌≤◌, ◌↔◌, IfOk, OnOk, IsTrue};
 ghost use Rattle.act_expr.specs.Expression.{depth, nodes, cause_is, throw};
-ghost use Rattle.act_expr.specs.Forms.{tree, IsMade};
+ghost use Rattle.act_expr.specs.Forms.{tree, kind_of, number_of, IsMade};
 ghost use Rattle.act_expr.specs.Meaning.{meaning, on_values, on_numbers, check, fault_number};
 ghost use Rattle.act_expr.specs.Throwing.{as_answer, name_of};
 
@@ -97,10 +97,30 @@ pub enum ExprFault {
 #[derive(Drop)]
 pub struct Expr {
     form: Arc<Form>,
-    /// How deeply the forms are nested.
-    levels: u32,
+    /// The number, where the form is the literal that is one.
+    number: i64,
     /// How many nodes there are; those of a shared part count as often as it is in the tree.
     forms: u32,
+    /// How deeply the forms are nested.
+    levels: u16,
+    /// What the form is, if it is a literal or an argument. Whoever owns an operand has this at hand, whereas the form lies in
+    /// memory of its own, and to wait for that is most of the time of an evaluation.
+    kind: Kind,
+}
+
+/// What an expression keeps of its form beside it.
+#[derive(Clone, Copy)]
+enum Kind {
+    /// The literal null.
+    Null,
+    /// A literal that is a number.
+    Number,
+    /// The first argument.
+    First,
+    /// The second argument.
+    Second,
+    /// Any other form.
+    Other,
 }
 
 /// The outermost form of an expression, with its operands.
@@ -135,11 +155,11 @@ impl Model for Expr {
 
     ghost use Rattle.std.specs.Prelude.{◌≡◌};
     ghost use Rattle.act_expr.specs.Expression.{depth};
-    ghost use Rattle.act_expr.specs.Forms.{tree, IsMade};
+    ghost use Rattle.act_expr.specs.Forms.{tree, kind_of, number_of, IsMade};
 
     ghost view = { λ e. tree e.form.value };
 
-    ghost invariant = { λ e. (e.levels ≡ depth (tree e.form.value)) × (e.forms ≡ nodes (tree e.form.value)) × IsMade (tree e.form.value) };
+    ghost invariant = { λ e. (e.levels ≡ depth (tree e.form.value)) × (e.forms ≡ nodes (tree e.form.value)) × (e.kind ≡ kind_of (tree e.form.value)) × (e.number ≡ number_of (tree e.form.value)) × IsMade (tree e.form.value) };
 
     ghost size = { nodes };
 
@@ -161,11 +181,15 @@ impl Expr {
         if levels > MOST_MADE_DEPTH || forms > MOST_MADE_NODES {
             return Err(AllocError);
         }
+        let kind = form.kind();
+        let number = form.number();
         let form = Arc::new(alloc, form)?;
         Ok(Expr {
             form,
-            levels,
+            number,
             forms,
+            levels: levels as u16,
+            kind,
         })
     }
 
@@ -212,7 +236,7 @@ impl Expr {
     pub fn eval(&self, args: &Args) -> Answer
         ensures { result ≡ meaning self.now args.now }
     {
-        match self.value(args) {
+        match self.operand(args) {
             Ok(value) => Answer::Gives(value),
             Err(thrown) => Answer::Throws(thrown.name()),
         }
@@ -223,7 +247,7 @@ impl Expr {
         ensures depth { result ≡ depth self.now }
         ensures made { IsMade self.now }
     {
-        self.levels
+        u32::from(self.levels)
     }
 
     /// How many nodes there are.
@@ -234,7 +258,25 @@ impl Expr {
         self.forms
     }
 
+    /// The value of an operand, or what is thrown instead. Half of the nodes of a tree and more are literals and arguments, which
+    /// [`Expr::value`] would be called for, and would load from memory of their own; their values are taken here, from what the
+    /// operand keeps beside its form.
+    #[cycle(value)]
+    #[inline(always)]
+    fn operand<'a>(&'a self, args: &Args) -> Result<Value, Thrown<'a>>
+        ensures { as_answer result ≡ meaning self.now args.now }
+    {
+        match self.kind {
+            Kind::Null => Ok(Value::Null),
+            Kind::Number => Ok(Value::Num(self.number)),
+            Kind::First => Ok(args.first),
+            Kind::Second => Ok(args.second),
+            Kind::Other => self.value(args),
+        }
+    }
+
     /// The value, or what is thrown instead.
+    #[cycle(value)]
     fn value<'a>(&'a self, args: &Args) -> Result<Value, Thrown<'a>>
         ensures { as_answer result ≡ meaning self.now args.now }
     {
@@ -243,17 +285,17 @@ impl Expr {
             Form::Argument(Position::First) => Ok(args.first),
             Form::Argument(Position::Second) => Ok(args.second),
             Form::Binary(operator, left, right) => {
-                let left = left.value(args)?;
-                let right = right.value(args)?;
+                let left = left.operand(args)?;
+                let right = right.operand(args)?;
                 operator.on_values(left, right)
             }
-            Form::If(condition, first, second) => match condition.value(args)? {
+            Form::If(condition, first, second) => match condition.operand(args)? {
                 Value::Null => Err(Thrown::NullPointer),
-                Value::Num(0) => second.value(args),
-                Value::Num(_) => first.value(args),
+                Value::Num(0) => second.operand(args),
+                Value::Num(_) => first.operand(args),
             },
             Form::IsNull(operand) => {
-                let value = operand.value(args)?;
+                let value = operand.operand(args)?;
                 Ok(Value::truth(matches!(value, Value::Null)))
             }
             Form::Failed => Ok(Value::truth(args.failure.is_some())),
@@ -290,8 +332,10 @@ impl Clone for Expr {
     fn clone(&self) -> Result<Expr, AllocError> {
         Ok(Expr {
             form: Arc::try_clone(&self.form)?,
-            levels: self.levels,
+            number: self.number,
             forms: self.forms,
+            levels: self.levels,
+            kind: self.kind,
         })
     }
 }
@@ -309,6 +353,29 @@ impl Form {
         ensures { IfOk result (λ form. tree form ≡ throw name) }
     {
         Ok(Form::Throw(Box::new(alloc, name)?))
+    }
+
+    /// What an expression of this form keeps of it.
+    fn kind(&self) -> Kind
+        ensures { result ≡ kind_of (tree self.now) }
+    {
+        match self {
+            Form::Literal(Value::Null) => Kind::Null,
+            Form::Literal(Value::Num(_)) => Kind::Number,
+            Form::Argument(Position::First) => Kind::First,
+            Form::Argument(Position::Second) => Kind::Second,
+            _ => Kind::Other,
+        }
+    }
+
+    /// The number that a literal is; 0 for any other form.
+    fn number(&self) -> i64
+        ensures { result ≡ number_of (tree self.now) }
+    {
+        match self {
+            Form::Literal(Value::Num(number)) => *number,
+            _ => 0,
+        }
     }
 
     /// The depth of the expression of this form.
