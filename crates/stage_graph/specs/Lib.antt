@@ -1,5 +1,6 @@
 pub mod Operations
 pub mod Plain
+pub mod PlaceLists
 pub mod Checks
 pub mod EditLists
 pub mod Numbers

@@ -129,14 +129,14 @@ impl NameTable {
         requires { (name : List ℕ) → unwrap_or (found self.now name) 0 < 2 ^ 32 }
         ensures { IfOk result (λ places. places ≡ known_places (found self.now) names.now) }
     {
-        let mut places = Vec::with_capacity(alloc, names.as_slice().len())?;
+        let mut places = Places::with_capacity(alloc, names.as_slice().len())?;
         for name in names.as_slice() {
             let Some(place) = self.get(name.as_str()) else {
                 return Ok(None);
             };
             places.push(place as u32)?;
         }
-        Ok(Some(Places::from_vec(places)))
+        Ok(Some(places))
     }
 
     /// The places of what a stage is fed by, its sources and its inner stages, if each of them has one.

@@ -13,28 +13,32 @@ use std::alloc::{AllocError, Global};
 use std::marker::Model;
 
 /// A live stage of a graph. Its feeds are its sources and then its inner stages.
+///
+/// The fields lie in memory in this order. Those that an evaluation reads of each stage stand together at the front, up
+/// to the operation's tag, and the pins together at the end, where the large outcome begins with its tag: so the names of
+/// exceptions that an operation and an outcome have room for are passed over, and few cache lines are read.
 #[derive(Drop)]
 pub struct Stage {
     /// Where it stands in its graph.
     pub place: u32,
-    pub name: Name,
-    pub op: Op,
-    /// The stages that it waits for, in order.
-    pub sources: Places,
-    /// The stages of which a compose operation picks one.
-    pub inner: Places,
     /// The tick at which the stage was made.
     pub created: u64,
     /// How many ticks the action waits in a queue.
     pub queued: u64,
     /// How many ticks the action runs.
     pub runs: u64,
+    /// The stages that it waits for, in order.
+    pub sources: Places,
     pub action: Option<Expr>,
-    /// The pinned outcome, which replaces the computed one.
-    pub pin_result: Option<Outcome>,
+    pub ends: Ends,
+    pub op: Op,
+    /// The stages of which a compose operation picks one.
+    pub inner: Places,
+    pub name: Name,
     /// The pinned moment of completion, in ticks, which replaces the computed one.
     pub pin_moment: Option<u64>,
-    pub ends: Ends,
+    /// The pinned outcome, which replaces the computed one.
+    pub pin_result: Option<Outcome>,
 }
 
 /// A stage with names instead of places.

@@ -57,3 +57,12 @@ returns-clause-one_duration g c =
     let all : take c.loop-place.place-index order ≡ order = take_all c.loop-place.place-index order c.loop-place-test.false in
     told_one_duration step places c.loop-place.answers
     (whole step places order first c.loop-place.answers (subst (λ done. AreSoFar step places done c.loop-place.answers) all c.loop-place.invariant.so_far)) mode
+
+pub returns-clause-answers : goal.returns-clause-answers
+returns-clause-answers g c =
+    let step = g.O.StageOps.step c.args.ops.now c.args.graph.now.mode in
+    let places = c.args.graph.now.places in
+    let order = c.as_slice-place-items.result.now in
+    let first : IsFeedsFirst places order = rw c.as_slice-place-items.ensures c.in_ok-order.ensures in
+    let all : take c.loop-place.place-index order ≡ order = take_all c.loop-place.place-index order c.loop-place-test.false in
+    whole step places order first c.loop-place.answers (subst (λ done. AreSoFar step places done c.loop-place.answers) all c.loop-place.invariant.so_far)
