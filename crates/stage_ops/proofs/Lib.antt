@@ -7,3 +7,4 @@ pub mod OneDurationLemmas
 pub mod Accounting
 pub mod OpenLemmas
 pub mod ReasonsLemmas
+pub mod UsualLemmas

@@ -1,5 +1,5 @@
--- A stage that has neither a pin nor an end, whose sources are normal and whose action gives a value. Only private contracts use it.
-use Rattle.std.specs.Prelude.{ℕ, ◌≡◌, max, List, [], ◌∷◌, Option, Some, None}
+-- A stage that has neither a pin nor an end, whose sources are normal and whose action, if any, gives a value. Only private contracts use it.
+use Rattle.std.specs.Prelude.{ℕ, ◌≡◌, max, List, [], ◌∷◌, Option, Some, None, true}
 use Rattle.act_expr.specs.declared.outcome.Mode.{Mode}
 use Rattle.act_expr.specs.declared.outcome.Value.{Value}
 use Rattle.act_expr.specs.declared.outcome.Outcome.TheVariants.{Value as Holds}
@@ -12,20 +12,25 @@ use Rattle.stage_ops.specs.declared.state.State.{State}
 use Rattle.stage_ops.specs.declared.usual.Normal.{Normal}
 use Rattle.stage_ops.specs.declared.usual.Returned.{Returned}
 use Rattle.stage_ops.specs.States.{Completion}
-use Rattle.stage_ops.specs.Sources.{source_at}
+use Rattle.stage_ops.specs.Sources.{source_at, completed, have_completed, latest, earliest_failed}
 use Rattle.stage_ops.specs.Running.{start_of, end_of}
+use Rattle.stage_ops.specs.AfterOne.{after_value}
 use Rattle.stage_ops.specs.Natural.{progress_of}
 use Rattle.stage_ops.specs.Java.{java_step}
 
-abbrev pub as_source : ℕ → Normal → Source
-as_source place normal = record { place = place; outcome = Holds normal.value; moment = normal.moment }
+abbrev pub as_source : Normal → Source
+as_source normal = record { place = normal.place; outcome = Holds normal.value; moment = normal.moment }
 
 -- the action runs at this trigger, and the stage completes with this value when it ends
 abbrev pub return_after : Stage → ℕ → Value → Returned
-return_after stage trigger value = record { value = value; moment = end_of stage trigger; start = start_of stage trigger }
+return_after stage trigger value = record { value = value; moment = end_of stage trigger; start = Some (start_of stage trigger) }
+
+-- a value passes at this trigger, and no action runs
+abbrev pub pass_at : ℕ → Value → Returned
+pass_at trigger value = record { value = value; moment = trigger; start = None }
 
 abbrev pub as_done : Returned → Done
-as_done returned = record { outcome = Holds returned.value; moment = returned.moment; from = None; start = Some returned.start }
+as_done returned = record { outcome = Holds returned.value; moment = returned.moment; from = None; start = returned.start }
 
 -- the state of a stage that has read its sources and has this completion
 abbrev pub state_after : Returned → State
@@ -35,13 +40,17 @@ state_after returned = record { done = Some (as_done returned); reads = Sources 
 abbrev pub IsProgress : Stage → (ℕ → Option Completion) → Returned → Type 0
 IsProgress stage inputs returned = (mode : Mode) → progress_of stage.op mode stage inputs ≡ Completes (as_done returned)
 
--- after one normal source with this value the stage completes with its own one
-abbrev pub IsOwnAfterOne : Stage → Value → Value → Type 0
-IsOwnAfterOne stage value own = (inputs : ℕ → Option Completion) (place moment : ℕ) → stage.sources ≡ place ∷ []
-    → source_at inputs place ≡ Some (record { place = place; outcome = Holds value; moment = moment })
-    → IsProgress stage inputs (return_after stage (max stage.created moment) own)
+-- all of these sources are normal, and the last of them and the creation is at this moment
+pub record AreNormal (created : ℕ) (inputs : ℕ → Option Completion) (places : List ℕ) (trigger : ℕ) : Type 0 where
+  pub all : have_completed inputs places ≡ true
+  pub last : trigger ≡ latest created (completed inputs places)
+  pub normal : earliest_failed (completed inputs places) ≡ None
 
--- the same after two of them
+-- decided by a source with this value, the stage completes so, in either mode
+abbrev pub IsAfterValue : Stage → ℕ → Value → Returned → Type 0
+IsAfterValue stage trigger value returned = (mode : Mode) → after_value stage.op mode stage trigger value ≡ Completes (as_done returned)
+
+-- after two normal sources with these values the stage completes with its own one
 abbrev pub IsOwnAfterTwo : Stage → Value → Value → Value → Type 0
 IsOwnAfterTwo stage value other own = (inputs : ℕ → Option Completion) (place second moment later : ℕ) → stage.sources ≡ place ∷ second ∷ []
     → source_at inputs place ≡ Some (record { place = place; outcome = Holds value; moment = moment })

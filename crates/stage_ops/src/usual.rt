@@ -1,16 +1,20 @@
-//! The usual stage: it has neither a pin nor an end, it waits for one or two stages that completed with values, and its
-//! action gives a value.
+//! The usual stage: it has neither a pin nor an end, none of the sources that it waits for has failed, and its action, if
+//! it runs one, gives a value.
 //!
 //! An outcome has room for the name of an exception, so it is large. Of such a stage only values are passed on; what it
 //! completes with is what `progress_of` says, which is asked of any other stage.
 ghost use Rattle.std.specs.Prelude.{◌≡◌, ◌≤◌, ◌<◌, ◌^◌, [], ◌∷◌, All, Some, IfSome, IsTrue, length};
+ghost use Rattle.std.specs.Option.{option_map};
 ghost use Rattle.act_expr.specs.declared.expr.Answer.TheVariants.{Gives};
+ghost use Rattle.stage_graph.specs.declared.op.Op.TheVariants.{AllOf};
 ghost use Rattle.stage_ops.specs.Actions.{answer_of, two_values};
 ghost use Rattle.stage_ops.specs.Among.{IsLimited};
 ghost use Rattle.stage_ops.specs.States.{seen_of, seen_at, state_at, IsBy};
 ghost use Rattle.stage_ops.specs.Running.{end_of};
-ghost use Rattle.stage_ops.specs.Sources.{source_at};
-ghost use Rattle.stage_ops.specs.Usual.{as_source, return_after, state_after, IsOwnAfterOne, IsOwnAfterTwo, IsPlain, IsProgress, IsUsual};
+ghost use Rattle.stage_ops.specs.Earliest.{earliest};
+ghost use Rattle.stage_ops.specs.Sources.{source_at, completed, moment_of};
+ghost use Rattle.stage_ops.specs.Waiting.{sooner_of};
+ghost use Rattle.stage_ops.specs.Usual.{as_source, pass_at, return_after, state_after, AreNormal, IsAfterValue, IsOwnAfterTwo, IsPlain, IsProgress, IsUsual};
 
 use crate::actions::{answer_of, two_values};
 use crate::ops::Look;
@@ -21,16 +25,17 @@ use stage_graph::{Op, Stage};
 /// A source that has completed with a value.
 #[derive(Clone, Copy)]
 pub(crate) struct Normal {
+    pub(crate) place: u32,
     pub(crate) value: Value,
     pub(crate) moment: u64,
 }
 
-/// A completion with a value, after an action.
+/// A completion with a value, and when its action started, if one ran.
 #[derive(Clone, Copy)]
 pub(crate) struct Returned {
     pub(crate) value: Value,
     pub(crate) moment: u64,
-    pub(crate) start: u64,
+    pub(crate) start: Option<u64>,
 }
 
 /// The source at a place, once it has completed with a value.
@@ -38,17 +43,81 @@ pub(crate) struct Returned {
 fn normal_at<L: Look>(look: &L, place: u32) -> Option<Normal>
     requires place { place < length (L.states look.now) }
     requires moments { All (λ state. IsBy (2 ^ 62) (seen_of state)) (L.states look.now) }
-    ensures source { IfSome result (λ normal. source_at (seen_at (state_at (L.states look.now))) place ≡ Some (as_source place normal)) }
+    ensures source { IfSome result (λ normal. source_at (seen_at (state_at (L.states look.now))) place ≡ Some (as_source normal)) }
     ensures early { IfSome result (λ normal. normal.moment ≤ 2 ^ 62) }
 {
     let done = look.state(place).done?;
     match done.outcome {
         Outcome::Value(value) => Some(Normal {
+            place,
             value,
             moment: done.moment,
         }),
         Outcome::Bare(_) | Outcome::Wrapped(_) => None,
     }
+}
+
+/// The source at a place, none in it while it is pending; none at all where it has failed.
+#[inline(always)]
+fn unless_failed<L: Look>(look: &L, place: u32) -> Option<Option<Normal>>
+    requires place { place < length (L.states look.now) }
+    requires moments { All (λ state. IsBy (2 ^ 62) (seen_of state)) (L.states look.now) }
+    ensures source { IfSome result (λ found. source_at (seen_at (state_at (L.states look.now))) place ≡ option_map as_source found) }
+    ensures early { IfSome result (λ found. IfSome found (λ normal. normal.moment ≤ 2 ^ 62)) }
+{
+    let Some(done) = look.state(place).done else {
+        return Some(None);
+    };
+    match done.outcome {
+        Outcome::Value(value) => Some(Some(Normal {
+            place,
+            value,
+            moment: done.moment,
+        })),
+        Outcome::Bare(_) | Outcome::Wrapped(_) => None,
+    }
+}
+
+/// The earliest so far, after one more source.
+#[inline(always)]
+fn sooner(first: Option<Normal>, other: Normal) -> Normal
+    ensures { as_source result ≡ sooner_of moment_of (option_map as_source first) (as_source other) }
+{
+    match first {
+        Some(first) if first.moment <= other.moment => first,
+        _ => other,
+    }
+}
+
+/// The earliest of the sources that have completed; none where one has failed, even if another completed before it.
+fn earliest<L: Look>(look: &L, places: &[u32]) -> Option<Normal>
+    requires places { All (λ place. place < length (L.states look.now)) places.now }
+    requires moments { All (λ state. IsBy (2 ^ 62) (seen_of state)) (L.states look.now) }
+    ensures source { IfSome result (λ normal. earliest moment_of (completed (seen_at (state_at (L.states look.now))) places.now) ≡ Some (as_source normal)) }
+    ensures early { IfSome result (λ normal. normal.moment ≤ 2 ^ 62) }
+{
+    let mut first = None;
+    for place in places {
+        let found = unless_failed(look, *place)?;
+        if let Some(source) = found {
+            first = Some(sooner(first, source));
+        }
+    }
+    first
+}
+
+/// The moment of the last of the sources and the creation, where all sources have completed with values.
+fn latest<L: Look>(look: &L, created: u64, places: &[u32]) -> Option<u64>
+    requires places { All (λ place. place < length (L.states look.now)) places.now }
+    requires moments { All (λ state. IsBy (2 ^ 62) (seen_of state)) (L.states look.now) }
+    ensures { IfSome result (AreNormal created (seen_at (state_at (L.states look.now))) places.now) }
+{
+    let mut trigger = created;
+    for place in places {
+        let source = normal_at(look, *place)?;
+        trigger = trigger.max(source.moment);
+    }
+    Some(trigger)
 }
 
 /// The value that the stage's action gives for two values; none where it throws.
@@ -58,29 +127,6 @@ fn given(stage: &Stage, first: Value, second: Value) -> Option<Value>
     match answer_of(stage, &two_values(first, second)) {
         Answer::Gives(value) => Some(value),
         Answer::Throws(_) => None,
-    }
-}
-
-/// The value that a stage completes with after one normal source.
-#[inline(always)]
-fn own_after_one(stage: &Stage, value: Value) -> Option<Value>
-    ensures { IfSome result (IsOwnAfterOne stage.now value) }
-{
-    match stage.op {
-        Op::ThenApply | Op::Handle => given(stage, value, Value::Null),
-        Op::ThenAccept => {
-            given(stage, value, Value::Null)?;
-            Some(Value::Null)
-        }
-        Op::ThenRun => {
-            given(stage, Value::Null, Value::Null)?;
-            Some(Value::Null)
-        }
-        Op::WhenComplete => {
-            given(stage, value, Value::Null)?;
-            Some(value)
-        }
-        _ => None,
     }
 }
 
@@ -113,8 +159,48 @@ fn return_after(stage: &Stage, trigger: u64, value: Value) -> Returned
     Returned {
         value,
         moment: start + stage.runs,
-        start,
+        start: Some(start),
     }
+}
+
+/// A value passes at the trigger, and no action runs.
+#[inline(always)]
+fn pass_at(trigger: u64, value: Value) -> Returned
+    ensures { result ≡ pass_at trigger value }
+{
+    Returned {
+        value,
+        moment: trigger,
+        start: None,
+    }
+}
+
+/// The completion after a source with this value that decides the stage.
+#[inline(always)]
+fn after_value(stage: &Stage, trigger: u64, value: Value) -> Option<Returned>
+    requires { end_of stage.now trigger < 2 ^ 64 }
+    ensures { IfSome result (IsAfterValue stage.now trigger value) }
+{
+    let own = match stage.op {
+        Op::ThenApply | Op::ApplyToEither | Op::Handle => given(stage, value, Value::Null)?,
+        Op::ThenAccept | Op::AcceptEither => {
+            given(stage, value, Value::Null)?;
+            Value::Null
+        }
+        Op::ThenRun | Op::RunAfterEither => {
+            given(stage, Value::Null, Value::Null)?;
+            Value::Null
+        }
+        Op::WhenComplete => {
+            given(stage, value, Value::Null)?;
+            value
+        }
+        Op::Copy | Op::Exceptionally | Op::ExceptionallyCompose | Op::AnyOf => {
+            return Some(pass_at(trigger, value));
+        }
+        _ => return None,
+    };
+    Some(return_after(stage, trigger, own))
 }
 
 /// The completion after one source.
@@ -126,11 +212,14 @@ fn after_one<L: Look>(stage: &Stage, look: &L, place: u32) -> Option<Returned>
     ensures { IfSome result (IsProgress stage.now (seen_at (state_at (L.states look.now)))) }
 {
     let source = normal_at(look, place)?;
-    let value = own_after_one(stage, source.value)?;
-    Some(return_after(stage, stage.created.max(source.moment), value))
+    let trigger = stage.created.max(source.moment);
+    match stage.op {
+        Op::AllOf => Some(pass_at(trigger, Value::Null)),
+        _ => after_value(stage, trigger, source.value),
+    }
 }
 
-/// The completion after two sources.
+/// The completion after both of two sources.
 #[inline(always)]
 fn after_two<L: Look>(stage: &Stage, look: &L, first: u32, second: u32) -> Option<Returned>
     requires limits { IsLimited (length (L.states look.now)) stage.now }
@@ -145,7 +234,72 @@ fn after_two<L: Look>(stage: &Stage, look: &L, first: u32, second: u32) -> Optio
     Some(return_after(stage, trigger, value))
 }
 
-/// The completion of a stage that waits for one or two sources.
+/// The completion after the earliest source.
+#[inline(always)]
+fn after_earliest<L: Look>(stage: &Stage, look: &L) -> Option<Returned>
+    requires limits { IsLimited (length (L.states look.now)) stage.now }
+    requires moments { All (λ state. IsBy (2 ^ 62) (seen_of state)) (L.states look.now) }
+    ensures { IfSome result (IsProgress stage.now (seen_at (state_at (L.states look.now)))) }
+{
+    let source = earliest(look, stage.sources.as_slice())?;
+    after_value(stage, stage.created.max(source.moment), source.value)
+}
+
+/// The completion of a stage that waits for all of its sources, and runs no action.
+#[inline(always)]
+fn after_all<L: Look>(stage: &Stage, look: &L) -> Option<Returned>
+    requires limits { IsLimited (length (L.states look.now)) stage.now }
+    requires moments { All (λ state. IsBy (2 ^ 62) (seen_of state)) (L.states look.now) }
+    requires all { stage.now.op ≡ AllOf }
+    ensures { IfSome result (IsProgress stage.now (seen_at (state_at (L.states look.now)))) }
+{
+    let trigger = latest(look, stage.created, stage.sources.as_slice())?;
+    Some(pass_at(trigger, Value::Null))
+}
+
+/// The completion of a stage that waits for either of two sources, for any number of them, or for none. It is not inlined,
+/// so that the code of the operations on one source and on both of two stays small where it is.
+fn after_any_number<L: Look>(stage: &Stage, look: &L) -> Option<Returned>
+    requires limits { IsLimited (length (L.states look.now)) stage.now }
+    requires moments { All (λ state. IsBy (2 ^ 62) (seen_of state)) (L.states look.now) }
+    ensures { IfSome result (IsProgress stage.now (seen_at (state_at (L.states look.now)))) }
+{
+    match stage.op {
+        Op::AllOf => after_all(stage, look),
+        Op::AnyOf | Op::ApplyToEither | Op::AcceptEither | Op::RunAfterEither => {
+            after_earliest(stage, look)
+        }
+        Op::Completed(value) => Some(pass_at(stage.created, value)),
+        Op::Async => {
+            let value = given(stage, Value::Null, Value::Null)?;
+            Some(return_after(stage, stage.created, value))
+        }
+        _ => None,
+    }
+}
+
+/// The completion after either or both of two sources.
+#[inline(always)]
+fn after_either_or_both<L: Look>(
+    stage: &Stage,
+    look: &L,
+    first: u32,
+    second: u32,
+) -> Option<Returned>
+    requires limits { IsLimited (length (L.states look.now)) stage.now }
+    requires moments { All (λ state. IsBy (2 ^ 62) (seen_of state)) (L.states look.now) }
+    requires both { stage.now.sources ≡ first ∷ second ∷ [] }
+    ensures { IfSome result (IsProgress stage.now (seen_at (state_at (L.states look.now)))) }
+{
+    match stage.op {
+        Op::ThenCombine | Op::ThenAcceptBoth | Op::RunAfterBoth => {
+            after_two(stage, look, first, second)
+        }
+        _ => after_any_number(stage, look),
+    }
+}
+
+/// The completion of a stage by its sources.
 #[inline(always)]
 fn after_sources<L: Look>(stage: &Stage, look: &L) -> Option<Returned>
     requires limits { IsLimited (length (L.states look.now)) stage.now }
@@ -154,8 +308,8 @@ fn after_sources<L: Look>(stage: &Stage, look: &L) -> Option<Returned>
 {
     match stage.sources.as_slice() {
         [place] => after_one(stage, look, *place),
-        [first, second] => after_two(stage, look, *first, *second),
-        _ => None,
+        [first, second] => after_either_or_both(stage, look, *first, *second),
+        _ => after_any_number(stage, look),
     }
 }
 
@@ -191,7 +345,7 @@ pub(crate) fn state_after(returned: Returned) -> State
             outcome: Outcome::Value(returned.value),
             moment: returned.moment,
             from: None,
-            start: Some(returned.start),
+            start: returned.start,
         }),
         reads: Reads::Sources,
     }

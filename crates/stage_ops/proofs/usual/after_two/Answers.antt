@@ -6,6 +6,7 @@ use Rattle.stage_ops.specs.declared.usual.Returned.{Returned}
 use Rattle.stage_ops.specs.SourceLaws.{contains_named}
 use Rattle.stage_ops.specs.States.{seen_at, state_at}
 use Rattle.stage_ops.specs.Usual.{as_done, return_after}
+use Rattle.stage_ops.proofs.UsualLemmas.{at_place}
 use Rattle.stage_ops.proofs.usual.after_two.Goals as goal
 
 pub normal_at-requires-2-clause-place : goal.normal_at-requires-2-clause-place
@@ -23,5 +24,6 @@ returns g c =
     let trigger_is = c.max-trigger.ensures ∙ ap (max one.moment) c.max.ensures in
     let is = c.return_after.ensures ∙ ap (λ trigger. return_after stage trigger c.in_ok-value.value) trigger_is in
     λ mode.
-    c.in_ok-value.ensures inputs c.args.first c.args.second one.moment other.moment c.requires.both c.in_ok-first.ensures.source c.in_ok-second.ensures.source mode
+    c.in_ok-value.ensures inputs c.args.first c.args.second one.moment other.moment c.requires.both
+    (at_place inputs c.args.first one c.in_ok-first.ensures.source) (at_place inputs c.args.second other c.in_ok-second.ensures.source) mode
     ∙ sym (ap (λ (returned : Returned). Completes (as_done returned)) is)
