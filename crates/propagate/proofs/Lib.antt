@@ -1,6 +1,7 @@
 pub mod Members
 pub mod Comparing
 pub mod Scratch
+pub mod Told
 pub mod Ranks
 pub mod Ascending
 pub mod Steps
@@ -14,3 +15,4 @@ pub mod Turns
 pub mod Naming
 pub mod FirstDependents
 pub mod Remembered
+pub mod Writes

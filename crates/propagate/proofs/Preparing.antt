@@ -1,12 +1,15 @@
 -- Lists of states that grow, and that have states set.
-use Rattle.std.proofs.Common.{◌≡◌, ℕ, zero, suc, ◌+◌, ◌-◌, ◌<◌, Bool, true, false, not, ◌&&◌, ◌||◌, ◌==◌, List, [], ◌∷◌, ◌++◌, length, set, take, get_or, refl, ap, sym, ◌∙◌, subst, ⊎_elim}
+use Rattle.std.proofs.Common.{◌≡◌, ℕ, zero, suc, ◌+◌, ◌-◌, ◌<◌, Bool, true, false, not, ◌&&◌, ◌||◌, ◌==◌, List, [], ◌∷◌, ◌++◌, length, set, take, get_or, refl, ap, sym, ◌∙◌, subst, arith, ⊎_elim}
 use Rattle.std.specs.Prelude.{if◌then◌else◌, map}
 use Rattle.std.proofs.Common.{get_or-set_same, get_or-set_other}
+use Rattle.std.specs.Prelude.{All, Option, Some, None, IfSome, IsSome}
+use Rattle.std.specs.List.{AllZip}
 use Rattle.std.proofs.Math.ListN.{get_or-append}
 use Rattle.std.proofs.Math.Seq.{get_or-append_right}
 use Rattle.std.proofs.lemmas.Bool.{eqb-true, eq-eqb, ne_eqb, true≢false, false≢true, cases_lt, cases_eq, cond-true, cond-false}
-use Rattle.std.proofs.lemmas.List.{get_or_past, get_or-map}
+use Rattle.std.proofs.lemmas.List.{get_or_past, get_or-map, length-set}
 use Rattle.std.proofs.lemmas.List.Folds.{list_any_more}
+use Rattle.propagate.specs.Written.{written}
 use Rattle.stage_ops.specs.declared.state.State.{State}
 use Rattle.stage_ops.specs.States.{pending, state_at}
 use Rattle.rank_order.specs.Lists.{is_among}
@@ -62,23 +65,39 @@ filled_next live place s among was here =
       spread false true false h = absurd (false≢true (h refl))
       spread a false false h = refl
 
--- one more place of a level is set
-pub level_next : (state : ℕ → State) (level : List ℕ) (i s : ℕ) (before states : List State) (here : State) → i < length level → get_or level i 0 < length states → here ≡ state (get_or level i 0)
-    → state_at states s ≡ (if is_among s (take i level) then state s else state_at before s)
-    → state_at (set states (get_or level i 0) here) s ≡ (if is_among s (take (i + 1) level) then state s else state_at before s)
-level_next state level i s before states here within inside e so_far =
-    let u = get_or level i 0 in
-    state_set states u s here inside
-    ∙ ap (λ x. if u == s then x else state_at states s) e
-    ∙ ap (λ x. if u == s then state u else x) so_far
-    ∙ turn (u == s) (is_among s (take i level)) (λ same. ap state (eqb-true u s same))
-    ∙ sym (ap (λ b. if b then state s else state_at before s) (among_next s i level within)) where
-      turn : (b c : Bool) → (b ≡ true → state (get_or level i 0) ≡ state s) → (if b then state (get_or level i 0) else (if c then state s else state_at before s)) ≡ (if c || b then state s else state_at before s)
-      turn true true h = h refl
-      turn true false h = h refl
-      turn false true h = refl
-      turn false false h = refl
+-- a list that is written stays as long as it is
+pub written_long : {A : Type 0} (before : List A) (level : List ℕ) (others : List (Option A)) → length (written before level others) ≡ length before
+written_long before [] others = refl
+written_long before (u ∷ rest) [] = refl
+written_long before (u ∷ rest) (None ∷ others) = written_long before rest others
+written_long before (u ∷ rest) (Some x ∷ others) = written_long (set before u x) rest others ∙ length-set before u x
+
+-- the level is written: each place of it has its state
+pub level_written : (state : ℕ → State) (level : List ℕ) (before : List State) (s : ℕ) → All (λ place. place < length before) level
+    → state_at (written before level (map (λ place. Some (state place)) level)) s ≡ (if is_among s level then state s else state_at before s)
+level_written state [] before s within = refl
+level_written state (u ∷ rest) before s within =
+    level_written state rest (set before u (state u)) s (λ k d l. let inside = within (suc k) d (omega arith) in omega (arith, length-set before u (state u)))
+    ∙ ap (λ x. if is_among s rest then state s else x) (state_set before u s (state u) (within 0 0 (omega arith)))
+    ∙ turn (u == s) (s == u) (is_among s rest) (flip_eq u s) (λ same. ap state (eqb-true u s same)) where
+      turn : (b e c : Bool) → b ≡ e → (b ≡ true → state u ≡ state s) → (if c then state s else (if b then state u else state_at before s)) ≡ (if e || c then state s else state_at before s)
+      turn true true true same h = refl
+      turn true true false same h = h refl
+      turn false false true same h = refl
+      turn false false false same h = refl
+      turn true false c same h = absurd (true≢false same)
+      turn false true c same h = absurd (false≢true same)
+
+-- what is there is what was asked for, and nothing is missing
+pub all_given : {T : Type 0} (asked : ℕ → T) (level : List ℕ) (results : List (Option T)) → AllZip (λ place result. IfSome result (λ given. given ≡ asked place)) level results → All IsSome results
+    → results ≡ map (λ place. Some (asked place)) level
+all_given asked [] [] zip all = refl
+all_given asked [] (result ∷ rest) zip all = absurd zip
+all_given asked (place ∷ level) [] zip all = absurd zip
+all_given asked (place ∷ level) (None ∷ rest) zip all = absurd (false≢true (all 0 None (omega arith)))
+all_given asked (place ∷ level) (Some given ∷ rest) zip all =
+    ap (λ x. Some x ∷ rest) zip.0 ∙ ap (λ xs. Some (asked place) ∷ xs) (all_given asked level rest zip.1 (λ k d l. all (suc k) d (omega arith)))
 
 -- an element of a mapped list
-pub mapped_at : (state : ℕ → State) (level : List ℕ) (results : List State) (i : ℕ) (d : State) → results ≡ map state level → i < length level → get_or results i d ≡ state (get_or level i 0)
-mapped_at state level results i d e within = ap (λ xs. get_or xs i d) e ∙ get_or-map state level i 0 d within
+pub mapped_at : (state : ℕ → State) (level : List ℕ) (results : List (Option State)) (i : ℕ) (d : Option State) → results ≡ map (λ place. Some (state place)) level → i < length level → get_or results i d ≡ Some (state (get_or level i 0))
+mapped_at state level results i d e within = ap (λ xs. get_or xs i d) e ∙ get_or-map (λ place. Some (state place)) level i 0 d within

@@ -8,7 +8,7 @@ use Rattle.std.proofs.lemmas.List.Folds.{list_any_more}
 use Rattle.stage_graph.specs.declared.stage.Stage.{Stage}
 use Rattle.stage_graph.specs.Plain.{stage_at, feeds_of_place, feeds_at, uses}
 use Rattle.stage_ops.specs.declared.state.State.{State}
-use Rattle.stage_ops.specs.States.{seen_at, seen_of, state_at}
+use Rattle.stage_ops.specs.States.{seen_at, state_at}
 use Rattle.rank_order.specs.Lists.{is_among}
 use Rattle.rank_order.specs.Orders.{at_live}
 use Rattle.stage_graph.specs.Plain.{all_places, dependents}
@@ -143,9 +143,3 @@ and_nothing false = refl
 
 pub none_yet : (live marked : Bool) → marked ≡ false → marked ≡ (live && false)
 none_yet live marked e = e ∙ sym (and_nothing live)
-
--- whether the code finds a difference
-pub told_differs : (states : List State) (place : ℕ) (here : State) (state : ℕ → State) (told : Bool) → here ≡ state place
-    → told ≡ differ (seen_at (state_at states) place) (seen_of here) → told ≡ differ (seen_at (state_at states) place) (seen_at state place)
-told_differs states place here state told f h =
-    h ∙ ap (λ (x : State). differ (seen_of (state_at states place)) (seen_of x)) f

@@ -111,8 +111,8 @@ module _ {step : Step} (law : ReadsDecide step) {old new : Stages} {edited : ℕ
         (or_cases (is_among m level) (above m) (sym (one.split m) ∙ c)))
 
     -- the places of the level get their states of the new graph
-    pub level_results : (results : List State) → results ≡ map (λ u. come_to step (stage_at new u) states) level → results ≡ map (at step new) level
-    level_results results e = e ∙ same_map (λ u. come_to step (stage_at new u) states) (at step new) level (λ u c. level_comes u (contains_among u level c))
+    pub level_results : (results : List (Option State)) → results ≡ map (λ u. Some (come_to step (stage_at new u) states)) level → results ≡ map (λ u. Some (at step new u)) level
+    level_results results e = e ∙ same_map (λ u. Some (come_to step (stage_at new u) states)) (λ u. Some (at step new u)) level (λ u c. ap Some (level_comes u (contains_among u level c)))
 
     in_old : (u s : ℕ) → is_among u level ≡ true → edited s ≡ false → IsFeed new s u → has_read new states u s ≡ is_among u (reads_at step old s)
     in_old u s h other feed =

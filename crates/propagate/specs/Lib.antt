@@ -3,3 +3,5 @@ pub mod Reach
 pub mod Patched
 pub mod KeptStates
 pub mod Recent
+pub mod Telling
+pub mod Written

@@ -1,8 +1,8 @@
 //! States as lists store them.
-ghost use Rattle.std.specs.Prelude.{◌≡◌, IfOk};
+ghost use Rattle.std.specs.Prelude.{◌≡◌, IfOk, Some, is_some, not};
 ghost use Rattle.stage_ops.specs.States.{seen_of};
 ghost use Rattle.scratch_eval.specs.Blame.{failure_of};
-ghost use Rattle.propagate.specs.Completions.{differ};
+ghost use Rattle.propagate.specs.Completions.{differ, returned};
 
 use crate::completions::{differ, is_returned};
 use act_expr::{Outcome, Value};
@@ -94,9 +94,9 @@ impl KeptState {
         }
     }
 
-    /// What the stored state has read.
+    /// What the stored state has read. Allocates nothing.
     #[inline(always)]
-    pub(crate) fn reads(&self) -> Reads
+    pub fn reads(&self) -> Reads
         ensures { result ≡ self.now.reads }
     {
         match &self.form {
@@ -121,18 +121,49 @@ impl KeptState {
         }
     }
 
-    /// Whether dependents can distinguish the stored state from another one.
+    /// Whether dependents can distinguish the stored state from another one: exactly one is pending, or they differ in outcome, moment
+    /// or blamed source. Allocates nothing.
     #[inline(always)]
-    pub(crate) fn differs(&self, after: &State) -> bool
+    pub fn differs(&self, after: &KeptState) -> bool
         ensures { result ≡ differ (seen_of self.now) (seen_of after.now) }
     {
+        match (&self.form, &after.form) {
+            (Form::Returned { value, moment, .. }, _) => !after.has_returned(*value, *moment),
+            (_, Form::Returned { value, moment, .. }) => !self.has_returned(*value, *moment),
+            (Form::Pending(_), _) => after.has_completed(),
+            (_, Form::Pending(_)) => self.has_completed(),
+            (Form::Other(before), Form::Other(after)) => differ(before.deref(), after.deref()),
+        }
+    }
+
+    /// Whether the stored state is a completion.
+    #[inline(always)]
+    fn has_completed(&self) -> bool
+        ensures { result ≡ is_some self.now.done }
+    {
         match &self.form {
-            Form::Pending(_) => after.done.is_some(),
-            Form::Returned { value, moment, .. } => match &after.done {
-                None => true,
-                Some(done) => !is_returned(*value, *moment, done),
+            Form::Pending(_) => false,
+            Form::Returned { .. } => true,
+            Form::Other(held) => held.deref().done.is_some(),
+        }
+    }
+
+    /// Whether the stored state is a completion with this value at this moment, for which no source is blamed.
+    #[inline(always)]
+    fn has_returned(&self, value: Value, moment: u64) -> bool
+        ensures { result ≡ not (differ (Some (returned value moment)) (seen_of self.now)) }
+    {
+        match &self.form {
+            Form::Pending(_) => false,
+            Form::Returned {
+                value: own,
+                moment: at,
+                ..
+            } => *own == value && *at == moment,
+            Form::Other(held) => match &held.deref().done {
+                None => false,
+                Some(done) => is_returned(value, moment, done),
             },
-            Form::Other(held) => differ(held.deref(), after),
         }
     }
 }

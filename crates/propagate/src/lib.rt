@@ -11,8 +11,11 @@ mod recent;
 mod representation;
 mod spread;
 mod states;
+mod telling;
+mod writing;
 
 pub use kept::KeptState;
 pub use patched::{Old, Patched, propagate};
+pub use reads::has_read;
 pub use representation::StateRepresentation;
 pub use states::States;

@@ -1,5 +1,5 @@
 //! Marks of the places that have to be computed: the edited stages, and those that read a stage which changed.
-ghost use Rattle.std.specs.Prelude.{◌≡◌, ◌<◌, ◌&&◌, ◌||◌, ◌==◌, ℕ, List, IfOk, OnOk, All, is_some, length, map, slice_index, true};
+ghost use Rattle.std.specs.Prelude.{◌≡◌, ◌<◌, ◌&&◌, ◌||◌, ◌==◌, ℕ, List, IfOk, OnOk, All, is_some, length, map, slice_index, Some, true, false};
 ghost use Rattle.std.specs.List.{list_any};
 ghost use Rattle.stage_graph.specs.Plain.{stage_at, feeds_at, IsLive};
 ghost use Rattle.stage_graph.specs.Walk.{rank, IsRanked};
@@ -11,13 +11,15 @@ ghost use Rattle.stage_graph.specs.Plain.{dependents};
 ghost use Rattle.propagate.specs.Reach.{has_read, is_told};
 ghost use Rattle.propagate.specs.Recent.{AllPass, is_met};
 
+use crate::kept::KeptState;
 use crate::reads::has_read;
 use crate::recent::Recent;
 use crate::representation::StateRepresentation;
 use crate::states::States;
+use crate::telling::Telling;
 use rank_order::{Marks, Order, OrderRepresentation};
+use share_tree::Held;
 use stage_graph::Graph;
-use stage_ops::State;
 use std::alloc::{AllocError, Global};
 
 /// The dependents of a place: the places whose stages have it as a feed.
@@ -112,7 +114,7 @@ fn mark_reader<R: StateRepresentation>(
     Ok(())
 }
 
-/// Marks the stages that have read a feed.
+/// Marks the stages that have read a feed, which are among its dependents.
 fn mark_readers<R: StateRepresentation>(
     marks: &mut Marks,
     recent: &mut Recent,
@@ -120,10 +122,11 @@ fn mark_readers<R: StateRepresentation>(
     order: &Order<R>,
     states: &States<R>,
     feed: u32,
+    listed: &[u32],
 ) -> Result<(), AllocError>
     requires order { order.now.graph ≡ graph.now }
     requires count { length states.now ≡ length graph.now.places }
-    requires live { IsLive graph.now.places feed }
+    requires listed { listed.now ≡ dependents graph.now.places feed }
     requires ranked { IsRanked graph.now.places }
     requires recent { AllPass (is_met (rank graph.now.places) marks.old (rank graph.now.places feed)) recent.old }
     ensures marked { OnOk result ((place : ℕ) → is_marked (rank graph.now.places) marks.new place
@@ -132,22 +135,22 @@ fn mark_readers<R: StateRepresentation>(
     ensures marks { OnOk result (AreMarks (rank graph.now.places) marks.old → AreMarks (rank graph.now.places) marks.new) }
     ensures recent { OnOk result (AllPass (is_met (rank graph.now.places) marks.new (rank graph.now.places feed)) recent.new) }
 {
-    let dependents = dependents_of(order, feed);
-    for dependent in dependents {
+    for dependent in listed {
         mark_reader(marks, recent, graph, order, states, feed, *dependent)?;
     }
     Ok(())
 }
 
 /// Marks the stages that have read a place of the level whose state has changed.
-pub(crate) fn mark_level<R: StateRepresentation>(
+pub(crate) fn mark_level<'a, R: StateRepresentation>(
     marks: &mut Marks,
     recent: &mut Recent,
+    telling: &mut Telling<'a>,
     graph: &Graph<R>,
-    order: &Order<R>,
+    order: &'a Order<R>,
     states: &States<R>,
     level: &[u32],
-    results: &[State],
+    results: &[Option<Held<KeptState>>],
 ) -> Result<(), AllocError>
     requires order { order.now.graph ≡ graph.now }
     requires count { length states.now ≡ length graph.now.places }
@@ -157,17 +160,25 @@ pub(crate) fn mark_level<R: StateRepresentation>(
     requires ranked { IsRanked graph.now.places }
     requires level { All (λ place. rank graph.now.places place ≡ rank graph.now.places (slice_index level.now 0)) level.now }
     requires recent { AllPass (is_met (rank graph.now.places) marks.old (rank graph.now.places (slice_index level.now 0))) recent.old }
-    ensures marked { OnOk result ((state : ℕ → State) → results.now ≡ map state level.now → (place : ℕ)
+    ensures marked { OnOk result ((state : ℕ → State) → results.now ≡ map (λ place. Some (state place)) level.now → (place : ℕ)
         → is_marked (rank graph.now.places) marks.new place
         ≡ (is_marked (rank graph.now.places) marks.old place || list_any (is_told graph.now.places (state_at states.now) state place) level.now)) }
     ensures marks { OnOk result (AreMarks (rank graph.now.places) marks.old → AreMarks (rank graph.now.places) marks.new) }
     ensures recent { OnOk result (AllPass (is_met (rank graph.now.places) marks.new (rank graph.now.places (slice_index level.now 0))) recent.new) }
 {
     recent.grow(level.len())?;
+    telling.find(order, states, level, results)?;
     for at in 0..level.len() {
-        let place = level[at];
-        if states.differs(place, &results[at]) {
-            mark_readers(marks, recent, graph, order, states, place)?;
+        if let Some(told) = telling.told[at] {
+            mark_readers(
+                marks,
+                recent,
+                graph,
+                order,
+                states,
+                level[at],
+                told.dependents,
+            )?;
         }
     }
     Ok(())

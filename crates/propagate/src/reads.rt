@@ -18,20 +18,27 @@ fn is_picked(place: u32, places: &[u32], index: u32) -> bool
     (index as usize) < places.len() && place == places[index as usize]
 }
 
-/// Whether a feed of a stage is a source of it. All feeds of a stage without inner stages are, so its sources are not searched then.
+/// How many sources are searched at once, without a look at the inner stages.
+const FEW_SOURCES: usize = 4;
+
+/// Whether a feed of a stage is a source of it. All feeds of a stage without inner stages are, so many sources are not searched then.
+/// Few are: they lie beside what the stage is computed from next, and the inner stages don't.
 #[tactic(auto, using(crate::proofs::Members::feed_is_source))]
 #[inline(always)]
 fn is_source(stage: &Stage, feed: u32) -> bool
     requires { is_among feed (feeds_of stage.now) ≡ true }
     ensures { result ≡ is_among feed stage.now.sources }
 {
+    if stage.sources.as_slice().len() <= FEW_SOURCES {
+        return is_among(feed, stage.sources.as_slice());
+    }
     stage.inner.as_slice().is_empty() || is_among(feed, stage.sources.as_slice())
 }
 
-/// Whether a stage whose state has these reads has read one of its feeds.
+/// Whether a stage whose state has these reads has read one of its feeds. Allocates nothing.
 #[tactic(auto, using(crate::proofs::Members::among_append))]
 #[inline(always)]
-pub(crate) fn has_read(stage: &Stage, reads: Reads, feed: u32) -> bool
+pub fn has_read(stage: &Stage, reads: Reads, feed: u32) -> bool
     requires { is_among feed (feeds_of stage.now) ≡ true }
     ensures { result ≡ is_among feed (read_places stage.now reads) }
 {

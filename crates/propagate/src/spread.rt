@@ -13,6 +13,7 @@ use crate::readers::{first_marks, mark_level};
 use crate::recent::Recent;
 use crate::representation::StateRepresentation;
 use crate::states::States;
+use crate::telling::Telling;
 use level_pool::{PoolFault, Runner};
 use rank_order::Order;
 use stage_graph::Graph;
@@ -76,10 +77,11 @@ pub(crate) fn propagate_change<R: StateRepresentation, N: Sync, O: StageOps<N> +
     let mut taken = Vec::new(alloc);
     let mut passes = Vec::new(alloc);
     let mut recent = Recent::new(alloc);
+    let mut telling = Telling::new(alloc);
     while !marks.is_empty() {
         marks.take_level(&mut taken)?;
         let level = taken.as_slice();
-        let computed = compute_level(
+        let mut results = compute_level(
             alloc,
             runner,
             graph,
@@ -89,17 +91,17 @@ pub(crate) fn propagate_change<R: StateRepresentation, N: Sync, O: StageOps<N> +
             &mut passes,
             &states,
         )?;
-        let results = computed.as_slice();
         mark_level(
             &mut marks,
             &mut recent,
+            &mut telling,
             graph,
             order,
             &states,
             level,
-            results,
+            results.as_slice(),
         )?;
-        states.write_level(alloc, level, results)?;
+        states.write_level(level, results.as_mut_slice())?;
         touched.extend_from_slice(level)?;
     }
     Ok(Reached { states, touched })

@@ -1,15 +1,17 @@
 //! The states of a graph's places, in a persistent list.
-ghost use Rattle.std.specs.Prelude.{◌≡◌, ◌<◌, ◌≤◌, ◌++◌, ◌∷◌, [], ℕ, length, slice_get, slice_set, IfOk, OnOk, All, map, if◌then◌else◌};
+ghost use Rattle.std.specs.Prelude.{◌≡◌, ◌<◌, ◌≤◌, ◌++◌, ◌∷◌, [], ℕ, length, slice_get, slice_set, Some, IfOk, OnOk, All, map, if◌then◌else◌};
 ghost use Rattle.rank_order.specs.Lists.{is_among};
 ghost use Rattle.stage_ops.specs.declared.state.State.{State};
 ghost use Rattle.stage_graph.specs.Plain.{stage_at};
 ghost use Rattle.stage_ops.specs.States.{pending, seen_at, seen_of, state_at};
 ghost use Rattle.scratch_eval.specs.Answers.{answer_at, state_of, AreAnswers};
 ghost use Rattle.propagate.specs.Completions.{differ};
+ghost use Rattle.propagate.specs.Written.{written};
 ghost use Rattle.propagate.specs.Reach.{is_emptied, Step, AreStates};
 
 use crate::kept::KeptState;
 use crate::representation::StateRepresentation;
+use crate::writing::write_each;
 use scratch_eval::{Answers, Failures};
 use share_tree::{Again, Held, KeepFault, Keeps};
 use stage_graph::Graph;
@@ -126,7 +128,7 @@ impl<R: StateRepresentation> States<R> {
 
     /// Whether dependents can distinguish the state at a place from another one. Allocates nothing.
     #[inline(always)]
-    pub(crate) fn differs(&self, place: u32, after: &State) -> bool
+    pub(crate) fn differs(&self, place: u32, after: &KeptState) -> bool
         requires { place < length self.now }
         ensures { result ≡ differ (seen_at (state_at self.now) place) (seen_of after.now) }
     {
@@ -194,22 +196,32 @@ impl<R: StateRepresentation> States<R> {
         Ok(states)
     }
 
-    /// Sets the states of some places.
+    /// Sets the states that are there at some places, one after the other.
+    #[inline(always)]
+    fn write_each(
+        &mut self,
+        places: &[u32],
+        states: &mut [Option<Held<KeptState>>],
+    ) -> Result<(), AllocError>
+        requires within { All (λ place. place < length self.old) places.now }
+        requires each { length states.old ≡ length places.now }
+        ensures { OnOk result (self.new ≡ written self.old places.now states.old) }
+    {
+        write_each(&mut self.list, places, states)
+    }
+
+    /// Sets the states of some places, which are taken out of the results.
     pub(crate) fn write_level(
         &mut self,
-        alloc: Global,
         level: &[u32],
-        results: &[State],
+        results: &mut [Option<Held<KeptState>>],
     ) -> Result<(), AllocError>
         requires within { All (λ place. place < length self.old) level.now }
-        requires each { length results.now ≡ length level.now }
+        requires each { length results.old ≡ length level.now }
         ensures count { OnOk result (length self.new ≡ length self.old) }
-        ensures states { OnOk result ((state : ℕ → State) → results.now ≡ map state level.now → (place : ℕ)
+        ensures states { OnOk result ((state : ℕ → State) → results.old ≡ map (λ place. Some (state place)) level.now → (place : ℕ)
             → state_at self.new place ≡ (if is_among place level.now then state place else state_at self.old place)) }
     {
-        for at in 0..level.len() {
-            self.write(alloc, level[at], &results[at])?;
-        }
-        Ok(())
+        self.write_each(level, results)
     }
 }

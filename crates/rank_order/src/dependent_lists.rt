@@ -12,6 +12,7 @@ use std::ops::Deref;
 
 /// The dependents of a place by these lists, and none past their end.
 #[tactic(auto, using(crate::proofs::Setting::read_none))]
+#[inline(always)]
 pub(crate) fn dependents_at<K: Keeps<Held<Places>>>(dependents: &K, place: u32) -> &[u32]
     ensures { result.now ≡ slice_index_or (K.items dependents.now) place [] }
 {

@@ -8,6 +8,7 @@ use stage_graph::{Graph, Representation};
 
 /// The entry of a list of ranks at a place, and 0 past its end.
 #[tactic(auto, using(crate::proofs::Setting::read_none))]
+#[inline(always)]
 pub(crate) fn rank_at<K: Keeps<u32>>(ranks: &K, place: u32) -> u32
     ensures { result ≡ slice_index (K.items ranks.now) place }
 {

@@ -1,5 +1,5 @@
 use Rattle.std.proofs.Common.{◌≡◌, ℕ, ◌||◌, take}
-use Rattle.std.specs.Prelude.{map, slice_index}
+use Rattle.std.specs.Prelude.{Some, map, slice_index}
 use Rattle.std.specs.List.{list_any}
 use Rattle.stage_graph.specs.Walk.{rank}
 use Rattle.stage_ops.specs.declared.state.State.{State}
@@ -14,7 +14,7 @@ abbrev pub invariant-loop-at : goal.invariant-loop-at
 invariant-loop-at g l =
     let stages = l.graph.places in
     record {
-      marked : (state : ℕ → State) → l.results ≡ map state l.level → (place : ℕ)
+      marked : (state : ℕ → State) → l.results ≡ map (λ place. Some (state place)) l.level → (place : ℕ)
           → is_marked (rank stages) l.marks place ≡ (is_marked (rank stages) l.fn.marks place || list_any (is_told stages (state_at l.states) state place) (take l.at l.level));
       marks : AreMarks (rank stages) l.fn.marks → AreMarks (rank stages) l.marks;
       recent : AllPass (is_met (rank stages) l.marks (rank stages (slice_index l.level 0))) l.recent;

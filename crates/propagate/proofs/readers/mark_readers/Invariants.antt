@@ -12,7 +12,7 @@ abbrev pub invariant-loop-dependent : goal.invariant-loop-dependent
 invariant-loop-dependent g l =
     let stages = l.graph.places in
     record {
-      marked : (place : ℕ) → is_marked (rank stages) l.marks place ≡ (is_marked (rank stages) l.fn.marks place || among_readers (has_read stages (state_at l.states) l.feed) (take l.dependent-index l.dependents) place);
+      marked : (place : ℕ) → is_marked (rank stages) l.marks place ≡ (is_marked (rank stages) l.fn.marks place || among_readers (has_read stages (state_at l.states) l.feed) (take l.dependent-index l.listed) place);
       marks : AreMarks (rank stages) l.fn.marks → AreMarks (rank stages) l.marks;
       recent : AllPass (is_met (rank stages) l.marks (rank stages l.feed)) l.recent;
     }

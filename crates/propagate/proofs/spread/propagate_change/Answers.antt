@@ -144,17 +144,17 @@ write_level-requires-clause-within g c κs borrowed =
     let one = level_of stages c.loop-alloc.marks c.take_level.new.self c.take_level.new.level.items c.as_slice-level.result.now c.as_slice-level.ensures.value (c.in_ok-take_level.ensures.level (rank stages) inv.marks) in
     live_places stages c.loop-alloc.states c.as_slice-level.result.now inv.count (level_live law edit inv.progress one)
 
-pub returns-in_err-computed-clause-refused : goal.returns-in_err-computed-clause-refused
-returns-in_err-computed-clause-refused g c =
+pub returns-in_err-results-clause-refused : goal.returns-in_err-results-clause-refused
+returns-in_err-results-clause-refused g c =
     let stages = c.args.graph.now.places in
     let inv = c.loop-alloc.invariant in
     let law = c.laws.ensures.reads_decide c.args.graph.now.mode in
     let edit = ranked_change c.args.old.now c.args.graph.now (λ place. is_among place c.args.edited.now) c.requires.old_ranked c.requires.ranked c.requires.sound c.requires.change in
     let one = level_of stages c.loop-alloc.marks c.take_level.new.self c.take_level.new.level.items c.as_slice-level.result.now c.as_slice-level.ensures.value (c.in_ok-take_level.ensures.level (rank stages) inv.marks) in
     let room = level_touched law edit inv.progress one in
-    let kept : c.args.meter.now ≤ c.compute_level.new.meter = omega (arith, inv.counted, c.in_err-computed.ensures.refused.0) in
-    let bound : c.compute_level.new.meter ≤ c.args.meter.now + length (touched (g.O.StageOps.step c.args.ops.now c.args.graph.now.mode) c.args.old.now.places c.args.graph.now.places (λ place. is_among place c.args.edited.now)) = omega (arith, inv.counted, c.in_err-computed.ensures.refused.1, room) in
-    on_err c.from_residual-in_err-computed.result _ (kept, bound)
+    let kept : c.args.meter.now ≤ c.compute_level.new.meter = omega (arith, inv.counted, c.in_err-results.ensures.refused.0) in
+    let bound : c.compute_level.new.meter ≤ c.args.meter.now + length (touched (g.O.StageOps.step c.args.ops.now c.args.graph.now.mode) c.args.old.now.places c.args.graph.now.places (λ place. is_among place c.args.edited.now)) = omega (arith, inv.counted, c.in_err-results.ensures.refused.1, room) in
+    on_err c.from_residual-in_err-results.result _ (kept, bound)
 
 pub returns-in_err-mark_level-clause-refused : goal.returns-in_err-mark_level-clause-refused
 returns-in_err-mark_level-clause-refused g c =
@@ -164,8 +164,8 @@ returns-in_err-mark_level-clause-refused g c =
     let edit = ranked_change c.args.old.now c.args.graph.now (λ place. is_among place c.args.edited.now) c.requires.old_ranked c.requires.ranked c.requires.sound c.requires.change in
     let one = level_of stages c.loop-alloc.marks c.take_level.new.self c.take_level.new.level.items c.as_slice-level.result.now c.as_slice-level.ensures.value (c.in_ok-take_level.ensures.level (rank stages) inv.marks) in
     let room = level_touched law edit inv.progress one in
-    let kept : c.args.meter.now ≤ c.compute_level.new.meter = omega (arith, inv.counted, c.in_ok-computed.ensures.counted) in
-    let bound : c.compute_level.new.meter ≤ c.args.meter.now + length (touched (g.O.StageOps.step c.args.ops.now c.args.graph.now.mode) c.args.old.now.places c.args.graph.now.places (λ place. is_among place c.args.edited.now)) = omega (arith, inv.counted, c.in_ok-computed.ensures.counted, room) in
+    let kept : c.args.meter.now ≤ c.compute_level.new.meter = omega (arith, inv.counted, c.in_ok-results.ensures.counted) in
+    let bound : c.compute_level.new.meter ≤ c.args.meter.now + length (touched (g.O.StageOps.step c.args.ops.now c.args.graph.now.mode) c.args.old.now.places c.args.graph.now.places (λ place. is_among place c.args.edited.now)) = omega (arith, inv.counted, c.in_ok-results.ensures.counted, room) in
     on_err c.from_residual-in_err-mark_level.result _ (kept, bound)
 
 pub returns-in_err-write_level-clause-refused : goal.returns-in_err-write_level-clause-refused
@@ -176,8 +176,8 @@ returns-in_err-write_level-clause-refused g c =
     let edit = ranked_change c.args.old.now c.args.graph.now (λ place. is_among place c.args.edited.now) c.requires.old_ranked c.requires.ranked c.requires.sound c.requires.change in
     let one = level_of stages c.loop-alloc.marks c.take_level.new.self c.take_level.new.level.items c.as_slice-level.result.now c.as_slice-level.ensures.value (c.in_ok-take_level.ensures.level (rank stages) inv.marks) in
     let room = level_touched law edit inv.progress one in
-    let kept : c.args.meter.now ≤ c.compute_level.new.meter = omega (arith, inv.counted, c.in_ok-computed.ensures.counted) in
-    let bound : c.compute_level.new.meter ≤ c.args.meter.now + length (touched (g.O.StageOps.step c.args.ops.now c.args.graph.now.mode) c.args.old.now.places c.args.graph.now.places (λ place. is_among place c.args.edited.now)) = omega (arith, inv.counted, c.in_ok-computed.ensures.counted, room) in
+    let kept : c.args.meter.now ≤ c.compute_level.new.meter = omega (arith, inv.counted, c.in_ok-results.ensures.counted) in
+    let bound : c.compute_level.new.meter ≤ c.args.meter.now + length (touched (g.O.StageOps.step c.args.ops.now c.args.graph.now.mode) c.args.old.now.places c.args.graph.now.places (λ place. is_among place c.args.edited.now)) = omega (arith, inv.counted, c.in_ok-results.ensures.counted, room) in
     on_err c.from_residual-in_err-write_level.result _ (kept, bound)
 
 pub returns-in_err-extend_from_slice-clause-refused : goal.returns-in_err-extend_from_slice-clause-refused
@@ -188,8 +188,8 @@ returns-in_err-extend_from_slice-clause-refused g c =
     let edit = ranked_change c.args.old.now c.args.graph.now (λ place. is_among place c.args.edited.now) c.requires.old_ranked c.requires.ranked c.requires.sound c.requires.change in
     let one = level_of stages c.loop-alloc.marks c.take_level.new.self c.take_level.new.level.items c.as_slice-level.result.now c.as_slice-level.ensures.value (c.in_ok-take_level.ensures.level (rank stages) inv.marks) in
     let room = level_touched law edit inv.progress one in
-    let kept : c.args.meter.now ≤ c.compute_level.new.meter = omega (arith, inv.counted, c.in_ok-computed.ensures.counted) in
-    let bound : c.compute_level.new.meter ≤ c.args.meter.now + length (touched (g.O.StageOps.step c.args.ops.now c.args.graph.now.mode) c.args.old.now.places c.args.graph.now.places (λ place. is_among place c.args.edited.now)) = omega (arith, inv.counted, c.in_ok-computed.ensures.counted, room) in
+    let kept : c.args.meter.now ≤ c.compute_level.new.meter = omega (arith, inv.counted, c.in_ok-results.ensures.counted) in
+    let bound : c.compute_level.new.meter ≤ c.args.meter.now + length (touched (g.O.StageOps.step c.args.ops.now c.args.graph.now.mode) c.args.old.now.places c.args.graph.now.places (λ place. is_among place c.args.edited.now)) = omega (arith, inv.counted, c.in_ok-results.ensures.counted, room) in
     on_err c.from_residual-in_err-extend_from_slice.result _ (kept, bound)
 
 pub loop-alloc-smaller : goal.loop-alloc-smaller
@@ -214,13 +214,13 @@ loop-alloc-preserved g c =
     let level = c.as_slice-level.result.now in
     let filled : 0 < length c.loop-alloc.marks = let differ : length c.loop-alloc.marks ≢ 0 = λ none. true≢false (sym (c.is_empty.ensures.1 none) ∙ c.loop-alloc-test.true) in omega arith in
     let some : 0 < length c.as_slice-level.result.now = omega (arith, c.in_ok-take_level.ensures.some filled, ap length c.as_slice-level.ensures.value) in
-    let same = level_results law edit inv.progress one c.as_slice-results.result.now (c.as_slice-results.ensures.value ∙ c.in_ok-computed.ensures.states) in
+    let same = level_results law edit inv.progress one c.in_ok-results.results.items c.in_ok-results.ensures.states in
     record {
       progress =
           subst (λ (computed : List ℕ). IsProgress step c.args.old.now.places stages (λ place. is_among place c.args.edited.now) computed (is_marked (rank stages) c.mark_level.new.marks) (state_at c.write_level.new.self))
           (sym c.in_ok-extend_from_slice.ensures.items)
           (level_done law edit inv.progress one (is_marked (rank stages) c.mark_level.new.marks) (state_at c.write_level.new.self)
-          (c.in_ok-mark_level.ensures.marked (at step stages) same) (c.in_ok-write_level.ensures.states (at step stages) same));
+          (c.in_ok-mark_level.ensures.marked (at step stages) (c.as_slice.ensures.value ∙ same)) (c.in_ok-write_level.ensures.states (at step stages) (c.as_mut_slice.ensures.value ∙ same)));
       marks = c.in_ok-mark_level.ensures.marks (marks_left c.loop-alloc.marks c.take_level.new.self c.in_ok-take_level.ensures.left (rank stages) inv.marks);
       count = c.in_ok-write_level.ensures.count ∙ inv.count;
       recent =
@@ -229,7 +229,7 @@ loop-alloc-preserved g c =
           (subst (λ (computed : List ℕ). is_among (slice_index level 0) computed ≡ true) (sym c.in_ok-extend_from_slice.ensures.items)
           (among_append_right (slice_index level 0) c.loop-alloc.touched.items level (first_among level some))))
           c.in_ok-mark_level.ensures.recent;
-      counted = omega (arith, inv.counted, c.in_ok-computed.ensures.counted, c.in_ok-extend_from_slice.ensures.len);
+      counted = omega (arith, inv.counted, c.in_ok-results.ensures.counted, c.in_ok-extend_from_slice.ensures.len);
     }
 
 pub returns-clause-states : goal.returns-clause-states
