@@ -10,10 +10,20 @@ use denote.Struct.Tuple.{TupleAt}
 use Rattle.std.proofs.Crossing.{crosses}
 use Rattle.std.specs.contracts.alloc.Global as Heap
 use Rattle.std.below.core.specs.contracts.marker.ClosureMark as mark
+use Rattle.act_expr.proofs.Crossing.{expr_sync}
+use Rattle.stage_graph.proofs.Crossing.{name_sync, places_sync, outcome_sync, ends_sync}
+use Rattle.stage_graph.specs.contracts.stage.Stage as stage
 use Rattle.time_sweep.specs.contracts.known.Start as start
+use Rattle.time_sweep.specs.contracts.standing.Standing as standing
 
-pub start_sync : IsSync start.the_row
-start_sync = search (sendable, crosses) depth 60 fits 100000
+stage_sync : IsSync stage.the_row
+stage_sync = search (sendable, crosses, name_sync, places_sync, outcome_sync, ends_sync, expr_sync) depth 60 fits 100000
+
+standing_sync : (ℓ : NamedLft) → IsSync (standing.the_row ℓ)
+standing_sync ℓ = search (sendable, crosses, stage_sync) depth 60 fits 100000
+
+pub start_sync : (ℓ : NamedLft) → IsSync (start.the_row ℓ)
+start_sync ℓ = search (sendable, crosses, standing_sync) depth 60 fits 100000
 
 -- V: the version, W: what the trials start from
 pub captures_sync : (ν : Sym) (ℓ ℓ' ℓ'' : NamedLft) (V W : RattleType) (one : One V.mir) (two : One W.mir) → IsSync V → IsSync W

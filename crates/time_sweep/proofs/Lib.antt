@@ -8,4 +8,5 @@ pub mod Soonest
 pub mod TrialTurns
 pub mod Trying
 pub mod Readers
+pub mod Stands
 pub mod Unreached

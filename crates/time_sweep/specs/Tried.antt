@@ -7,6 +7,7 @@ use Rattle.propagate.specs.Reach.{AreStates}
 use Rattle.time_sweep.specs.declared.known.Start.{Start}
 use Rattle.time_sweep.specs.declared.trial.Trial.{Trial}
 use Rattle.time_sweep.specs.Known.{AreRanksFor, IsKnown}
+use Rattle.time_sweep.specs.Standing.{AreStanding}
 
 -- the trials, unless memory ran out
 abbrev pub trials_in : {E : Type 0} → Result (Vec Trial Global) E → List Trial
@@ -27,5 +28,6 @@ pub record CanStart (graph : PlainGraph) (start : Start) : Type 0 where
   pub known : All (IsKnown start.ranks.items) start.places.items
   pub states : AreStates (java_step graph.mode) graph.places start.before.items
   pub ranks : AreRanksFor graph.places start.target start.ranks.items
+  pub standing : AreStanding graph.places start.ranks.items start.standing.items
   pub some : 0 < start.size
   pub size : start.size ≤ 65536

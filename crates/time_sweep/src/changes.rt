@@ -2,14 +2,15 @@
 ghost use Rattle.std.specs.Prelude.{◌≡◌, ◌<◌, ◌++◌, ◌∷◌, [], length, option_copied, slice_set, IfOk, OnOk};
 ghost use Rattle.time_sweep.specs.Changed.{changed_at, state_in, states_in};
 
+use propagate::KeptState;
 use stage_ops::{Look, State};
 use std::alloc::{AllocError, Global};
 
-/// The state that a trial gives a place.
-#[derive(Clone, Copy)]
+/// The state that a trial gives a place, as lists store it: without the room for an exception's name, where it has none.
+#[derive(Drop)]
 pub(crate) struct Change {
     pub(crate) place: u32,
-    pub(crate) state: State,
+    pub(crate) state: KeptState,
 }
 
 /// The states that a trial changes. What has a place here that names it is changed, and nothing else is: so a trial that
@@ -43,7 +44,7 @@ impl Changes {
 
     /// The state that a place was given, if it is changed.
     #[inline(always)]
-    fn get(&self, place: u32) -> Option<&State>
+    fn get(&self, place: u32) -> Option<&KeptState>
         ensures { option_copied result ≡ changed_at self.now.at.items self.now.list.items place }
     {
         let index = *self.at.get(place as usize)?;
@@ -56,28 +57,29 @@ impl Changes {
     }
 
     /// Gives a place a state.
-    pub(crate) fn set(&mut self, place: u32, state: State) -> Result<(), AllocError>
+    pub(crate) fn set(&mut self, place: u32, state: KeptState) -> Result<(), AllocError>
         requires within { place < length self.old.at.items }
         requires few { length self.old.list.items < 65536 }
         ensures at { OnOk result (self.new.at.items ≡ slice_set self.old.at.items place (length self.old.list.items)) }
         ensures list { OnOk result (self.new.list.items ≡ self.old.list.items ++ (record { place = place; state = state }) ∷ []) }
     {
         self.at[place as usize] = self.list.len() as u32;
-        self.list.extend_from_slice(&[Change { place, state }])
+        self.list.push(Change { place, state })?;
+        Ok(())
     }
 }
 
 /// The states of a trial so far: those that it has changed, and else those of the version.
 #[derive(Drop)]
 pub(crate) struct Now<'a> {
-    pub(crate) before: &'a [State],
+    pub(crate) before: &'a [KeptState],
     pub(crate) changes: &'a Changes,
 }
 
 impl<'a> Now<'a> {
     /// The state at a place.
     #[inline(always)]
-    pub(crate) fn at(&self, place: u32) -> &'a State
+    pub(crate) fn at(&self, place: u32) -> &'a KeptState
         requires { place < length self.now.before.now }
         ensures { result.now ≡ state_in self.now.before.now self.now.changes.now.at.items self.now.changes.now.list.items place }
     {
@@ -93,6 +95,6 @@ impl<'a> Look for Now<'a> {
 
     #[inline(always)]
     fn state(&self, place: u32) -> State {
-        *self.at(place)
+        self.at(place).state()
     }
 }

@@ -13,18 +13,18 @@ ghost use Rattle.propagate.specs.Completions.{differ};
 ghost use Rattle.propagate.specs.Reach.{come_to, has_read, AreStates};
 ghost use Rattle.time_sweep.specs.Changed.{state_in, states_in};
 ghost use Rattle.time_sweep.specs.Known.{is_below, rank_in, AreRanksFor, IsKnown};
+ghost use Rattle.time_sweep.specs.Standing.{AreStanding};
 ghost use Rattle.time_sweep.specs.Sweep.{completion_of, hurried};
 
 use crate::changes::{Changes, Now};
-use crate::differ::differ;
-use crate::known::known_rank;
-use crate::reads::{has_read, reads_in};
-use propagate::StateRepresentation;
+use crate::known::{known_rank, reads_in};
+use crate::standing::{Standing, standing_at};
+use propagate::{KeptState, StateRepresentation, has_read};
 use rank_order::Marks;
 use stage_graph::{Graph, Stage};
-use stage_ops::{Done, JavaOps, Meter, Reads, StageOps, State};
+use stage_ops::{Done, JavaOps, Meter, Reads, StageOps};
 use std::alloc::{AllocError, Global};
-use version_store::{NoStage, Version};
+use version_store::Version;
 
 /// The marker of the meter of a computation.
 #[derive(Drop)]
@@ -55,33 +55,64 @@ fn first_mark(alloc: Global, ranks: &[Option<u32>], place: u32) -> Result<Marks,
     Ok(marks)
 }
 
-/// The dependents of a stage.
-fn dependents_of<R: StateRepresentation>(version: &Version<R>, place: u32) -> &[u32]
-    requires { IsLive version.now.graph.places place }
-    ensures { result.now ≡ dependents version.now.graph.places place }
+/// The stage at a place whose rank is known.
+#[inline(always)]
+fn stage_at<'a, R: StateRepresentation>(
+    version: &Version<R>,
+    ranks: &[Option<u32>],
+    standing: &[Option<Standing<'a>>],
+    place: u32,
+) -> Option<&'a Stage>
+    requires known { IsKnown ranks.now place }
+    requires standing { AreStanding version.now.graph.places ranks.now standing.now }
+    ensures stage { option_copied result ≡ stage_at version.now.graph.places place }
+    ensures sound { IfSome result (λ stage. IsSoundStage version.now.graph.places place stage.now) }
 {
-    match version.dependents(place) {
-        Ok(dependents) => dependents,
-        Err(NoStage) => unreachable!(),
+    match standing_at(standing, place) {
+        Some(one) => Some(one.stage),
+        None => None,
     }
 }
 
-/// Whether the stage at a place has read one of its feeds in the version.
+/// The dependents of a stage whose rank is known.
+#[inline(always)]
+fn dependents_of<'a, R: StateRepresentation>(
+    version: &Version<R>,
+    ranks: &[Option<u32>],
+    standing: &[Option<Standing<'a>>],
+    place: u32,
+) -> &'a [u32]
+    requires live { IsLive version.now.graph.places place }
+    requires known { IsKnown ranks.now place }
+    requires standing { AreStanding version.now.graph.places ranks.now standing.now }
+    ensures { result.now ≡ dependents version.now.graph.places place }
+{
+    match standing_at(standing, place) {
+        Some(one) => one.dependents,
+        None => unreachable!(),
+    }
+}
+
+/// Whether the stage at a place whose rank is known has read one of its feeds in the version.
 fn is_reader<R: StateRepresentation>(
-    graph: &Graph<R>,
-    before: &[State],
+    version: &Version<R>,
+    before: &[KeptState],
+    ranks: &[Option<u32>],
+    standing: &[Option<Standing<'_>>],
     feed: u32,
     place: u32,
 ) -> bool
-    requires { is_among feed (feeds_at graph.now.places place) ≡ true }
-    ensures { result ≡ has_read graph.now.places (state_at before.now) feed place }
+    requires feed { is_among feed (feeds_at version.now.graph.places place) ≡ true }
+    requires known { IsKnown ranks.now place }
+    requires standing { AreStanding version.now.graph.places ranks.now standing.now }
+    ensures { result ≡ has_read version.now.graph.places (state_at before.now) feed place }
 {
     let reads = reads_in(before, place);
-    // A stage with both pins reads nothing, and so it is not looked up.
+    // A stage with both pins reads nothing.
     if let Reads::Nothing = reads {
         return false;
     }
-    match graph.stage(place) {
+    match stage_at(version, ranks, standing, place) {
         Some(stage) => has_read(stage, reads, feed),
         None => false,
     }
@@ -89,18 +120,20 @@ fn is_reader<R: StateRepresentation>(
 
 /// The rank of a dependent of a place, if the rank is known and the dependent has read the place.
 fn reader_rank<R: StateRepresentation>(
-    graph: &Graph<R>,
-    before: &[State],
+    version: &Version<R>,
+    before: &[KeptState],
     ranks: &[Option<u32>],
+    standing: &[Option<Standing<'_>>],
     place: u32,
     dependent: u32,
 ) -> Option<u32>
-    requires feed { is_among place (feeds_at graph.now.places dependent) ≡ true }
-    ensures known { is_some result ≡ (is_some (rank_in ranks.now dependent) && has_read graph.now.places (state_at before.now) place dependent) }
+    requires feed { is_among place (feeds_at version.now.graph.places dependent) ≡ true }
+    requires standing { AreStanding version.now.graph.places ranks.now standing.now }
+    ensures known { is_some result ≡ (is_some (rank_in ranks.now dependent) && has_read version.now.graph.places (state_at before.now) place dependent) }
     ensures rank { IfSome result (λ rank. rank_in ranks.now dependent ≡ Some rank) }
 {
     let rank = known_rank(ranks, dependent)?;
-    if is_reader(graph, before, place, dependent) {
+    if is_reader(version, before, ranks, standing, place, dependent) {
         Some(rank)
     } else {
         None
@@ -113,22 +146,24 @@ fn reader_rank<R: StateRepresentation>(
 fn tell<R: StateRepresentation>(
     marks: &mut Marks,
     version: &Version<R>,
-    before: &[State],
+    before: &[KeptState],
     ranks: &[Option<u32>],
+    standing: &[Option<Standing<'_>>],
     target: u32,
     place: u32,
 ) -> Result<(), AllocError>
     requires live { IsLive version.now.graph.places place }
+    requires known { IsKnown ranks.now place }
     requires ranks { AreRanksFor version.now.graph.places target ranks.now }
+    requires standing { AreStanding version.now.graph.places ranks.now standing.now }
     ensures marked { OnOk result ((other : ℕ) → is_marked (rank version.now.graph.places) marks.new other
         ≡ (is_marked (rank version.now.graph.places) marks.old other
         || (is_among place (feeds_at version.now.graph.places other) && (is_some (rank_in ranks.now other) && has_read version.now.graph.places (state_at before.now) place other)))) }
     ensures marks { OnOk result (AreMarks (rank version.now.graph.places) marks.old → AreMarks (rank version.now.graph.places) marks.new) }
 {
-    let graph = version.graph();
-    let dependents = dependents_of(version, place);
+    let dependents = dependents_of(version, ranks, standing, place);
     for dependent in dependents {
-        if let Some(rank) = reader_rank(graph, before, ranks, place, *dependent) {
+        if let Some(rank) = reader_rank(version, before, ranks, standing, place, *dependent) {
             marks.insert(rank, *dependent)?;
         }
     }
@@ -140,82 +175,104 @@ fn tell_if<R: StateRepresentation>(
     is_told: bool,
     marks: &mut Marks,
     version: &Version<R>,
-    before: &[State],
+    before: &[KeptState],
     ranks: &[Option<u32>],
+    standing: &[Option<Standing<'_>>],
     target: u32,
     place: u32,
 ) -> Result<(), AllocError>
     requires live { IsLive version.now.graph.places place }
+    requires known { IsKnown ranks.now place }
     requires ranks { AreRanksFor version.now.graph.places target ranks.now }
+    requires standing { AreStanding version.now.graph.places ranks.now standing.now }
     ensures marked { OnOk result ((other : ℕ) → is_marked (rank version.now.graph.places) marks.new other
         ≡ (is_marked (rank version.now.graph.places) marks.old other
         || (is_told && (is_among place (feeds_at version.now.graph.places other) && (is_some (rank_in ranks.now other) && has_read version.now.graph.places (state_at before.now) place other))))) }
     ensures marks { OnOk result (AreMarks (rank version.now.graph.places) marks.old → AreMarks (rank version.now.graph.places) marks.new) }
 {
     if is_told {
-        return tell(marks, version, before, ranks, target, place);
+        return tell(marks, version, before, ranks, standing, target, place);
     }
     Ok(())
 }
 
-/// The stage at a place of the graph in which a stage's action takes no time.
+/// The stage at a place whose rank is known, of the graph in which a stage's action takes no time.
 #[inline(always)]
 fn stage_in<'a, R: StateRepresentation>(
-    graph: &'a Graph<R>,
+    version: &Version<R>,
+    ranks: &[Option<u32>],
+    standing: &[Option<Standing<'a>>],
     fast: &'a Stage,
     place: u32,
 ) -> Option<&'a Stage>
-    requires live { IsLive graph.now.places fast.now.place }
-    requires sound { IsSoundStage graph.now.places fast.now.place fast.now }
-    ensures stage { option_copied result ≡ stage_at (slice_set graph.now.places fast.now.place (Some fast.now)) place }
-    ensures sound { IfSome result (λ stage. IsSoundStage graph.now.places place stage.now) }
+    requires live { IsLive version.now.graph.places fast.now.place }
+    requires sound { IsSoundStage version.now.graph.places fast.now.place fast.now }
+    requires known { IsKnown ranks.now place }
+    requires standing { AreStanding version.now.graph.places ranks.now standing.now }
+    ensures stage { option_copied result ≡ stage_at (slice_set version.now.graph.places fast.now.place (Some fast.now)) place }
+    ensures sound { IfSome result (λ stage. IsSoundStage version.now.graph.places place stage.now) }
 {
     if place == fast.place {
         Some(fast)
     } else {
-        graph.stage(place)
+        stage_at(version, ranks, standing, place)
     }
 }
 
 /// The state that a stage comes to, by the states of its feeds.
-fn state_of<R: StateRepresentation>(graph: &Graph<R>, stage: &Stage, now: &Now) -> State
+#[inline(always)]
+fn state_of<R: StateRepresentation>(
+    alloc: Global,
+    graph: &Graph<R>,
+    stage: &Stage,
+    now: &Now,
+) -> Result<KeptState, AllocError>
     requires each { length now.now.changes.now.at.items ≡ length now.now.before.now }
     requires sound { IsSoundAmong (length now.now.before.now) stage.now }
     requires moments { All (λ state. IsBy (2 ^ 62) (seen_of state)) (states_in now.now.before.now now.now.changes.now.at.items now.now.changes.now.list.items) }
-    ensures { result ≡ come_to (java_step graph.now.mode) (Some stage.now) (state_in now.now.before.now now.now.changes.now.at.items now.now.changes.now.list.items) }
+    ensures { IfOk result (λ state. state ≡ come_to (java_step graph.now.mode) (Some stage.now) (state_in now.now.before.now now.now.changes.now.at.items now.now.changes.now.list.items)) }
 {
     let pass = Meter::new(OneTrial).pass(stage.place);
-    JavaOps.compute(graph.mode(), stage, &pass, now)
+    let state = JavaOps.compute(graph.mode(), stage, &pass, now);
+    KeptState::new(alloc, &state)
 }
 
 /// The state that the stage at a place comes to, where a stage's action takes no time.
+#[inline(always)]
 fn state_in<R: StateRepresentation>(
-    graph: &Graph<R>,
-    before: &[State],
+    alloc: Global,
+    version: &Version<R>,
+    before: &[KeptState],
+    ranks: &[Option<u32>],
+    standing: &[Option<Standing<'_>>],
     fast: &Stage,
     place: u32,
     changes: &Changes,
-) -> State
-    requires live { IsLive graph.now.places place }
-    requires sound { IsSoundStage graph.now.places fast.now.place fast.now }
-    requires stands { IsLive graph.now.places fast.now.place }
-    requires count { length before.now ≡ length graph.now.places }
-    requires each { length changes.now.at.items ≡ length graph.now.places }
+) -> Result<KeptState, AllocError>
+    requires live { IsLive version.now.graph.places place }
+    requires known { IsKnown ranks.now place }
+    requires standing { AreStanding version.now.graph.places ranks.now standing.now }
+    requires sound { IsSoundStage version.now.graph.places fast.now.place fast.now }
+    requires stands { IsLive version.now.graph.places fast.now.place }
+    requires count { length before.now ≡ length version.now.graph.places }
+    requires each { length changes.now.at.items ≡ length version.now.graph.places }
     requires moments { All (λ state. IsBy (2 ^ 62) (seen_of state)) (states_in before.now changes.now.at.items changes.now.list.items) }
-    ensures { result ≡ come_to (java_step graph.now.mode) (stage_at (slice_set graph.now.places fast.now.place (Some fast.now)) place)
-        (state_in before.now changes.now.at.items changes.now.list.items) }
+    ensures { IfOk result (λ state. state ≡ come_to (java_step version.now.graph.mode) (stage_at (slice_set version.now.graph.places fast.now.place (Some fast.now)) place)
+        (state_in before.now changes.now.at.items changes.now.list.items)) }
 {
-    match stage_in(graph, fast, place) {
-        Some(stage) => state_of(graph, stage, &Now { before, changes }),
+    match stage_in(version, ranks, standing, fast, place) {
+        Some(stage) => state_of(alloc, version.graph(), stage, &Now { before, changes }),
         None => unreachable!(),
     }
 }
 
 /// Computes the stage at a place, and marks those of its dependents that have read it, if they can tell the difference.
 fn advance<R: StateRepresentation>(
+    alloc: Global,
     version: &Version<R>,
-    before: &[State],
+    before: &[KeptState],
     ranks: &[Option<u32>],
+    standing: &[Option<Standing<'_>>],
     fast: &Stage,
     target: u32,
     place: u32,
@@ -223,7 +280,9 @@ fn advance<R: StateRepresentation>(
     changes: &mut Changes,
 ) -> Result<(), AllocError>
     requires live { IsLive version.now.graph.places place }
+    requires known { IsKnown ranks.now place }
     requires ranks { AreRanksFor version.now.graph.places target ranks.now }
+    requires standing { AreStanding version.now.graph.places ranks.now standing.now }
     requires sound { IsSoundStage version.now.graph.places fast.now.place fast.now }
     requires stands { IsLive version.now.graph.places fast.now.place }
     requires count { length before.now ≡ length version.now.graph.places }
@@ -247,10 +306,14 @@ fn advance<R: StateRepresentation>(
     let graph = version.graph();
     // With its length a graph says that it is sound, and so how many places it has at most.
     let _ = graph.len();
-    let state = state_in(graph, before, fast, place, changes);
-    let is_told = differ(Now { before, changes }.at(place), &state);
+    let state = state_in(
+        alloc, version, before, ranks, standing, fast, place, changes,
+    )?;
+    let is_told = Now { before, changes }.at(place).differs(&state);
     changes.set(place, state)?;
-    tell_if(is_told, marks, version, before, ranks, target, place)?;
+    tell_if(
+        is_told, marks, version, before, ranks, standing, target, place,
+    )?;
     Ok(())
 }
 
@@ -269,8 +332,9 @@ fn is_below(ranks: &[Option<u32>], one: u32, other: u32) -> bool
 fn settle<R: StateRepresentation>(
     alloc: Global,
     version: &Version<R>,
-    before: &[State],
+    before: &[KeptState],
     ranks: &[Option<u32>],
+    standing: &[Option<Standing<'_>>],
     stage: &Stage,
     fast: &Stage,
     target: u32,
@@ -282,6 +346,7 @@ fn settle<R: StateRepresentation>(
     requires known { IsKnown ranks.now stage.now.place }
     requires states { AreStates (java_step version.now.graph.mode) version.now.graph.places before.now }
     requires ranks { AreRanksFor version.now.graph.places target ranks.now }
+    requires standing { AreStanding version.now.graph.places ranks.now standing.now }
     requires each { length changes.old.at.items ≡ length version.now.graph.places }
     ensures each { OnOk result (length changes.new.at.items ≡ length version.now.graph.places) }
     ensures settled { OnOk result (state_in before.now changes.new.at.items changes.new.list.items target
@@ -297,7 +362,7 @@ fn settle<R: StateRepresentation>(
             return Ok(());
         }
         advance(
-            version, before, ranks, fast, target, place, &mut marks, changes,
+            alloc, version, before, ranks, standing, fast, target, place, &mut marks, changes,
         )?;
         if place == target {
             return Ok(());
@@ -310,8 +375,9 @@ fn settle<R: StateRepresentation>(
 pub(crate) fn hurried_completion<R: StateRepresentation>(
     alloc: Global,
     version: &Version<R>,
-    before: &[State],
+    before: &[KeptState],
     ranks: &[Option<u32>],
+    standing: &[Option<Standing<'_>>],
     stage: &Stage,
     target: u32,
     changes: &mut Changes,
@@ -322,12 +388,15 @@ pub(crate) fn hurried_completion<R: StateRepresentation>(
     requires known { IsKnown ranks.now stage.now.place }
     requires states { AreStates (java_step version.now.graph.mode) version.now.graph.places before.now }
     requires ranks { AreRanksFor version.now.graph.places target ranks.now }
+    requires standing { AreStanding version.now.graph.places ranks.now standing.now }
     requires each { length changes.old.at.items ≡ length version.now.graph.places }
     ensures each { OnOk result (length changes.new.at.items ≡ length version.now.graph.places) }
     ensures done { IfOk result (λ done. done ≡ completion_of (hurried version.now.graph stage.now) target) }
 {
     let fast = without_time(stage)?;
-    settle(alloc, version, before, ranks, stage, &fast, target, changes)?;
+    settle(
+        alloc, version, before, ranks, standing, stage, &fast, target, changes,
+    )?;
     let now = Now { before, changes };
-    Ok(now.at(target).done)
+    Ok(now.at(target).state().done)
 }

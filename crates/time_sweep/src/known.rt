@@ -2,21 +2,25 @@
 ghost use Rattle.std.specs.Prelude.{◌≡◌, IfOk, slice_index_or, None};
 ghost use Rattle.stage_ops.specs.Java.{java_step};
 ghost use Rattle.propagate.specs.Reach.{AreStates};
+ghost use Rattle.stage_ops.specs.States.{state_at};
 ghost use Rattle.version_store.specs.Queries.{state_of};
 
-use propagate::StateRepresentation;
-use stage_ops::State;
+use crate::standing::Standing;
+use propagate::{KeptState, StateRepresentation};
+use stage_ops::{Reads, State};
 use std::alloc::{AllocError, Global};
 use version_store::{NoStage, Version};
 
 /// What all trials of a sweep start from.
 #[derive(Drop)]
-pub(crate) struct Start {
+pub(crate) struct Start<'a> {
     pub(crate) target: u32,
     /// The state of each place.
-    pub(crate) before: Vec<State>,
+    pub(crate) before: Vec<KeptState>,
     /// The rank of each place that the target can wait for, and maybe of others.
     pub(crate) ranks: Vec<Option<u32>>,
+    /// What stands at these places.
+    pub(crate) standing: Vec<Option<Standing<'a>>>,
     /// The places at which trials are made.
     pub(crate) places: Vec<u32>,
     /// How many of them a part has.
@@ -37,14 +41,14 @@ fn state_at<R: StateRepresentation>(version: &Version<R>, place: u32) -> State
 pub(crate) fn states_of<R: StateRepresentation>(
     alloc: Global,
     version: &Version<R>,
-) -> Result<Vec<State>, AllocError>
+) -> Result<Vec<KeptState>, AllocError>
     ensures { IfOk result (λ states. AreStates (java_step version.now.graph.mode) version.now.graph.places states.items) }
 {
     let graph = version.graph();
     let count = graph.len();
     let mut states = Vec::with_capacity(alloc, count)?;
     for place in 0..count as u32 {
-        states.push(state_at(version, place))?;
+        states.push(KeptState::new(alloc, &state_at(version, place))?)?;
     }
     Ok(states)
 }
@@ -57,5 +61,16 @@ pub(crate) fn known_rank(ranks: &[Option<u32>], place: u32) -> Option<u32>
     match ranks.get(place as usize) {
         Some(rank) => *rank,
         None => None,
+    }
+}
+
+/// What the stage at a place has read.
+#[inline(always)]
+pub(crate) fn reads_in(states: &[KeptState], place: u32) -> Reads
+    ensures { result ≡ (state_at states.now place).reads }
+{
+    match states.get(place as usize) {
+        Some(state) => state.reads(),
+        None => Reads::Nothing,
     }
 }

@@ -6,10 +6,9 @@
 
 mod ancestors;
 mod changes;
-mod differ;
 mod hurried;
 mod known;
-mod reads;
+mod standing;
 mod sweep;
 mod trial;
 mod trials;

@@ -7,17 +7,19 @@ ghost use Rattle.propagate.specs.Reach.{AreStates};
 ghost use Rattle.level_pool.specs.Runs.{IsPlainMap};
 ghost use Rattle.time_sweep.specs.Sweep.{completion_of, sooner_trial, trial_at, trials};
 ghost use Rattle.time_sweep.specs.Known.{AreRanksFor, IsKnown};
+ghost use Rattle.time_sweep.specs.Standing.{AreStanding};
 ghost use Rattle.time_sweep.specs.Tried.{part_of, trials_in, CanStart, GiveAll};
 
 use crate::ancestors::ranks_of;
 use crate::changes::Changes;
 use crate::hurried::hurried_completion;
 use crate::known::{Start, known_rank, states_of};
+use crate::standing::{Standing, standing_of};
 use crate::trial::Trial;
 use level_pool::Runner;
-use propagate::StateRepresentation;
+use propagate::{KeptState, StateRepresentation};
 use stage_graph::Stage;
-use stage_ops::{Done, State};
+use stage_ops::Done;
 use std::alloc::{AllocError, Global};
 use version_store::{NoStage, Version};
 
@@ -70,8 +72,9 @@ fn takes_no_time(stage: &Stage) -> bool
 fn trial_at<R: StateRepresentation>(
     alloc: Global,
     version: &Version<R>,
-    before: &[State],
+    before: &[KeptState],
     ranks: &[Option<u32>],
+    standing: &[Option<Standing<'_>>],
     target: u32,
     place: u32,
     changes: &mut Changes,
@@ -80,6 +83,7 @@ fn trial_at<R: StateRepresentation>(
     requires known { IsKnown ranks.now place }
     requires states { AreStates (java_step version.now.graph.mode) version.now.graph.places before.now }
     requires ranks { AreRanksFor version.now.graph.places target ranks.now }
+    requires standing { AreStanding version.now.graph.places ranks.now standing.now }
     requires each { length changes.old.at.items ≡ length version.now.graph.places }
     ensures each { OnOk result (length changes.new.at.items ≡ length version.now.graph.places) }
     ensures trial { IfOk result (λ trial. trial ≡ trial_at version.now.graph target place) }
@@ -91,7 +95,9 @@ fn trial_at<R: StateRepresentation>(
         return Ok(None);
     }
     let old = completion_of(version, target);
-    let new = hurried_completion(alloc, version, before, ranks, stage, target, changes)?;
+    let new = hurried_completion(
+        alloc, version, before, ranks, standing, stage, target, changes,
+    )?;
     Ok(sooner_trial(place, &old, &new))
 }
 
@@ -158,8 +164,9 @@ fn numbers(alloc: Global, count: u32) -> Result<Vec<u32>, AllocError>
 fn trials_among<R: StateRepresentation>(
     alloc: Global,
     version: &Version<R>,
-    before: &[State],
+    before: &[KeptState],
     ranks: &[Option<u32>],
+    standing: &[Option<Standing<'_>>],
     target: u32,
     places: &[u32],
 ) -> Result<Vec<Trial>, AllocError>
@@ -167,6 +174,7 @@ fn trials_among<R: StateRepresentation>(
     requires known { All (IsKnown ranks.now) places.now }
     requires states { AreStates (java_step version.now.graph.mode) version.now.graph.places before.now }
     requires ranks { AreRanksFor version.now.graph.places target ranks.now }
+    requires standing { AreStanding version.now.graph.places ranks.now standing.now }
     ensures { IfOk result (λ found. found.items ≡ filter_map (trial_at version.now.graph target) places.now) }
 {
     // Most pieces have no trials, and make no list of changes.
@@ -181,6 +189,7 @@ fn trials_among<R: StateRepresentation>(
             version,
             before,
             ranks,
+            standing,
             target,
             *place,
             &mut changes,
@@ -211,7 +220,7 @@ fn part_of(places: &[u32], size: usize, piece: u32) -> &[u32]
 fn trials_of_piece<R: StateRepresentation>(
     alloc: Global,
     version: &Version<R>,
-    start: &Start,
+    start: &Start<'_>,
     piece: u32,
 ) -> Result<Vec<Trial>, AllocError>
     requires { CanStart version.now.graph start.now }
@@ -220,14 +229,23 @@ fn trials_of_piece<R: StateRepresentation>(
     let places = part_of(start.places.as_slice(), start.size, piece);
     let before = start.before.as_slice();
     let ranks = start.ranks.as_slice();
-    trials_among(alloc, version, before, ranks, start.target, places)
+    let standing = start.standing.as_slice();
+    trials_among(
+        alloc,
+        version,
+        before,
+        ranks,
+        standing,
+        start.target,
+        places,
+    )
 }
 
 /// The trials of each piece, or that memory ran out for it. The runner makes the pieces beside each other.
 fn tried<R: StateRepresentation, W: Runner>(
     alloc: Global,
     version: &Version<R>,
-    start: &Start,
+    start: &Start<'_>,
     pieces: &[u32],
     runner: &W,
 ) -> Result<Vec<Result<Vec<Trial>, AllocError>>, AllocError>
@@ -308,6 +326,7 @@ pub(crate) fn trials<R: StateRepresentation, W: Runner>(
         return Ok(Vec::new(alloc));
     }
     let before = states_of(alloc, version)?;
+    let standing = standing_of(alloc, version, ranks.as_slice(), target)?;
     let size = size_of_parts(places.len());
     // A runner judges by the number of pieces in how many threads it makes them. So there are many for each part, and the
     // first of them makes the part's trials.
@@ -316,6 +335,7 @@ pub(crate) fn trials<R: StateRepresentation, W: Runner>(
         target,
         before,
         ranks,
+        standing,
         places,
         size,
     };

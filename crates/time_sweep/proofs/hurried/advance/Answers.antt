@@ -1,7 +1,7 @@
 use Rattle.std.proofs.Common.{◌≡◌, ◌∙◌, ◌++◌, ◌∷◌, [], ◌||◌, ◌&&◌, Bool, sym, ap, subst, length, arith}
 use Rattle.std.specs.Prelude.{is_some}
-use Rattle.stage_graph.specs.Plain.{PlainGraph, feeds_at, IsLive}
-use Rattle.stage_graph.specs.Sound.{IsSound, IsSoundStage}
+use Rattle.stage_graph.specs.Plain.{feeds_at}
+use Rattle.stage_graph.specs.Sound.{IsSound}
 use Rattle.stage_graph.specs.Walk.{rank}
 use Rattle.stage_ops.specs.declared.state.State.{State}
 use Rattle.stage_ops.specs.States.{seen_of, state_at}
@@ -12,23 +12,7 @@ use Rattle.propagate.specs.Reach.{has_read}
 use Rattle.propagate.proofs.Ranks.{live_within}
 use Rattle.time_sweep.specs.Changed.{state_in}
 use Rattle.time_sweep.specs.Known.{rank_in}
-use Rattle.time_sweep.proofs.TrialTurns.{comes}
 use Rattle.time_sweep.proofs.hurried.advance.Goals as goal
-
-pub state_in-state-requires-clause-live : goal.state_in-state-requires-clause-live
-state_in-state-requires-clause-live g c κs inside = subst (λ (graph : PlainGraph). IsLive graph.places c.args.place) (sym c.graph-graph.ensures.graph) c.requires.live
-
-pub state_in-state-requires-clause-sound : goal.state_in-state-requires-clause-sound
-state_in-state-requires-clause-sound g c κs inside = subst (λ (graph : PlainGraph). IsSoundStage graph.places c.args.fast.now.place c.args.fast.now) (sym c.graph-graph.ensures.graph) c.requires.sound
-
-pub state_in-state-requires-clause-stands : goal.state_in-state-requires-clause-stands
-state_in-state-requires-clause-stands g c κs inside = subst (λ (graph : PlainGraph). IsLive graph.places c.args.fast.now.place) (sym c.graph-graph.ensures.graph) c.requires.stands
-
-pub state_in-state-requires-clause-count : goal.state_in-state-requires-clause-count
-state_in-state-requires-clause-count g c κs inside = subst (λ (graph : PlainGraph). length c.args.before.now ≡ length graph.places) (sym c.graph-graph.ensures.graph) c.requires.count
-
-pub state_in-state-requires-clause-each : goal.state_in-state-requires-clause-each
-state_in-state-requires-clause-each g c κs inside = subst (λ (graph : PlainGraph). length c.args.changes.now.at.items ≡ length graph.places) (sym c.graph-graph.ensures.graph) c.requires.each
 
 pub at-requires : goal.at-requires
 at-requires g c = let within = live_within c.args.version.now.graph.places c.args.place c.requires.live in omega (arith, within, c.requires.count)
@@ -47,15 +31,15 @@ returns-clause-list g c =
     let changes = c.args.changes.now in
     c.in_ok-set.ensures.list
     ∙ ap (λ (state : State). changes.list.items ++ (record { place = c.args.place; state = state }) ∷ [])
-    (c.state_in-state.ensures ∙ ap (λ (graph : PlainGraph). comes graph c.args.fast.now c.args.before.now changes.at.items changes.list.items c.args.place) c.graph-graph.ensures.graph)
+    c.in_ok-state.ensures
 
 pub returns-clause-marked : goal.returns-clause-marked
 returns-clause-marked g c other =
     let changes = c.args.changes.now in
     let places = c.args.version.now.graph.places in
-    let state_is = c.state_in-state.ensures ∙ ap (λ (graph : PlainGraph). comes graph c.args.fast.now c.args.before.now changes.at.items changes.list.items c.args.place) c.graph-graph.ensures.graph in
-    let told_is = c.differ-is_told.ensures
-    ∙ ap (λ (was : State). differ (seen_of was) (seen_of c.state_in-state.result)) c.at.ensures
+    let state_is = c.in_ok-state.ensures in
+    let told_is = c.differs-is_told.ensures
+    ∙ ap (λ (was : State). differ (seen_of was) (seen_of c.in_ok-state.state)) c.at.ensures
     ∙ ap (λ (now : State). differ (seen_of (state_in c.args.before.now changes.at.items changes.list.items c.args.place)) (seen_of now)) state_is in
     c.in_ok-tell_if.ensures.marked other
     ∙ ap (λ (told : Bool). is_marked (rank places) c.args.marks.now other || (told && (is_among c.args.place (feeds_at places other) && (is_some (rank_in c.args.ranks.now other) && has_read places (state_at c.args.before.now) c.args.place other)))) told_is

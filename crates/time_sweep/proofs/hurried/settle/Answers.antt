@@ -32,6 +32,14 @@ advance-requires-clause-live g c κs inside =
     turn_live graph c.graph-graph.ensures.ranked sound c.args.stage.now c.requires.stands c.args.target c.args.ranks.now c.requires.ranks c.args.before.now c.requires.states
     c.loop-place.changes.at.items c.loop-place.changes.list.items (is_marked (rank graph.places) c.loop-place.marks) inv.each inv.settling (c.in-Some.ensures.first (rank graph.places) inv.marks)
 
+pub advance-requires-clause-known : goal.advance-requires-clause-known
+advance-requires-clause-known g c κs inside =
+    let graph = c.args.version.now.graph in
+    let sound = subst IsSound c.graph-graph.ensures.graph c.len.ensures.sound in
+    let inv = c.loop-place.invariant in
+    turn_known graph c.graph-graph.ensures.ranked sound c.args.stage.now c.requires.stands c.args.target c.args.ranks.now c.requires.ranks c.args.before.now c.requires.states
+    c.loop-place.changes.at.items c.loop-place.changes.list.items (is_marked (rank graph.places) c.loop-place.marks) inv.each inv.settling (c.in-Some.ensures.first (rank graph.places) inv.marks)
+
 pub advance-requires-clause-few : goal.advance-requires-clause-few
 advance-requires-clause-few g c κs inside =
     let graph = c.args.version.now.graph in

@@ -1,6 +1,6 @@
 use Rattle.std.proofs.Common.{◌≡◌, ◌<◌, ℕ, List, Some, length, true, ◌||◌, ◌&&◌, ◌==◌, sym, ap, ◌∙◌, subst, arith, get_or, take_all}
 use Rattle.std.specs.Prelude.{is_some}
-use Rattle.stage_graph.specs.Plain.{PlainGraph, feeds_at}
+use Rattle.stage_graph.specs.Plain.{feeds_at}
 use Rattle.stage_graph.specs.Walk.{rank}
 use Rattle.stage_ops.specs.States.{state_at}
 use Rattle.rank_order.specs.Lists.{is_among}
@@ -18,9 +18,8 @@ reader_rank-requires-clause-feed g c κs inside =
     let place = c.args.place in
     let listed = c.dependents_of-dependents.ensures in
     let i = c.loop-dependent.dependent-index in
-    subst (λ (graph : PlainGraph). is_among place (feeds_at graph.places (get_or c.dependents_of-dependents.result.now i 0)) ≡ true) (sym c.graph-graph.ensures.graph)
-    (subst (λ (places : List ℕ). is_among place (feeds_at stages (get_or places i 0)) ≡ true) (sym listed)
-    (dependent_uses stages place i (subst (λ (places : List ℕ). i < length places) listed (omega arith))))
+    subst (λ (places : List ℕ). is_among place (feeds_at stages (get_or places i 0)) ≡ true) (sym listed)
+    (dependent_uses stages place i (subst (λ (places : List ℕ). i < length places) listed (omega arith)))
 
 pub loop-dependent-preserved : goal.loop-dependent-preserved
 loop-dependent-preserved g c =
@@ -32,8 +31,7 @@ loop-dependent-preserved g c =
     let dependent = get_or listed i 0 in
     let inv = c.loop-dependent.invariant in
     let within : i < length listed = omega arith in
-    let reads : is_some c.reader_rank.result ≡ reader dependent =
-    subst (λ (graph : PlainGraph). is_some c.reader_rank.result ≡ (is_some (rank_in c.args.ranks.now dependent) && has_read graph.places (state_at c.args.before.now) place dependent)) c.graph-graph.ensures.graph c.reader_rank.ensures.known in
+    let reads : is_some c.reader_rank.result ≡ reader dependent = c.reader_rank.ensures.known in
     elim c.match-reader_rank.branch [
       | in-Some+in_ok-insert w ↦
           (let found : rank_in c.args.ranks.now dependent ≡ Some w.in-Some.rank = w.in-Some.ensures.rank in

@@ -9,7 +9,7 @@ use Rattle.time_sweep.proofs.known.states_of.Goals as goal
 
 pub loop-place-preserved : goal.loop-place-preserved
 loop-place-preserved g c =
-    by_place_more (state_of c.args.version.now.graph) c.loop-place.place c.loop-place.states.items _ c.state_at.result c.loop-place.invariant c.in_ok-push.ensures.items c.state_at.ensures
+    by_place_more (state_of c.args.version.now.graph) c.loop-place.place c.loop-place.states.items _ c.in_ok-new.field-0 c.loop-place.invariant c.in_ok-push.ensures.items (c.in_ok-new.ensures ∙ c.state_at.ensures)
 
 pub returns : goal.returns
 returns g c =

@@ -21,9 +21,9 @@ returns g c =
     let pieces = c.piece_count.result in
     let count = c.len-2.ensures ∙ c.in_ok-places.places.ok.0 in
     let zip : AllZip (GiveAll each) (range_with_len 0 pieces) tried =
-    subst (λ (pieces : List ℕ). AllZip (GiveAll each) pieces tried) (c.as_slice-2.ensures.value ∙ c.in_ok-pieces.ensures) c.in_ok-tried.ensures in
+    subst (λ (pieces : List ℕ). AllZip (GiveAll each) pieces tried) (c.as_slice-3.ensures.value ∙ c.in_ok-pieces.ensures) c.in_ok-tried.ensures in
     both_ok c.found_among.result _ _ _
     (λ found is all.
-    is ∙ ap (flat_map trials_in) c.as_slice-3.ensures.value ∙ all_tried each (range_with_len 0 pieces) tried zip (subst (All (λ one. IsOk one)) c.as_slice-3.ensures.value all)
+    is ∙ ap (flat_map trials_in) c.as_slice-4.ensures.value ∙ all_tried each (range_with_len 0 pieces) tried zip (subst (All (λ one. IsOk one)) c.as_slice-4.ensures.value all)
     ∙ from_pieces trial places size pieces c.piece_count.ensures.whole (subst (λ n. n ≤ pieces / 64 * size) count c.piece_count.ensures.all) ∙ c.in_ok-places.ensures.trials)
     c.found_among.ensures.found c.found_among.ensures.all

@@ -14,4 +14,4 @@ returns c =
     let now = c.args.self.now in
     let long = states_long now.before.now now.changes.now.at.items now.changes.now.list.items in
     state_within now.before.now now.changes.now.at.items now.changes.now.list.items c.args.place (omega (arith, long, c.requires))
-    ∙ ap (λ (state : State). Some state) (sym c.at.ensures)
+    ∙ ap (λ (state : State). Some state) (sym (c.state.ensures ∙ c.at.ensures))
