@@ -45,6 +45,7 @@ pub(crate) fn push_done(line: &mut String, outcome: &Outcome, moment: u64) -> Re
 }
 
 /// A completion, or that there is none yet.
+#[inline(always)]
 pub(crate) fn push_completion(line: &mut String, done: &Option<Done>) -> Result<(), AllocError>
     ensures { OnOk result (string_bytes line.new ≡ string_bytes line.old ++ completion_text done.now) }
 {
@@ -54,6 +55,7 @@ pub(crate) fn push_completion(line: &mut String, done: &Option<Done>) -> Result<
     }
 }
 
+#[inline(always)]
 pub(crate) fn push_state(line: &mut String, state: &State) -> Result<(), AllocError>
     ensures { OnOk result (string_bytes line.new ≡ string_bytes line.old ++ state_text state.now) }
 {

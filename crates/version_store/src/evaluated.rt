@@ -117,6 +117,7 @@ impl<R: StateRepresentation> Evaluated<R> {
     }
 
     /// The graph, which has no cycle.
+    #[inline(always)]
     pub(crate) fn graph(&self) -> &Graph<R>
         ensures graph { result.now ≡ self.now }
         ensures ranked { IsRanked self.now.places }
@@ -127,6 +128,7 @@ impl<R: StateRepresentation> Evaluated<R> {
     }
 
     /// The state of a place: pending where no stage stands.
+    #[inline(always)]
     pub(crate) fn state_at(&self, place: u32) -> State
         ensures { result ≡ state_of self.now place }
     {
@@ -165,6 +167,7 @@ impl<R: StateRepresentation> Evaluated<R> {
     }
 
     /// The rank of the stage at a place.
+    #[inline(always)]
     pub(crate) fn rank(&self, place: u32) -> Result<u32, NoStage>
         ensures { result ≡ told self.now place (rank self.now.places place) }
     {
@@ -175,6 +178,7 @@ impl<R: StateRepresentation> Evaluated<R> {
     }
 
     /// The places whose stages have the stage at a place as a feed, in order.
+    #[inline(always)]
     pub(crate) fn dependents(&self, place: u32) -> Result<&[u32], NoStage>
         ensures { MatchResult result
             (λ its_dependents. (its_dependents.now ≡ dependents self.now.places place) × IsLive self.now.places place)

@@ -96,6 +96,7 @@ impl<R: StateRepresentation> Version<R> {
     }
 
     /// The graph with the states of its stages.
+    #[inline(always)]
     pub(crate) fn evaluated(&self) -> &Held<Evaluated<R>>
         ensures { result.now ≡ self.now.graph }
     {
@@ -120,6 +121,7 @@ impl<R: StateRepresentation> Version<R> {
     }
 
     /// The version's graph.
+    #[inline(always)]
     pub fn graph(&self) -> &Graph<R>
         ensures graph { result.now ≡ self.now.graph }
         ensures ranked { IsRanked self.now.graph.places }
@@ -138,6 +140,7 @@ impl<R: StateRepresentation> Version<R> {
     }
 
     /// The live stage at a place; none at an empty place and past the end.
+    #[inline(always)]
     pub fn stage(&self, place: u32) -> Option<StageView<'_, R>>
         ensures version { IfSome result (λ view. view.version.now ≡ self.now) }
         ensures place { IfSome result (λ view. view.place ≡ place) }

@@ -37,6 +37,7 @@ impl<'a, R: StateRepresentation> Copy for StageView<'a, R> {}
 
 impl<'a, R: StateRepresentation> StageView<'a, R> {
     /// The state of the stage.
+    #[inline(always)]
     pub fn state(&self) -> State
         ensures { result ≡ state_of self.now.version.now.graph self.now.place }
     {
@@ -44,6 +45,7 @@ impl<'a, R: StateRepresentation> StageView<'a, R> {
     }
 
     /// The outcome of the stage; none while it is pending.
+    #[inline(always)]
     pub fn outcome(&self) -> Option<Outcome>
         ensures { result ≡ outcome_in (state_of self.now.version.now.graph self.now.place) }
     {
@@ -54,6 +56,7 @@ impl<'a, R: StateRepresentation> StageView<'a, R> {
     }
 
     /// The tick at which the stage completed; none while it is pending.
+    #[inline(always)]
     pub fn moment(&self) -> Option<u64>
         ensures { result ≡ moment_in (state_of self.now.version.now.graph self.now.place) }
     {
@@ -65,6 +68,7 @@ impl<'a, R: StateRepresentation> StageView<'a, R> {
 
     /// The tick at which the action of the stage started; none while the stage is pending, and if no action of its own
     /// led to its outcome.
+    #[inline(always)]
     pub fn start(&self) -> Option<u64>
         ensures { result ≡ start_in (state_of self.now.version.now.graph self.now.place) }
     {
@@ -82,6 +86,7 @@ impl<'a, R: StateRepresentation> StageView<'a, R> {
     }
 
     /// The rank of the stage: 0 without feeds, else 1 above the greatest rank of a feed.
+    #[inline(always)]
     pub fn rank(&self) -> u32
         ensures { result ≡ rank self.now.version.now.graph.places self.now.place }
     {
@@ -89,6 +94,7 @@ impl<'a, R: StateRepresentation> StageView<'a, R> {
     }
 
     /// The places whose stages have the stage among their feeds, each once, in order.
+    #[inline(always)]
     pub fn dependents(&self) -> &'a [u32]
         ensures { result.now ≡ dependents self.now.version.now.graph.places self.now.place }
     {
