@@ -48,7 +48,8 @@ impl<'t, 'a> StageMembers<'t, 'a> {
     }
 
     /// Puts a member into its place. Of those that have one name the last stays, and one that no stage has is passed
-    /// over.
+    /// over. It is not inlined: in the loop all places would become variables, which are moved at each member.
+    #[inline(never)]
     fn put(&mut self, name: &str, value: Tree<'t, 'a>)
         ensures { self.new ≡ with_found name.now value.entry self.old }
     {
