@@ -1,5 +1,5 @@
 -- What parts read one after another come to.
-use Rattle.std.proofs.Common.{◌≡◌, List, [], ◌∷◌, ◌++◌, Result, Ok, Err, refl, ap, sym, ◌∙◌, append_assoc}
+use Rattle.std.proofs.Common.{◌≡◌, List, ◌++◌, Result, Ok, Err, refl, ap, sym, ◌∙◌, append_assoc}
 use Rattle.serde_json.specs.Data.{Data, Items, item}
 use Rattle.trace_spans.specs.declared.fault.Fault.{Fault}
 use Rattle.trace_spans.specs.declared.fault.Fault.TheVariants.{TooLong, Json, NotATrace, Shape, SeveralTraces, NoTrace, Memory}
@@ -16,15 +16,16 @@ fault_of_part (Shape member) meant next h = rw h refl
 fault_of_part (SeveralTraces traces) meant next h = rw h refl
 fault_of_part NoTrace meant next h = rw h refl
 
--- one more at the end of what was read, and one less in front of what is left
-pub one_more : {A : Type 0} (read : List A) (first : A) (rest : Result (List A) Fault) → then_on (then_on rest (λ others. Ok (first ∷ others))) (λ all. Ok (read ++ all)) ≡ then_on rest (λ others. Ok ((read ++ first ∷ []) ++ others))
-one_more read first (Ok others) = ap Ok (sym (append_assoc read (first ∷ []) others))
-one_more read first (Err fault) = refl
+-- a part after what was read before it, and what comes after both
+after_both : {A : Type 0} (read : List A) (part rest : Result (List A) Fault) → then_on (then_on part (λ first. then_on rest (λ others. Ok (first ++ others)))) (λ all. Ok (read ++ all)) ≡ then_on (then_on part (λ more. Ok (read ++ more))) (λ now. then_on rest (λ others. Ok (now ++ others)))
+after_both read (Ok first) (Ok others) = ap Ok (sym (append_assoc read first others))
+after_both read (Ok first) (Err fault) = refl
+after_both read (Err fault) rest = refl
 
--- the same in a loop over items, of which F reads the rest
-pub one_more_item : {A : Type 0} (F : Items → Result (List A) Fault) (all : Result (List A) Fault) (old new : Items) (x : Data) (first : A) (read now : List A) → all ≡ then_on (F old) (λ rest. Ok (read ++ rest)) → old ≡ item x new → F (item x new) ≡ then_on (F new) (λ others. Ok (first ∷ others)) → now ≡ read ++ first ∷ [] → all ≡ then_on (F new) (λ rest. Ok (now ++ rest))
-one_more_item F all old new x first read now so_far is step added =
+-- the part that the next item is, in a loop over items, of which F reads the rest
+pub part_added : {A : Type 0} (F : Items → Result (List A) Fault) (all : Result (List A) Fault) (old new : Items) (x : Data) (part : Result (List A) Fault) (read now : List A) → all ≡ then_on (F old) (λ rest. Ok (read ++ rest)) → old ≡ item x new → F (item x new) ≡ then_on part (λ first. then_on (F new) (λ others. Ok (first ++ others))) → then_on part (λ more. Ok (read ++ more)) ≡ Ok now → all ≡ then_on (F new) (λ rest. Ok (now ++ rest))
+part_added F all old new x part read now so_far is step added =
     so_far
     ∙ ap (λ r. then_on r (λ rest. Ok (read ++ rest))) (ap F is ∙ step)
-    ∙ one_more read first (F new)
-    ∙ ap (λ front. then_on (F new) (λ rest. Ok (front ++ rest))) (sym added)
+    ∙ after_both read part (F new)
+    ∙ ap (λ r. then_on r (λ front. then_on (F new) (λ others. Ok (front ++ others)))) added

@@ -4,11 +4,14 @@ pub mod FaultNumbers
 pub mod FaultTexts
 pub mod Identifiers
 pub mod Jaeger
+pub mod JaegerMembers
 pub mod Lines
 pub mod Marks
 pub mod Members
 pub mod MemberTexts
 pub mod Otlp
+pub mod OtlpMembers
+pub mod Places
 pub mod Reads
 pub mod References
 pub mod Services

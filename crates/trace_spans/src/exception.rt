@@ -2,12 +2,12 @@
 ghost use Rattle.std.specs.Prelude.{◌≡◌, IfOk, map, option_map, string_bytes, take};
 ghost use Rattle.std.specs.Str.{chars, encode_utf8_all};
 ghost use Rattle.trace_spans.specs.Exceptions.{exception_in, exception_in_event, exception_in_log, exception_in_tag, exception_name, first_tag, is_name_character, kept, last_exception, tag_in, tag_text};
-ghost use Rattle.trace_spans.specs.Members.{then_on, items_in};
+ghost use Rattle.trace_spans.specs.Members.{then_on, items_in, member_of};
 ghost use Rattle.trace_spans.specs.Reads.{IsRead, IsReadAs};
 
 use crate::fault::Fault;
 use crate::member::Member;
-use crate::object::{item_object, items_or_none, member, text_or_empty};
+use crate::object::{found_items, item_object, items_or_none, member, text_or_empty};
 use crate::text::Text;
 use json_trees::Tree;
 use std::alloc::{AllocError, Global};
@@ -76,16 +76,18 @@ pub(crate) fn tag_text<'a>(format: Format, tag: &Tree<'_, 'a>) -> Option<&'a str
     }
 }
 
-/// The first tag with a key.
+/// The first tag with a key, in the list that a look-up found or not.
 #[tactic(auto, unfolding(crate::specs::Exceptions::tag_in))]
-pub(crate) fn tag_with_key<'t, 'a>(
-    object: &Tree<'t, 'a>,
+pub(crate) fn found_tag_with_key<'t, 'a>(
+    object: &Tree<'_, '_>,
+    found: &Option<Tree<'t, 'a>>,
     list: Member,
     key: &str,
 ) -> Result<Option<Tree<'t, 'a>>, Fault>
+    requires { found.now ≡ member_of list object.now }
     ensures { IsRead result (tag_in list key.now object.now) }
 {
-    let mut tags = items_or_none(object, list)?;
+    let mut tags = found_items(object, found, list)?;
     while let Some(tag) = tags.next() {
         item_object(&tag, list)?;
         if text_or_empty(&tag, Member::Key)? == key {
@@ -93,6 +95,17 @@ pub(crate) fn tag_with_key<'t, 'a>(
         }
     }
     Ok(None)
+}
+
+/// The first tag with a key.
+pub(crate) fn tag_with_key<'t, 'a>(
+    object: &Tree<'t, 'a>,
+    list: Member,
+    key: &str,
+) -> Result<Option<Tree<'t, 'a>>, Fault>
+    ensures { IsRead result (tag_in list key.now object.now) }
+{
+    found_tag_with_key(object, &member(object, list), list, key)
 }
 
 /// The exception's name in the tag with a key.

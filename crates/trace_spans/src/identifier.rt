@@ -4,11 +4,12 @@ ghost use Rattle.std.specs.List.{list_all};
 ghost use Rattle.std.specs.Str.{chars, encode_utf8_all};
 ghost use Rattle.std.specs.Char.{to_ascii_lowercase};
 ghost use Rattle.trace_spans.specs.Identifiers.{compared, compared_in, id_in, is_hexadecimal, is_id, is_zero, span_id_in, without_zeros};
+ghost use Rattle.trace_spans.specs.Members.{member_of};
 ghost use Rattle.trace_spans.specs.Reads.{IsRead, IsReadAs};
 
 use crate::fault::Fault;
 use crate::member::Member;
-use crate::object::text_or_empty;
+use crate::object::{found_text, member};
 use crate::text::Text;
 use json_trees::Tree;
 use std::alloc::{AllocError, Global};
@@ -23,10 +24,17 @@ fn is_hexadecimal(byte: u8) -> bool
 }
 
 /// Whether all bytes are hexadecimal digits.
+///
+/// Nearly always they are. So it looks at all of them, whatever came before: with nothing to decide at each byte, many
+/// are looked at at once.
 fn are_hexadecimal(bytes: &[u8]) -> bool
     ensures { result ≡ list_all is_hexadecimal bytes.now }
 {
-    bytes.iter().all(|byte| is_hexadecimal(*byte))
+    let mut are = true;
+    for byte in bytes {
+        are &= is_hexadecimal(*byte);
+    }
+    are
 }
 
 /// Whether all bytes are zeros.
@@ -73,40 +81,64 @@ pub fn compared(alloc: Global, id: &str) -> Result<Text, AllocError>
     Ok(Text::of(significant(alloc, id)?))
 }
 
-/// The id that a member is, which is empty where the object has no such member.
+/// The id that a member is, from the look-up that found it or not; without one it is empty.
 #[tactic(auto, unfolding(crate::specs::Identifiers::id_in))]
-pub(crate) fn id_of<'a>(object: &Tree<'_, 'a>, member: Member) -> Result<&'a str, Fault>
-    ensures { IsReadAs (λ id. id.now) result (id_in member object.now) }
+fn found_id<'a>(
+    object: &Tree<'_, '_>,
+    found: &Option<Tree<'_, 'a>>,
+    asked: Member,
+) -> Result<&'a str, Fault>
+    requires { found.now ≡ member_of asked object.now }
+    ensures { IsReadAs (λ id. id.now) result (id_in asked object.now) }
 {
-    let text = text_or_empty(object, member)?;
+    let text = found_text(object, found, asked)?;
     if is_id(text) {
         Ok(text)
     } else {
-        Err(Fault::Shape(member))
+        Err(Fault::Shape(asked))
     }
 }
 
-/// The id that a member is, as it is compared.
+/// The id that a member is, as it is compared, from the look-up that found it or not.
 #[tactic(auto, unfolding(crate::specs::Identifiers::compared_in))]
-pub(crate) fn compared_id(
+pub(crate) fn found_compared_id(
     alloc: Global,
     object: &Tree<'_, '_>,
-    member: Member,
+    found: &Option<Tree<'_, '_>>,
+    asked: Member,
 ) -> Result<Text, Fault>
-    ensures { IsRead result (compared_in member object.now) }
+    requires { found.now ≡ member_of asked object.now }
+    ensures { IsRead result (compared_in asked object.now) }
 {
-    let id = id_of(object, member)?;
+    let id = found_id(object, found, asked)?;
     Ok(compared(alloc, id)?)
 }
 
-/// The id of a span, in lower case.
-#[tactic(auto, unfolding(crate::specs::Identifiers::span_id_in))]
-pub(crate) fn span_id(alloc: Global, object: &Tree<'_, '_>, member: Member) -> Result<Text, Fault>
-    ensures { IsRead result (span_id_in member object.now) }
+/// The id that a member is, as it is compared.
+pub(crate) fn compared_id(
+    alloc: Global,
+    object: &Tree<'_, '_>,
+    asked: Member,
+) -> Result<Text, Fault>
+    ensures { IsRead result (compared_in asked object.now) }
 {
-    let id = id_of(object, member)?;
+    found_compared_id(alloc, object, &member(object, asked), asked)
+}
+
+/// The id of a span, in lower case, from the look-up that found it or not.
+#[tactic(auto, unfolding(crate::specs::Identifiers::span_id_in))]
+pub(crate) fn found_span_id(
+    alloc: Global,
+    object: &Tree<'_, '_>,
+    found: &Option<Tree<'_, '_>>,
+    asked: Member,
+) -> Result<Text, Fault>
+    requires { found.now ≡ member_of asked object.now }
+    ensures { IsRead result (span_id_in asked object.now) }
+{
+    let id = found_id(object, found, asked)?;
     if are_zeros(id.as_bytes()) {
-        return Err(Fault::Shape(member));
+        return Err(Fault::Shape(asked));
     }
     Ok(lower_case(alloc, id)?)
 }

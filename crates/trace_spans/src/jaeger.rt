@@ -1,9 +1,10 @@
 //! Jaeger JSON: the spans of traces, and the processes that they name.
-ghost use Rattle.std.specs.Prelude.{◌≡◌, [], Some, Ok, option_map};
+ghost use Rattle.std.specs.Prelude.{◌≡◌, ◌++◌, [], Some, Ok, option_map};
 ghost use Rattle.serde_json.specs.Data.{no_items, item};
 ghost use Rattle.trace_spans.specs.declared.exception.Format.TheVariants as format;
 ghost use Rattle.trace_spans.specs.Exceptions.{exception_if};
 ghost use Rattle.trace_spans.specs.Jaeger.{end_in, error_in, failed_in, has_tag, is_true, jaeger_span, jaeger_spans, kind_in, references_in, references_of, service_in, spans_of_items, spans_of_trace, start_in, time_after};
+ghost use Rattle.trace_spans.specs.JaegerMembers.{jaeger_members_of};
 ghost use Rattle.trace_spans.specs.declared.member.Member.TheVariants as member;
 ghost use Rattle.trace_spans.specs.Identifiers.{compared_in};
 ghost use Rattle.trace_spans.specs.Members.{then_on};
@@ -11,11 +12,14 @@ ghost use Rattle.trace_spans.specs.Otlp.{one_unless_empty};
 ghost use Rattle.trace_spans.specs.Reads.{IsRead, IsReadAs};
 ghost use Rattle.trace_spans.specs.References.{with_more};
 
-use crate::exception::{Format, exception_of, tag_text, tag_with_key};
+use crate::exception::{Format, exception_of, found_tag_with_key, tag_text};
 use crate::fault::Fault;
-use crate::identifier::{compared_id, span_id};
+use crate::identifier::{compared_id, found_compared_id, found_span_id};
+use crate::jaeger_members::JaegerMembers;
 use crate::member::Member;
-use crate::object::{item_object, items_or_none, member, text_or_empty, whole_number};
+use crate::object::{
+    found_items, found_text, item_object, items_or_none, member, text_or_empty, whole_number,
+};
 use crate::services::ServicesByProcess;
 use crate::span::{Kind, Span, Spans};
 use crate::text::{Text, TextList};
@@ -34,13 +38,14 @@ struct References {
 
 /// When a span starts.
 #[tactic(auto, unfolding(crate::specs::Jaeger::start_in))]
-fn start_of(span: &Tree<'_, '_>) -> Result<Option<u64>, Fault>
+fn start_of(span: &Tree<'_, '_>, members: &JaegerMembers<'_, '_>) -> Result<Option<u64>, Fault>
+    requires { members.now ≡ jaeger_members_of span.now }
     ensures { IsRead result (start_in span.now) }
 {
-    let Some(value) = member(span, Member::StartTime) else {
+    let Some(value) = &members.start else {
         return Ok(None);
     };
-    match whole_number(&value).and_then(|time| time.checked_mul(MICROSECOND)) {
+    match whole_number(value).and_then(|time| time.checked_mul(MICROSECOND)) {
         Some(time) => Ok(Some(time)),
         None => Err(Fault::Shape(Member::StartTime)),
     }
@@ -61,10 +66,15 @@ fn time_after(start: u64, duration: i64) -> Option<u64>
 
 /// When a span ends: its duration after its start.
 #[tactic(auto, unfolding(crate::specs::Jaeger::end_in))]
-fn end_of(span: &Tree<'_, '_>, start: Option<u64>) -> Result<Option<u64>, Fault>
+fn end_of(
+    span: &Tree<'_, '_>,
+    members: &JaegerMembers<'_, '_>,
+    start: Option<u64>,
+) -> Result<Option<u64>, Fault>
+    requires { members.now ≡ jaeger_members_of span.now }
     ensures { IsRead result (end_in start span.now) }
 {
-    let Some(value) = member(span, Member::Duration) else {
+    let Some(value) = &members.duration else {
         return Ok(None);
     };
     let Some(duration) = value.as_i64() else {
@@ -81,10 +91,16 @@ fn end_of(span: &Tree<'_, '_>, start: Option<u64>) -> Result<Option<u64>, Fault>
 
 /// Whether the first tag with a key is this text.
 #[tactic(auto, unfolding(crate::specs::Jaeger::has_tag))]
-fn has_tag(span: &Tree<'_, '_>, key: &str, wanted: &str) -> Result<bool, Fault>
+fn has_tag(
+    span: &Tree<'_, '_>,
+    members: &JaegerMembers<'_, '_>,
+    key: &str,
+    wanted: &str,
+) -> Result<bool, Fault>
+    requires { members.now ≡ jaeger_members_of span.now }
     ensures { IsRead result (has_tag key.now wanted.now span.now) }
 {
-    match tag_with_key(span, Member::Tags, key)? {
+    match found_tag_with_key(span, &members.tags, Member::Tags, key)? {
         Some(tag) => Ok(tag_text(Format::Jaeger, &tag) == Some(wanted)),
         None => Ok(false),
     }
@@ -102,10 +118,11 @@ fn is_true(value: &Tree<'_, '_>) -> bool
 
 /// Whether the tag `error` is true.
 #[tactic(auto, unfolding(crate::specs::Jaeger::error_in))]
-fn has_error(span: &Tree<'_, '_>) -> Result<bool, Fault>
+fn has_error(span: &Tree<'_, '_>, members: &JaegerMembers<'_, '_>) -> Result<bool, Fault>
+    requires { members.now ≡ jaeger_members_of span.now }
     ensures { IsRead result (error_in span.now) }
 {
-    match tag_with_key(span, Member::Tags, "error")? {
+    match found_tag_with_key(span, &members.tags, Member::Tags, "error")? {
         Some(tag) => match member(&tag, Member::Value) {
             Some(value) => Ok(is_true(&value)),
             None => Ok(false),
@@ -115,26 +132,28 @@ fn has_error(span: &Tree<'_, '_>) -> Result<bool, Fault>
 }
 
 #[tactic(auto, unfolding(crate::specs::Jaeger::failed_in))]
-fn has_failed(span: &Tree<'_, '_>) -> Result<bool, Fault>
+fn has_failed(span: &Tree<'_, '_>, members: &JaegerMembers<'_, '_>) -> Result<bool, Fault>
+    requires { members.now ≡ jaeger_members_of span.now }
     ensures { IsRead result (failed_in span.now) }
 {
-    if has_error(span)? {
+    if has_error(span, members)? {
         return Ok(true);
     }
-    has_tag(span, "otel.status_code", "ERROR")
+    has_tag(span, members, "otel.status_code", "ERROR")
 }
 
-#[tactic(auto, unfolding(crate::specs::Jaeger::kind_in))]
-fn kind_of(span: &Tree<'_, '_>) -> Result<Kind, Fault>
+#[tactic(auto, unfolding(crate::specs::Jaeger::kind_in, crate::specs::Jaeger::has_tag))]
+fn kind_of(span: &Tree<'_, '_>, members: &JaegerMembers<'_, '_>) -> Result<Kind, Fault>
+    requires { members.now ≡ jaeger_members_of span.now }
     ensures { IsRead result (kind_in span.now) }
 {
-    if has_tag(span, "span.kind", "producer")? {
-        return Ok(Kind::Producer);
-    }
-    if has_tag(span, "span.kind", "consumer")? {
-        Ok(Kind::Consumer)
-    } else {
-        Ok(Kind::Other)
+    let Some(tag) = found_tag_with_key(span, &members.tags, Member::Tags, "span.kind")? else {
+        return Ok(Kind::Other);
+    };
+    match tag_text(Format::Jaeger, &tag) {
+        Some("producer") => Ok(Kind::Producer),
+        Some("consumer") => Ok(Kind::Consumer),
+        _ => Ok(Kind::Other),
     }
 }
 
@@ -182,11 +201,16 @@ fn listed_references(
 }
 
 /// The parent that `parentSpanID` names, if it names one.
-fn named_parent(alloc: Global, span: &Tree<'_, '_>) -> Result<References, Fault>
+fn named_parent(
+    alloc: Global,
+    span: &Tree<'_, '_>,
+    members: &JaegerMembers<'_, '_>,
+) -> Result<References, Fault>
+    requires { members.now ≡ jaeger_members_of span.now }
     ensures { IsRead result (then_on (compared_in member.JaegerParent span.now) (λ id. Ok (record { parents = one_unless_empty id; links = [] }))) }
 {
     let mut parents = TextList::new(alloc);
-    let parent = compared_id(alloc, span, Member::JaegerParent)?;
+    let parent = found_compared_id(alloc, span, &members.parent, Member::JaegerParent)?;
     if !parent.as_str().is_empty() {
         parents.push(parent)?;
     }
@@ -196,13 +220,19 @@ fn named_parent(alloc: Global, span: &Tree<'_, '_>) -> Result<References, Fault>
 
 /// The references of a span into its trace; without a list of them `parentSpanID` is the parent.
 #[tactic(auto, unfolding(crate::specs::Jaeger::references_in))]
-fn references_of(alloc: Global, trace: &Text, span: &Tree<'_, '_>) -> Result<References, Fault>
+fn references_of(
+    alloc: Global,
+    trace: &Text,
+    span: &Tree<'_, '_>,
+    members: &JaegerMembers<'_, '_>,
+) -> Result<References, Fault>
+    requires { members.now ≡ jaeger_members_of span.now }
     ensures { IsRead result (references_in trace.now span.now) }
 {
-    let mut list = items_or_none(span, Member::References)?;
+    let mut list = found_items(span, &members.references, Member::References)?;
     match list.next() {
         Some(first) => listed_references(alloc, trace, &first, list),
-        None => named_parent(alloc, span),
+        None => named_parent(alloc, span, members),
     }
 }
 
@@ -211,10 +241,12 @@ fn references_of(alloc: Global, trace: &Text, span: &Tree<'_, '_>) -> Result<Ref
 fn service_of<'a>(
     processes: Option<&ServicesByProcess<'_, 'a>>,
     span: &Tree<'_, '_>,
+    members: &JaegerMembers<'_, '_>,
 ) -> Result<&'a str, Fault>
+    requires { members.now ≡ jaeger_members_of span.now }
     ensures { IsReadAs (λ service. service.now) result (service_in (option_map (λ p. p.now) processes.entry) span.now) }
 {
-    let process = text_or_empty(span, Member::Process)?;
+    let process = found_text(span, &members.process, Member::Process)?;
     let Some(processes) = processes else {
         return Ok("");
     };
@@ -249,15 +281,16 @@ fn read_span(
     ensures { IsRead result (jaeger_span (option_map (λ p. p.now) processes.entry) span.now) }
 {
     item_object(span, Member::Spans)?;
-    let trace = compared_id(alloc, span, Member::JaegerTrace)?;
-    let id = span_id(alloc, span, Member::JaegerSpan)?;
-    let name = text_or_empty(span, Member::OperationName)?;
-    let start = start_of(span)?;
-    let end = end_of(span, start)?;
-    let references = references_of(alloc, &trace, span)?;
-    let service = service_of(processes, span)?;
-    let kind = kind_of(span)?;
-    let failed = has_failed(span)?;
+    let members = JaegerMembers::of(span);
+    let trace = found_compared_id(alloc, span, &members.trace, Member::JaegerTrace)?;
+    let id = found_span_id(alloc, span, &members.id, Member::JaegerSpan)?;
+    let name = found_text(span, &members.name, Member::OperationName)?;
+    let start = start_of(span, &members)?;
+    let end = end_of(span, &members, start)?;
+    let references = references_of(alloc, &trace, span, &members)?;
+    let service = service_of(processes, span, &members)?;
+    let kind = kind_of(span, &members)?;
+    let failed = has_failed(span, &members)?;
     let exception = exception_if_failed(alloc, failed, span)?;
     let References { parents, links } = references;
     Ok(Span {
@@ -275,34 +308,34 @@ fn read_span(
     })
 }
 
-/// The spans of a trace with these processes.
-fn read_spans(
+/// Adds the spans of a trace with these processes to those before them.
+fn add_spans(
     alloc: Global,
     processes: Option<&ServicesByProcess<'_, '_>>,
     mut items: Items<'_, '_>,
-) -> Result<Spans, Fault>
-    ensures { IsRead result (spans_of_items (option_map (λ p. p.now) processes.entry) items.entry) }
+    spans: &mut Spans,
+) -> Result<(), Fault>
+    ensures { IsReadAs (λ _. spans.new) result (then_on (spans_of_items (option_map (λ p. p.now) processes.entry) items.entry) (λ more. Ok (spans.old ++ more))) }
 {
-    let mut spans = Spans::new(alloc);
     while let Some(item) = items.next() {
         let span = read_span(alloc, processes, &item)?;
         spans.push(span)?;
     }
-    Ok(spans)
+    Ok(())
 }
 
-/// The spans of a trace.
+/// Adds the spans of a trace to those before them.
 #[tactic(auto, unfolding(crate::specs::Jaeger::spans_of_trace))]
-fn read_trace(alloc: Global, trace: &Tree<'_, '_>) -> Result<Spans, Fault>
-    ensures { IsRead result (spans_of_trace trace.now) }
+fn add_trace(alloc: Global, trace: &Tree<'_, '_>, spans: &mut Spans) -> Result<(), Fault>
+    ensures { IsReadAs (λ _. spans.new) result (then_on (spans_of_trace trace.now) (λ more. Ok (spans.old ++ more))) }
 {
     item_object(trace, Member::Data)?;
     let processes = ServicesByProcess::of_trace(alloc, trace)?;
     let items = items_or_none(trace, Member::Spans)?;
-    read_spans(alloc, processes.as_ref(), items)
+    add_spans(alloc, processes.as_ref(), items, spans)
 }
 
-/// The spans of a text of Jaeger JSON.
+/// The spans of a text of Jaeger JSON. Those of all traces go into one list.
 #[tactic(auto, unfolding(crate::specs::Jaeger::jaeger_spans))]
 pub(crate) fn read_jaeger(alloc: Global, text: &Tree<'_, '_>) -> Result<Spans, Fault>
     ensures { IsRead result (jaeger_spans text.now) }
@@ -310,8 +343,7 @@ pub(crate) fn read_jaeger(alloc: Global, text: &Tree<'_, '_>) -> Result<Spans, F
     let mut items = items_or_none(text, Member::Data)?;
     let mut spans = Spans::new(alloc);
     while let Some(item) = items.next() {
-        let more = read_trace(alloc, &item)?;
-        spans.append(more)?;
+        add_trace(alloc, &item, &mut spans)?;
     }
     Ok(spans)
 }

@@ -1,32 +1,42 @@
 //! The members of a JSON object, in the form that is asked. Null is absence.
-ghost use Rattle.std.specs.Prelude.{◌≡◌, ◌<◌, length, true};
-ghost use Rattle.std.specs.Str.{all_ascii_digits};
-ghost use Rattle.std.specs.Str.Parse.{digits_value};
-ghost use Rattle.trace_spans.specs.Members.{below_64_bits, item_in, items_in, member_of, number_in, object_in, spelled, text_in, whole_number};
+ghost use Rattle.std.specs.Prelude.{◌≡◌, option_map};
+ghost use Rattle.trace_spans.specs.Members.{item_in, items_in, member_of, number_in, object_in, spelled, text_in, unless_null, whole_number};
 ghost use Rattle.trace_spans.specs.Reads.{IsRead, IsReadAs};
 
 use crate::fault::Fault;
 use crate::member::Member;
+use fast_float::parse_u64;
 use json_trees::{Items, Tree};
 
-/// The member, where it is there and isn't null.
-#[tactic(auto, unfolding(crate::specs::Members::member_of))]
-pub(crate) fn member<'t, 'a>(object: &Tree<'t, 'a>, member: Member) -> Option<Tree<'t, 'a>>
-    ensures { result ≡ member_of member object.now }
+/// A value that isn't null.
+pub(crate) fn unless_null<'t, 'a>(value: Tree<'t, 'a>) -> Option<Tree<'t, 'a>>
+    ensures { result ≡ unless_null value.entry }
 {
-    let value = object.get(member.text())?;
     if value.is_null() {
         return None;
     }
     Some(value)
 }
 
-/// A text, which is empty where the object has no such member.
+/// The member, where it is there and isn't null. It walks all members.
+#[tactic(auto, unfolding(crate::specs::Members::member_of))]
+pub(crate) fn member<'t, 'a>(object: &Tree<'t, 'a>, member: Member) -> Option<Tree<'t, 'a>>
+    ensures { result ≡ member_of member object.now }
+{
+    unless_null(object.get(member.text())?)
+}
+
+/// A text, from the look-up that found its member or not; without one it is empty.
 #[tactic(auto, unfolding(crate::specs::Members::text_in))]
-pub(crate) fn text_or_empty<'a>(object: &Tree<'_, 'a>, asked: Member) -> Result<&'a str, Fault>
+pub(crate) fn found_text<'a>(
+    object: &Tree<'_, '_>,
+    found: &Option<Tree<'_, 'a>>,
+    asked: Member,
+) -> Result<&'a str, Fault>
+    requires { found.now ≡ member_of asked object.now }
     ensures { IsReadAs (λ text. text.now) result (text_in asked object.now) }
 {
-    let Some(value) = member(object, asked) else {
+    let Some(value) = found else {
         return Ok("");
     };
     match value.as_str() {
@@ -35,20 +45,59 @@ pub(crate) fn text_or_empty<'a>(object: &Tree<'_, 'a>, asked: Member) -> Result<
     }
 }
 
-/// The items of an array, none where the object has no such member.
+/// A text, which is empty where the object has no such member.
+pub(crate) fn text_or_empty<'a>(object: &Tree<'_, 'a>, asked: Member) -> Result<&'a str, Fault>
+    ensures { IsReadAs (λ text. text.now) result (text_in asked object.now) }
+{
+    found_text(object, &member(object, asked), asked)
+}
+
+/// The items of an array, from the look-up that found its member or not; without one there are none.
 #[tactic(auto, unfolding(crate::specs::Members::items_in))]
+pub(crate) fn found_items<'t, 'a>(
+    object: &Tree<'_, '_>,
+    found: &Option<Tree<'t, 'a>>,
+    asked: Member,
+) -> Result<Items<'t, 'a>, Fault>
+    requires { found.now ≡ member_of asked object.now }
+    ensures { IsRead result (items_in asked object.now) }
+{
+    let Some(value) = found else {
+        return Ok(Items::none());
+    };
+    match value.as_array() {
+        Some(items) => Ok(items),
+        None => Err(Fault::Shape(asked)),
+    }
+}
+
+/// The items of an array, none where the object has no such member.
 pub(crate) fn items_or_none<'t, 'a>(
     object: &Tree<'t, 'a>,
     asked: Member,
 ) -> Result<Items<'t, 'a>, Fault>
     ensures { IsRead result (items_in asked object.now) }
 {
-    let Some(value) = member(object, asked) else {
-        return Ok(Items::none());
+    found_items(object, &member(object, asked), asked)
+}
+
+/// An object, from the look-up that found its member or not; without one it is null.
+#[tactic(auto, unfolding(crate::specs::Members::object_in))]
+pub(crate) fn found_object<'f, 't, 'a>(
+    object: &Tree<'_, '_>,
+    found: &'f Option<Tree<'t, 'a>>,
+    asked: Member,
+) -> Result<Option<&'f Tree<'t, 'a>>, Fault>
+    requires { found.now ≡ member_of asked object.now }
+    ensures { IsReadAs (option_map (λ value. value.now)) result (object_in asked object.now) }
+{
+    let Some(value) = found else {
+        return Ok(None);
     };
-    match value.as_array() {
-        Some(items) => Ok(items),
-        None => Err(Fault::Shape(asked)),
+    if value.is_object() {
+        Ok(Some(value))
+    } else {
+        Err(Fault::Shape(asked))
     }
 }
 
@@ -82,38 +131,18 @@ pub(crate) fn item_object(item: &Tree<'_, '_>, list: Member) -> Result<(), Fault
     }
 }
 
-/// The number that a text of digits spells, if it has 64 bits.
-#[tactic(auto, using(crate::proofs::Spelling::spells))]
-fn parsed(text: &str) -> Option<u64>
-    requires digits { all_ascii_digits text.now ≡ true }
-    requires some { 0 < length text.now }
-    ensures { result ≡ below_64_bits (digits_value 10 text.now) }
-{
-    text.parse::<u64>().ok()
-}
-
-/// The number that a text spells, if it has nothing but digits.
+/// The number that a text spells, if it has nothing but digits and the number has 64 bits.
+///
+/// A text of up to 19 digits is walked once: `parse_u64` refuses what has no digit or something else, but for a plus in front.
 #[tactic(auto, unfolding(crate::specs::Members::spelled))]
 fn spelled(text: &str) -> Option<u64>
     ensures { result ≡ spelled text.now }
 {
-    if !text.is_empty() && are_digits(text) {
-        parsed(text)
-    } else {
-        None
+    let digits = text.as_bytes();
+    if digits.is_empty() || digits[0] == b'+' {
+        return None;
     }
-}
-
-/// Whether a text has nothing but digits.
-fn are_digits(text: &str) -> bool
-    ensures { result ≡ all_ascii_digits text.now }
-{
-    for byte in text.as_bytes() {
-        if !byte.is_ascii_digit() {
-            return false;
-        }
-    }
-    true
+    parse_u64(digits).ok()
 }
 
 /// A whole number, in a number or in digits.
@@ -127,16 +156,28 @@ pub(crate) fn whole_number(value: &Tree<'_, '_>) -> Option<u64>
     }
 }
 
-/// A whole number, if the object has such a member.
+/// A whole number, from the look-up that found its member or not.
 #[tactic(auto, unfolding(crate::specs::Members::number_in))]
-pub(crate) fn number_or_none(object: &Tree<'_, '_>, asked: Member) -> Result<Option<u64>, Fault>
+pub(crate) fn found_number(
+    object: &Tree<'_, '_>,
+    found: &Option<Tree<'_, '_>>,
+    asked: Member,
+) -> Result<Option<u64>, Fault>
+    requires { found.now ≡ member_of asked object.now }
     ensures { IsRead result (number_in asked object.now) }
 {
-    let Some(value) = member(object, asked) else {
+    let Some(value) = found else {
         return Ok(None);
     };
-    match whole_number(&value) {
+    match whole_number(value) {
         Some(number) => Ok(Some(number)),
         None => Err(Fault::Shape(asked)),
     }
+}
+
+/// A whole number, if the object has such a member.
+pub(crate) fn number_or_none(object: &Tree<'_, '_>, asked: Member) -> Result<Option<u64>, Fault>
+    ensures { IsRead result (number_in asked object.now) }
+{
+    found_number(object, &member(object, asked), asked)
 }
