@@ -1,25 +1,18 @@
--- What stands at tokens that hold a value, its items or its members.
-use Rattle.std.proofs.Common.{◌≡◌, ℕ, suc, ◌+◌, ◌<◌, ◌≤◌, max, List, [], ◌∷◌, length, get_or, drop, Bool, true, false, cond, Option, Some, None, option_map, option_and_then, bytes_eq, true≢false, refl, sym, ap, ap₂, ◌∙◌, subst, add-one, drop-cons, arith}
-use Rattle.std.specs.Prelude.{is_some, IsSome, MatchOption, unwrap_or}
-use Rattle.std.proofs.lemmas.Slice.Eq.{bytes_eq-Decides}
-use Rattle.json.specs.Token.{Token}
-use Rattle.json.specs.Lex.{tokens}
+-- What nodes are: a value, the items of an array, the members of an object.
+use Rattle.std.proofs.Common.{◌≡◌, ℕ, zero, suc, ◌+◌, ◌*◌, ◌<◌, ◌≤◌, List, [], ◌∷◌, ◌++◌, length, map, take, drop, true, Option, Some, None, option_map, option_and_then, true≢false, refl, sym, ap, ap₂, ◌∙◌, subst, arith, length-append, add-one, drop-cons, drop-drop, length-drop, take_all, ◌-◌}
+use Rattle.std.specs.Prelude.{slice_index_or}
+use Rattle.std.proofs.lemmas.List.{length-map, take-map, drop-map}
+use Rattle.std.proofs.Math.Seq.{take-append_seam, drop-append_seam}
+use Rattle.std.specs.Prelude.{is_some, unwrap_or}
 use Rattle.json.specs.Json as json
-use Rattle.json.specs.Find as find
-use Rattle.json.specs.Find.{BeginsWith, InItems, InMembers}
-use Rattle.json.specs.Tree.{depth, items_depth, members_depth}
-use Rattle.json.proofs.Nesting.{value-depth}
 use Rattle.serde_json.specs.Data.{Num, Data, null, boolean, number, string, array, object, Items, no_items, item, Members, no_members, put}
-use Rattle.serde_json.specs.Read.{number_of, of_json, of_items, of_members, converted, max_depth, read}
-use Rattle.serde_json.specs.Find.{get, get_member, as_null, as_bool, as_number, as_str, as_array, as_object}
-use Rattle.serde_json.proofs.Views.{get_member-put, get_member-put_other}
-use Rattle.json.specs.declared.error.Error.{Error}
-use Rattle.json.specs.declared.error.Error.TheVariants as error
-use Rattle.json_trees.specs.Held.{data_at, items_at, members_at, HoldsData, HoldsItems, HoldsMembers, or_null, or_none, or_empty}
+use Rattle.serde_json.specs.Read.{number_of, of_json, of_items, of_members}
+use Rattle.serde_json.specs.Find.{as_null, as_bool, as_number, as_str, as_array, as_object}
+use Rattle.json_trees.specs.declared.node.Node.{Node}
+use Rattle.json_trees.specs.Cells.{Cell, cell, span, first_cell, inner_cells, json_cells, items_cells, members_cells, key_cell, number_or_null, data_in, items_in, pairs_in, turns, data_at, items_at, members_at, AreOf, AreOfItems, AreOfMembers, HoldsData, HoldsItems, HoldsMembers}
+use Rattle.json_trees.specs.First.{boolean_in, is_array_cell, is_null_cell, is_object_cell, key_in, number_in, string_in}
 use Rattle.json_trees.specs.Named.{put_all, of_pairs}
 use Rattle.json_trees.specs.Valued.{data_of, items_of, pairs_of, HasData, HasItems, HasPairs}
-use Rattle.json_trees.proofs.Reading.{converted_some}
-use Rattle.json_trees.proofs.Spelled.{value_again, items_again, members_again, items-depth, members-depth}
 
 -- ---- options
 
@@ -31,31 +24,7 @@ then_some : {A B : Type 0} (f : A → Option B) (o : Option A) (b : B) → optio
 then_some f None b e = absurd (cc)
 then_some f (Some a) b e = (a, refl, e)
 
--- ---- a value
-
--- the tokens begin with j, whose value is the one that stands there
-pub record Stands (ts : List Token) (j : json.Json) : Type 0 where
-  pub begins : BeginsWith ts j
-  pub «data» : of_json j ≡ Some (data_at ts)
-  pub nests : depth j ≤ max_depth
-
-pub stands : (ts : List Token) → HoldsData ts → (j : json.Json) × Stands ts j
-stands ts h =
-    let found = converted_some of_json (json.value max_depth ts) h.0 h.1 h.2 in
-    let here : data_at ts ≡ h.0 = ap or_null h.2 in
-    (found.0, record { begins = (max_depth, h.1, found.1); «data» = found.2 ∙ ap (λ (d : Data). Some d) (sym here); nests = value-depth max_depth ts h.1 found.0 found.1 })
-
--- a value that stands there
-pub record Holds (ts : List Token) (d : Data) : Type 0 where
-  pub holds : HoldsData ts
-  pub «data» : data_at ts ≡ d
-
-pub holds : (ts : List Token) (j : json.Json) (d : Data) → BeginsWith ts j → depth j ≤ max_depth → of_json j ≡ Some d → Holds ts d
-holds ts j d h nests is =
-    let e : converted of_json (json.value max_depth ts) ≡ Some (d, h.1) = ap (converted of_json) (value_again h.0 max_depth ts h.1 j h.2 nests) ∙ ap (option_map (λ b. (b, h.1))) is in
-    record { holds = (d, h.1, e); «data» = ap or_null e }
-
--- ---- its form
+-- ---- the form of a value
 
 abbrev pub Form : json.Json → Data → Type 0
 Form json.null d = d ≡ null
@@ -73,103 +42,71 @@ form (json.string s) d e = cc
 form (json.array js) d e = mapped_some array (of_items js) d e
 form (json.object ms) d e = mapped_some object (of_members ms no_members) d e
 
-pub as_str_is : (j : json.Json) (d : Data) → Form j d → find.as_str j ≡ as_str d
-as_str_is json.null d e = ap as_str (sym e)
-as_str_is (json.boolean b) d e = ap as_str (sym e)
-as_str_is (json.number s) d e = ap as_str (sym e.2)
-as_str_is (json.string s) d e = ap as_str (sym e)
-as_str_is (json.array js) d e = ap as_str (sym e.2)
-as_str_is (json.object ms) d e = ap as_str (sym e.2)
+pub string_is : (j : json.Json) (d : Data) → Form j d → string_in (first_cell j) ≡ as_str d
+string_is json.null d e = ap as_str (sym e)
+string_is (json.boolean b) d e = ap as_str (sym e)
+string_is (json.number s) d e = ap as_str (sym e.2)
+string_is (json.string s) d e = ap as_str (sym e)
+string_is (json.array js) d e = ap as_str (sym e.2)
+string_is (json.object ms) d e = ap as_str (sym e.2)
 
-pub as_bool_is : (j : json.Json) (d : Data) → Form j d → find.as_bool j ≡ as_bool d
-as_bool_is json.null d e = ap as_bool (sym e)
-as_bool_is (json.boolean b) d e = ap as_bool (sym e)
-as_bool_is (json.number s) d e = ap as_bool (sym e.2)
-as_bool_is (json.string s) d e = ap as_bool (sym e)
-as_bool_is (json.array js) d e = ap as_bool (sym e.2)
-as_bool_is (json.object ms) d e = ap as_bool (sym e.2)
+pub boolean_is : (j : json.Json) (d : Data) → Form j d → boolean_in (first_cell j) ≡ as_bool d
+boolean_is json.null d e = ap as_bool (sym e)
+boolean_is (json.boolean b) d e = ap as_bool (sym e)
+boolean_is (json.number s) d e = ap as_bool (sym e.2)
+boolean_is (json.string s) d e = ap as_bool (sym e)
+boolean_is (json.array js) d e = ap as_bool (sym e.2)
+boolean_is (json.object ms) d e = ap as_bool (sym e.2)
 
-pub is_null_is : (j : json.Json) (d : Data) → Form j d → find.is_null j ≡ is_some (as_null d)
-is_null_is json.null d e = ap (λ x. is_some (as_null x)) (sym e)
-is_null_is (json.boolean b) d e = ap (λ x. is_some (as_null x)) (sym e)
-is_null_is (json.number s) d e = ap (λ x. is_some (as_null x)) (sym e.2)
-is_null_is (json.string s) d e = ap (λ x. is_some (as_null x)) (sym e)
-is_null_is (json.array js) d e = ap (λ x. is_some (as_null x)) (sym e.2)
-is_null_is (json.object ms) d e = ap (λ x. is_some (as_null x)) (sym e.2)
+pub number_is : (j : json.Json) (d : Data) → Form j d → number_in (first_cell j) ≡ as_number d
+number_is json.null d e = ap as_number (sym e)
+number_is (json.boolean b) d e = ap as_number (sym e)
+number_is (json.number s) d e = e.1 ∙ ap as_number (sym e.2)
+number_is (json.string s) d e = ap as_number (sym e)
+number_is (json.array js) d e = ap as_number (sym e.2)
+number_is (json.object ms) d e = ap as_number (sym e.2)
 
-pub as_number_is : (j : json.Json) (d : Data) → Form j d → option_and_then number_of (find.as_number j) ≡ as_number d
-as_number_is json.null d e = ap as_number (sym e)
-as_number_is (json.boolean b) d e = ap as_number (sym e)
-as_number_is (json.number s) d e = e.1 ∙ ap as_number (sym e.2)
-as_number_is (json.string s) d e = ap as_number (sym e)
-as_number_is (json.array js) d e = ap as_number (sym e.2)
-as_number_is (json.object ms) d e = ap as_number (sym e.2)
+pub null_is : (j : json.Json) (d : Data) → Form j d → is_null_cell (first_cell j) ≡ is_some (as_null d)
+null_is json.null d e = ap (λ x. is_some (as_null x)) (sym e)
+null_is (json.boolean b) d e = ap (λ x. is_some (as_null x)) (sym e)
+null_is (json.number s) d e = ap (λ x. is_some (as_null x)) (sym e.2)
+null_is (json.string s) d e = ap (λ x. is_some (as_null x)) (sym e)
+null_is (json.array js) d e = ap (λ x. is_some (as_null x)) (sym e.2)
+null_is (json.object ms) d e = ap (λ x. is_some (as_null x)) (sym e.2)
 
-pub is_number_is : (j : json.Json) (d : Data) → Form j d → is_some (find.as_number j) ≡ is_some (as_number d)
-is_number_is json.null d e = ap (λ x. is_some (as_number x)) (sym e)
-is_number_is (json.boolean b) d e = ap (λ x. is_some (as_number x)) (sym e)
-is_number_is (json.number s) d e = ap (λ x. is_some (as_number x)) (sym e.2)
-is_number_is (json.string s) d e = ap (λ x. is_some (as_number x)) (sym e)
-is_number_is (json.array js) d e = ap (λ x. is_some (as_number x)) (sym e.2)
-is_number_is (json.object ms) d e = ap (λ x. is_some (as_number x)) (sym e.2)
+pub array_is : (j : json.Json) (d : Data) → Form j d → is_array_cell (first_cell j) ≡ is_some (as_array d)
+array_is json.null d e = ap (λ x. is_some (as_array x)) (sym e)
+array_is (json.boolean b) d e = ap (λ x. is_some (as_array x)) (sym e)
+array_is (json.number s) d e = ap (λ x. is_some (as_array x)) (sym e.2)
+array_is (json.string s) d e = ap (λ x. is_some (as_array x)) (sym e)
+array_is (json.array js) d e = ap (λ x. is_some (as_array x)) (sym e.2)
+array_is (json.object ms) d e = ap (λ x. is_some (as_array x)) (sym e.2)
 
--- no array stands where the tokens begin none
-pub no_array : (j : json.Json) (d : Data) → Form j d → find.as_array j ≡ None → as_array d ≡ None
-no_array json.null d e none = ap as_array e
-no_array (json.boolean b) d e none = ap as_array e
-no_array (json.number s) d e none = ap as_array e.2
-no_array (json.string s) d e none = ap as_array e
-no_array (json.array js) d e none = absurd (cc)
-no_array (json.object ms) d e none = ap as_array e.2
+pub object_is : (j : json.Json) (d : Data) → Form j d → is_object_cell (first_cell j) ≡ is_some (as_object d)
+object_is json.null d e = ap (λ x. is_some (as_object x)) (sym e)
+object_is (json.boolean b) d e = ap (λ x. is_some (as_object x)) (sym e)
+object_is (json.number s) d e = ap (λ x. is_some (as_object x)) (sym e.2)
+object_is (json.string s) d e = ap (λ x. is_some (as_object x)) (sym e)
+object_is (json.array js) d e = ap (λ x. is_some (as_object x)) (sym e.2)
+object_is (json.object ms) d e = ap (λ x. is_some (as_object x)) (sym e.2)
 
-pub no_object : (j : json.Json) (d : Data) → Form j d → find.as_object j ≡ None → as_object d ≡ None
-no_object json.null d e none = ap as_object e
-no_object (json.boolean b) d e none = ap as_object e
-no_object (json.number s) d e none = ap as_object e.2
-no_object (json.string s) d e none = ap as_object e
-no_object (json.array js) d e none = ap as_object e.2
-no_object (json.object ms) d e none = absurd (cc)
+pub array_form : (j : json.Json) → is_array_cell (first_cell j) ≡ true → (js : json.Items) × (j ≡ json.array js)
+array_form json.null e = absurd (true≢false (sym e))
+array_form (json.boolean b) e = absurd (true≢false (sym e))
+array_form (json.number s) e = absurd (true≢false (sym e))
+array_form (json.string s) e = absurd (true≢false (sym e))
+array_form (json.array js) e = (js, refl)
+array_form (json.object ms) e = absurd (true≢false (sym e))
 
-pub is_some-option_map : {A B : Type 0} (f : A → B) (o : Option A) → is_some (option_map f o) ≡ is_some o
-is_some-option_map f None = refl
-is_some-option_map f (Some a) = refl
+pub object_form : (j : json.Json) → is_object_cell (first_cell j) ≡ true → (ms : json.Members) × (j ≡ json.object ms)
+object_form json.null e = absurd (true≢false (sym e))
+object_form (json.boolean b) e = absurd (true≢false (sym e))
+object_form (json.number s) e = absurd (true≢false (sym e))
+object_form (json.string s) e = absurd (true≢false (sym e))
+object_form (json.array js) e = absurd (true≢false (sym e))
+object_form (json.object ms) e = (ms, refl)
 
-pub array_found : (r : Option (List Token)) (j : json.Json) (d : Data) → Form j d → MatchOption r (find.as_array j ≡ None) (λ rest. (js : json.Items) × (j ≡ json.array js) × InItems rest js) → is_some r ≡ is_some (as_array d)
-array_found None j d e h = ap is_some (sym (no_array j d e h))
-array_found (Some ts) j d e h = let o : Form (json.array h.0) d = subst (λ x. Form x d) h.1 e in ap (λ x. is_some (as_array x)) (sym o.2)
-
-pub object_found : (r : Option (List Token)) (j : json.Json) (d : Data) → Form j d → MatchOption r (find.as_object j ≡ None) (λ rest. (ms : json.Members) × (j ≡ json.object ms) × InMembers rest ms) → is_some r ≡ is_some (as_object d)
-object_found None j d e h = ap is_some (sym (no_object j d e h))
-object_found (Some ts) j d e h = let o : Form (json.object h.0) d = subst (λ x. Form x d) h.1 e in ap (λ x. is_some (as_object x)) (sym o.2)
-
--- ---- items
-
-pub record ItemsStand (ts : List Token) (js : json.Items) : Type 0 where
-  pub begins : InItems ts js
-  pub «data» : of_items js ≡ Some (items_at ts)
-  pub nests : items_depth js ≤ max_depth
-
-pub items_stand : (ts : List Token) → HoldsItems ts → (js : json.Items) × ItemsStand ts js
-items_stand ts h =
-    let found = converted_some of_items (json.items (json.value max_depth) (length ts) ts) h.0 h.1 h.2 in
-    let here : items_at ts ≡ h.0 = ap or_none h.2 in
-    (found.0, record { begins = (max_depth, length ts, h.1, found.1); «data» = found.2 ∙ ap (λ (ds : Items). Some ds) (sym here); nests = items-depth max_depth ts h.1 found.0 found.1 })
-
-pub record HoldsAllItems (ts : List Token) (ds : Items) : Type 0 where
-  pub holds : HoldsItems ts
-  pub «data» : items_at ts ≡ ds
-
-pub holds_items : (ts : List Token) (js : json.Items) (ds : Items) → InItems ts js → items_depth js ≤ max_depth → of_items js ≡ Some ds → HoldsAllItems ts ds
-holds_items ts js ds h nests is =
-    let e : converted of_items (json.items (json.value max_depth) (length ts) ts) ≡ Some (ds, h.2) =
-    ap (converted of_items) (items_again h.0 h.1 max_depth ts h.2 js h.3 nests) ∙ ap (option_map (λ b. (b, h.2))) is in
-    record { holds = (ds, h.2, e); «data» = ap or_none e }
-
-pub array_items : (j : json.Json) (js : json.Items) (d : Data) → j ≡ json.array js → depth j ≤ max_depth → Form j d → (ds : Items) × (of_items js ≡ Some ds) × (d ≡ array ds) × (items_depth js ≤ max_depth)
-array_items j js d e nests h =
-    let o : Form (json.array js) d = subst (λ x. Form x d) e h in
-    let within : suc (items_depth js) ≤ max_depth = subst (λ x. depth x ≤ max_depth) e nests in
-    (o.0, o.1, o.2, omega (arith, within))
+-- ---- items and members, one after the other
 
 -- an item, and those after it
 pub record FirstItem (j : json.Json) (js : json.Items) (ds : Items) : Type 0 where
@@ -188,35 +125,6 @@ first_item j js ds e =
 pub no_items_left : (js : json.Items) (ds : Items) → of_items js ≡ Some ds → js ≡ json.no_items → ds ≡ no_items
 no_items_left js ds e none = let same : Some no_items ≡ Some ds = ap of_items (sym none) ∙ e in cc
 
--- the first item and the rest, with what they nest
-pub next_item : (js rest : json.Items) (j : json.Json) (ds : Items) → js ≡ json.item j rest → of_items js ≡ Some ds → items_depth js ≤ max_depth → FirstItem j rest ds × (depth j ≤ max_depth) × (items_depth rest ≤ max_depth)
-next_item js rest j ds is e nests =
-    let within : max (depth j) (items_depth rest) ≤ max_depth = subst (λ x. items_depth x ≤ max_depth) is nests in
-    (first_item j rest ds (ap of_items (sym is) ∙ e), omega (arith, within), omega (arith, within))
-
--- ---- members
-
-pub record MembersStand (ts : List Token) (ms : json.Members) : Type 0 where
-  pub begins : InMembers ts ms
-  pub «data» : of_pairs ms ≡ Some (members_at ts)
-  pub nests : members_depth ms ≤ max_depth
-
-pub members_stand : (ts : List Token) → HoldsMembers ts → (ms : json.Members) × MembersStand ts ms
-members_stand ts h =
-    let found = converted_some of_pairs (json.members (json.value max_depth) (length ts) ts) h.0 h.1 h.2 in
-    let here : members_at ts ≡ h.0 = ap or_empty h.2 in
-    (found.0, record { begins = (max_depth, length ts, h.1, found.1); «data» = found.2 ∙ ap (λ (ds : List (List ℕ × Data)). Some ds) (sym here); nests = members-depth max_depth ts h.1 found.0 found.1 })
-
-pub record HoldsAllMembers (ts : List Token) (ds : List (List ℕ × Data)) : Type 0 where
-  pub holds : HoldsMembers ts
-  pub «data» : members_at ts ≡ ds
-
-pub holds_members : (ts : List Token) (ms : json.Members) (ds : List (List ℕ × Data)) → InMembers ts ms → members_depth ms ≤ max_depth → of_pairs ms ≡ Some ds → HoldsAllMembers ts ds
-holds_members ts ms ds h nests is =
-    let e : converted of_pairs (json.members (json.value max_depth) (length ts) ts) ≡ Some (ds, h.2) =
-    ap (converted of_pairs) (members_again h.0 h.1 max_depth ts h.2 ms h.3 nests) ∙ ap (option_map (λ b. (b, h.2))) is in
-    record { holds = (ds, h.2, e); «data» = ap or_empty e }
-
 -- a member, and those after it
 pub record FirstMember (k : List ℕ) (j : json.Json) (ms : json.Members) (ds : List (List ℕ × Data)) : Type 0 where
   pub first : Data
@@ -234,12 +142,6 @@ first_member k j ms ds e =
 pub no_pairs_left : (ms : json.Members) (ds : List (List ℕ × Data)) → of_pairs ms ≡ Some ds → ms ≡ json.no_members → ds ≡ []
 no_pairs_left ms ds e none = let same : Some [] ≡ Some ds = ap of_pairs (sym none) ∙ e in cc
 
-pub next_member : (ms rest : json.Members) (k : List ℕ) (j : json.Json) (ds : List (List ℕ × Data)) → ms ≡ json.member k j rest → of_pairs ms ≡ Some ds → members_depth ms ≤ max_depth
-    → FirstMember k j rest ds × (depth j ≤ max_depth) × (members_depth rest ≤ max_depth)
-next_member ms rest k j ds is e nests =
-    let within : max (depth j) (members_depth rest) ≤ max_depth = subst (λ x. members_depth x ≤ max_depth) is nests in
-    (first_member k j rest ds (ap of_pairs (sym is) ∙ e), omega (arith, within), omega (arith, within))
-
 -- an object is its members, put in one after another
 pub pairs : (ms : json.Members) (found out : Members) → of_members ms found ≡ Some out → (ps : List (List ℕ × Data)) × (of_pairs ms ≡ Some ps) × (out ≡ put_all ps found)
 pairs json.no_members found out e = ([], refl, cc)
@@ -248,134 +150,17 @@ pairs (json.member k j ms) found out e =
     let g = pairs ms (put k f.0 found) out f.2 in
     ((k, f.0) ∷ g.0, ap (option_and_then (λ d. option_map (λ rest. (k, d) ∷ rest) (of_pairs ms))) f.1 ∙ ap (option_map (λ rest. (k, f.0) ∷ rest)) g.1, g.2)
 
-pub object_pairs : (j : json.Json) (ms : json.Members) (d : Data) → j ≡ json.object ms → depth j ≤ max_depth → Form j d → (ps : List (List ℕ × Data)) × (of_pairs ms ≡ Some ps) × (d ≡ object (put_all ps no_members)) × (members_depth ms ≤ max_depth)
-object_pairs j ms d e nests h =
-    let o : Form (json.object ms) d = subst (λ x. Form x d) e h in
-    let p = pairs ms no_members o.0 o.1 in
-    let within : suc (members_depth ms) ≤ max_depth = subst (λ x. depth x ≤ max_depth) e nests in
-    (p.0, p.1, o.2 ∙ ap object p.2, omega (arith, within))
-
--- ---- look-ups
-
--- what a look-up of a name finds among the members ms, put into `found`
-abbrev Finding : List ℕ → ℕ → Members → Members → Option json.Json → Type 0
-Finding name most found out None = get_member name out ≡ get_member name found
-Finding name most found out (Some i) = (d : Data) × (of_json i ≡ Some d) × (get_member name out ≡ Some d) × (depth i ≤ most)
-
-one_more : (name k : List ℕ) (j : json.Json) (d : Data) (found out : Members) (most all : ℕ) → of_json j ≡ Some d → most ≤ all → depth j ≤ all → (o : Option json.Json) (same : Bool) → bytes_eq k name ≡ same
-    → Finding name most (put k d found) out o → Finding name all found out (find.later_or o (cond same (Some j) None))
-one_more name k j d found out most all is less within (Some i) same e h = (h.0, h.1, h.2, omega (arith, h.3))
-one_more name k j d found out most all is less within None true e h =
-    let named : k ≡ name = (bytes_eq-Decides k name).0 e in
-    (d, is, h ∙ ap (λ n. get_member n (put k d found)) (sym named) ∙ get_member-put k d found, within)
-one_more name k j d found out most all is less within None false e h =
-    h ∙ get_member-put_other name k d found (λ same. true≢false (sym ((bytes_eq-Decides k name).1 (sym same)) ∙ e))
-
-finding : (name : List ℕ) (ms : json.Members) (found out : Members) → of_members ms found ≡ Some out → Finding name (members_depth ms) found out (find.get_member name ms)
-finding name json.no_members found out e = cc
-finding name (json.member k j ms) found out e =
-    let f = then_some (λ d. of_members ms (put k d found)) (of_json j) out e in
-    one_more name k j f.0 found out (members_depth ms) (max (depth j) (members_depth ms)) f.1 (omega arith) (omega arith) (find.get_member name ms) (bytes_eq k name) refl (finding name ms (put k f.0 found) out f.2)
-
-abbrev Found : List ℕ → ℕ → Data → Option json.Json → Type 0
-Found name most d None = get name d ≡ None
-Found name most d (Some i) = (e : Data) × (of_json i ≡ Some e) × (get name d ≡ Some e) × (depth i ≤ most)
-
-in_object : (name : List ℕ) (most : ℕ) (ds : Members) (d : Data) (o : Option json.Json) → d ≡ object ds → Finding name most no_members ds o → Found name (suc most) d o
-in_object name most ds d None e h = ap (get name) e ∙ h
-in_object name most ds d (Some i) e h = (h.0, h.1, ap (get name) e ∙ h.2, omega (arith, h.3))
-
-looked_up : (name : List ℕ) (j : json.Json) (d : Data) → Form j d → Found name (depth j) d (find.get name j)
-looked_up name json.null d e = ap (get name) e
-looked_up name (json.boolean b) d e = ap (get name) e
-looked_up name (json.number s) d e = ap (get name) e.2
-looked_up name (json.string s) d e = ap (get name) e
-looked_up name (json.array js) d e = ap (get name) e.2
-looked_up name (json.object ms) d e = in_object name (members_depth ms) e.0 d (find.get_member name ms) e.2 (finding name ms no_members e.0 e.1)
-
-pub not_found : (name : List ℕ) (j : json.Json) (d : Data) → Form j d → find.get name j ≡ None → get name d ≡ None
-not_found name j d h e = subst (Found name (depth j) d) e (looked_up name j d h)
-
-pub found : (name : List ℕ) (j i : json.Json) (d : Data) → Form j d → find.get name j ≡ Some i → (e : Data) × (of_json i ≡ Some e) × (get name d ≡ Some e) × (depth i ≤ depth j)
-found name j i d h e = subst (Found name (depth j) d) e (looked_up name j d h)
-
--- ---- a whole text
-
-if_of_json : (j : json.Json) (o : Option Data) → of_json j ≡ o → IsSome o → (d : Data) × (converted of_json (Some (j, [])) ≡ Some (d, []))
-if_of_json j None e h = absurd (true≢false (sym h))
-if_of_json j (Some d) e h = (d, ap (option_map (λ b. (b, []))) e)
-
-whole_value : (o : Option (json.Json × List Token)) → IsSome (option_and_then of_json (option_and_then (λ p. json.if_last p.0 p.1) o)) → (d : Data) × (rest : List Token) × (converted of_json o ≡ Some (d, rest))
-whole_value None h = absurd (true≢false (sym h))
-whole_value (Some (j, [])) h = let d = if_of_json j (of_json j) refl h in (d.0, [], d.1)
-whole_value (Some (j, t ∷ ts)) h = absurd (true≢false (sym h))
-
-pub holds_text : (text : List ℕ) (ts : List Token) → ts ≡ tokens text → IsSome (read text) → HoldsData ts
-holds_text text ts e h = subst HoldsData (sym e) (whole_value (json.value max_depth (tokens text)) h)
-
--- ---- a whole text as a tree of values
-
-some_of : {A : Type 0} (o : Option A) → IsSome o → (a : A) × (o ≡ Some a)
-some_of None h = absurd (true≢false (sym h))
-some_of (Some a) h = (a, refl)
-
-abbrev if_whole : Option (json.Json × List Token) → Option json.Json
-if_whole o = option_and_then (λ p. json.if_last p.0 p.1) o
-
-whole_json : (o : Option (json.Json × List Token)) → IsSome (option_and_then of_json (if_whole o)) → (j : json.Json) × (o ≡ Some (j, []))
-whole_json None h = absurd (true≢false (sym h))
-whole_json (Some (j, [])) h = (j, refl)
-whole_json (Some (j, t ∷ ts)) h = absurd (true≢false (sym h))
-
--- the value that a text is, where serde_json reads it
-pub record WholeText (text : List ℕ) : Type 0 where
-  pub value : json.Json
-  pub value_is : json.document text ≡ Some value
-  pub reads : read text ≡ of_json value
-  pub has_data : HasData value
-
-pub whole_text : (text : List ℕ) → IsSome (read text) → WholeText text
-whole_text text h =
-    let p = whole_json (json.value max_depth (tokens text)) h in
-    let nests = value-depth max_depth (tokens text) [] p.0 p.1 in
-    let again : json.value json.max_depth (tokens text) ≡ Some (p.0, []) = value_again max_depth json.max_depth (tokens text) [] p.0 p.1 (omega (arith, nests)) in
-    let reads : read text ≡ of_json p.0 = ap (λ o. option_and_then of_json (if_whole o)) p.1 in
-    record { value = p.0; value_is = ap if_whole again; reads = reads; has_data = some_of (of_json p.0) (subst IsSome reads h) }
-
--- a tree of that value
-pub record Held (text : List ℕ) (j : json.Json) : Type 0 where
-  pub has_data : HasData j
-  pub reads : read text ≡ Some (data_of j)
-
-pub held_text : (text : List ℕ) (j : json.Json) → json.document text ≡ Some j → IsSome (read text) → Held text j
-held_text text j e h =
-    let whole = whole_text text h in
-    let same : whole.value ≡ j = let both : Some whole.value ≡ Some j = sym whole.value_is ∙ e in cc in
-    let has : HasData j = subst HasData same whole.has_data in
-    record { has_data = has; reads = whole.reads ∙ ap of_json same ∙ has.1 ∙ ap (λ (d : Data). Some d) (sym (ap (λ o. unwrap_or o null) has.1)) }
-
-pub is_document : (text : List ℕ) → IsSome (read text) → json.document text ≡ None → ⊥
-is_document text h none = let whole = whole_text text h in let both : Some whole.value ≡ None = sym whole.value_is ∙ none in absurd (cc)
-
--- what is lacking is memory, where it is nothing else
-pub is_memory : (e : Error) → (e ≡ error.Invalid → ⊥) → (e ≡ error.TooLong → ⊥) → (e ≡ error.DuplicateKey → ⊥) → (e ≡ error.OutOfMemory → ⊥) → ⊥
-is_memory error.Invalid invalid long twice memory = invalid refl
-is_memory error.OutOfMemory invalid long twice memory = memory refl
-is_memory error.TooLong invalid long twice memory = long refl
-is_memory error.DuplicateKey invalid long twice memory = twice refl
-
--- ---- a tree of values
-
 pub data_is : (j : json.Json) → HasData j → of_json j ≡ Some (data_of j)
 data_is j h = h.1 ∙ ap (λ (d : Data). Some d) (sym (ap (λ o. unwrap_or o null) h.1))
 
-pub tree_found : (name : List ℕ) (j i : json.Json) → HasData j → find.get name j ≡ Some i → HasData i × (get name (data_of j) ≡ Some (data_of i))
-tree_found name j i h e =
-    let there = found name j i (data_of j) (form j (data_of j) (data_is j h)) e in
-    ((there.0, there.1), there.2 ∙ ap (λ (d : Data). Some d) (sym (ap (λ o. unwrap_or o null) there.1)))
+pub items_is : (js : json.Items) → HasItems js → of_items js ≡ Some (items_of js)
+items_is js h = h.1 ∙ ap (λ (ds : Items). Some ds) (sym (ap (λ o. unwrap_or o no_items) h.1))
 
-pub no_tree_found : (name : List ℕ) (j : json.Json) → HasData j → find.get name j ≡ None → get name (data_of j) ≡ None
-no_tree_found name j h e = not_found name j (data_of j) (form j (data_of j) (data_is j h)) e
+pub pairs_is : (ms : json.Members) → HasPairs ms → of_pairs ms ≡ Some (pairs_of ms)
+pairs_is ms h = h.1 ∙ ap (λ (ps : List (List ℕ × Data)). Some ps) (sym (ap (λ o. unwrap_or o []) h.1))
+
+pub form_of : (j : json.Json) → HasData j → Form j (data_of j)
+form_of j h = form j (data_of j) (data_is j h)
 
 pub has_items : (j : json.Json) (js : json.Items) → j ≡ json.array js → HasData j → HasItems js
 has_items j js e h =
@@ -390,9 +175,6 @@ has_pairs j ms e h =
     let p = pairs ms no_members inside.0 inside.1 in
     let all : pairs_of ms ≡ p.0 = ap (λ o. unwrap_or o []) p.1 in
     ((p.0, p.1), ap data_of e ∙ ap (λ o. unwrap_or o null) here.1 ∙ inside.2 ∙ ap object p.2 ∙ ap (λ ps. object (put_all ps no_members)) (sym all))
-
-pub front : {A : Type 0} (xs : List A) (i : ℕ) (x : A) → i < length xs → x ≡ get_or xs i x → drop i xs ≡ x ∷ drop (i + 1) xs
-front xs i x within is = rw (add-one, drop-cons xs i x within) (ap (λ y. y ∷ drop (suc i) xs) (sym is))
 
 pub first_of_items : (js rest : json.Items) (j : json.Json) → js ≡ json.item j rest → HasItems js → HasData j × (HasItems rest × (items_of js ≡ item (data_of j) (items_of rest)))
 first_of_items js rest j e h =
@@ -409,3 +191,284 @@ first_of_members ms rest k j e h =
     let first : data_of j ≡ parts.first = ap (λ o. unwrap_or o null) parts.first_is in
     let others : pairs_of rest ≡ parts.rest = ap (λ o. unwrap_or o []) parts.rest_is in
     ((parts.first, parts.first_is), ((parts.rest, parts.rest_is), ap pairs_of e ∙ ap (λ o. unwrap_or o []) here.1 ∙ parts.all_is ∙ ap₂ (λ d ps. (k, d) ∷ ps) (sym first) (sym others)))
+
+-- ---- the value that nodes are
+
+span_first : (j : json.Json) → span (first_cell j) ≡ length (json_cells j)
+span_first json.null = refl
+span_first (json.boolean b) = refl
+span_first (json.number s) = refl
+span_first (json.string s) = refl
+span_first (json.array js) = refl
+span_first (json.object ms) = refl
+
+its_own : (j : json.Json) (more : List Cell) → take (span (first_cell j)) (json_cells j ++ more) ≡ json_cells j
+its_own j more = ap (λ n. take n (json_cells j ++ more)) (span_first j) ∙ take-append_seam (json_cells j) more
+
+the_others : (j : json.Json) (more : List Cell) → drop (span (first_cell j)) (json_cells j ++ more) ≡ more
+the_others j more = ap (λ n. drop n (json_cells j ++ more)) (span_first j) ∙ drop-append_seam (json_cells j) more
+
+mutual
+  data_back : (n : ℕ) (j : json.Json) (d : Data) → of_json j ≡ Some d → 2 * suc (length (inner_cells j)) ≤ n → data_in n (json_cells j) ≡ d
+  data_back zero j d e enough = absurd (omega (arith, enough))
+  data_back (suc n) json.null d e enough = sym (form json.null d e)
+  data_back (suc n) (json.boolean b) d e enough = sym (form (json.boolean b) d e)
+  data_back (suc n) (json.number s) d e enough = let f = form (json.number s) d e in ap number_or_null f.1 ∙ sym f.2
+  data_back (suc n) (json.string s) d e enough = sym (form (json.string s) d e)
+  data_back (suc n) (json.array js) d e enough =
+      let f = form (json.array js) d e in
+      ap array (items_back n js f.0 f.1 (omega (arith, enough))) ∙ sym f.2
+  data_back (suc n) (json.object ms) d e enough =
+      let f = form (json.object ms) d e in
+      let p = pairs ms no_members f.0 f.1 in
+      ap (λ ps. object (put_all ps no_members)) (pairs_back n ms p.0 p.1 (omega (arith, enough))) ∙ sym (f.2 ∙ ap object p.2)
+
+  items_back : (n : ℕ) (js : json.Items) (ds : Items) → of_items js ≡ Some ds → 2 * length (items_cells js) + 1 ≤ n → items_in n (items_cells js) ≡ ds
+  items_back zero js ds e enough = absurd (omega (arith, enough))
+  items_back (suc n) json.no_items ds e enough = sym (no_items_left json.no_items ds e refl)
+  items_back (suc n) (json.item j js) ds e enough =
+      let f = first_item j js ds e in
+      let all : length (inner_cells j ++ items_cells js) ≡ length (inner_cells j) + length (items_cells js) = length-append (inner_cells j) (items_cells js) in
+      ap₂ item
+      (ap (data_in n) (its_own j (items_cells js)) ∙ data_back n j f.first f.first_is (omega (arith, all, enough)))
+      (ap (items_in n) (the_others j (items_cells js)) ∙ items_back n js f.rest f.rest_is (omega (arith, all, enough)))
+      ∙ sym f.all_is
+
+  pairs_back : (n : ℕ) (ms : json.Members) (ps : List (List ℕ × Data)) → of_pairs ms ≡ Some ps → 2 * length (members_cells ms) + 1 ≤ n → pairs_in n (members_cells ms) ≡ ps
+  pairs_back zero ms ps e enough = absurd (omega (arith, enough))
+  pairs_back (suc n) json.no_members ps e enough = sym (no_pairs_left json.no_members ps e refl)
+  pairs_back (suc n) (json.member k j ms) ps e enough =
+      let f = first_member k j ms ps e in
+      let all : length (inner_cells j ++ members_cells ms) ≡ length (inner_cells j) + length (members_cells ms) = length-append (inner_cells j) (members_cells ms) in
+      ap₂ (λ d ps. (k, d) ∷ ps)
+      (ap (data_in n) (its_own j (members_cells ms)) ∙ data_back n j f.first f.first_is (omega (arith, all, enough)))
+      (ap (pairs_in n) (the_others j (members_cells ms)) ∙ pairs_back n ms f.rest f.rest_is (omega (arith, all, enough)))
+      ∙ sym f.all_is
+
+pub data_at_is : (nodes : List Node) (j : json.Json) → AreOf nodes j → data_at nodes ≡ data_of j
+data_at_is nodes j h = ap (λ cs. data_in (turns cs) cs) h.0 ∙ data_back (turns (json_cells j)) j (data_of j) (data_is j h.1) (omega arith)
+
+pub items_at_is : (nodes : List Node) (js : json.Items) → AreOfItems nodes js → items_at nodes ≡ items_of js
+items_at_is nodes js h = ap (λ cs. items_in (turns cs) cs) h.0 ∙ items_back (turns (items_cells js)) js (items_of js) (items_is js h.1) (omega arith)
+
+pub members_at_is : (nodes : List Node) (ms : json.Members) → AreOfMembers nodes ms → members_at nodes ≡ pairs_of ms
+members_at_is nodes ms h = ap (λ cs. pairs_in (turns cs) cs) h.0 ∙ pairs_back (turns (members_cells ms)) ms (pairs_of ms) (pairs_is ms h.1) (omega arith)
+
+-- ---- the first value
+
+-- a node n that comes first is that of the value that comes first
+pub first_of : (nodes : List Node) (n : Node) (j : json.Json) (more : List Cell) → n ≡ slice_index_or nodes 0 n → map cell nodes ≡ json_cells j ++ more → cell n ≡ first_cell j
+first_of [] n j more is e = absurd (cc)
+first_of (m ∷ nodes) n j more is e = ap cell is ∙ cc
+
+pub reach : (nodes : List Node) (n : Node) (j : json.Json) (more : List Cell) → n ≡ slice_index_or nodes 0 n → map cell nodes ≡ json_cells j ++ more
+    → (span (cell n) ≡ length (json_cells j)) × (length nodes ≡ length (json_cells j) + length more)
+reach nodes n j more is e =
+    (ap span (first_of nodes n j more is e) ∙ span_first j, sym (length-map nodes cell) ∙ ap length e ∙ length-append (json_cells j) more)
+
+-- the value that comes first, and what comes after it
+pub first_value : (nodes : List Node) (n : Node) (j : json.Json) (more : List Cell) → n ≡ slice_index_or nodes 0 n → map cell nodes ≡ json_cells j ++ more
+    → (map cell (take (span (cell n)) nodes) ≡ json_cells j) × (map cell (drop (span (cell n)) nodes) ≡ more)
+first_value nodes n j more is e =
+    let here = first_of nodes n j more is e in
+    (sym (take-map cell (span (cell n)) nodes) ∙ ap₂ (λ c cs. take (span c) cs) here e ∙ its_own j more, sym (drop-map cell (span (cell n)) nodes) ∙ ap₂ (λ c cs. drop (span c) cs) here e ∙ the_others j more)
+
+-- ---- a handle
+
+pub first_alone : (nodes : List Node) (n : Node) (j : json.Json) → n ≡ slice_index_or nodes 0 n → map cell nodes ≡ json_cells j → cell n ≡ first_cell j
+first_alone [] n j is e = absurd (cc)
+first_alone (m ∷ nodes) n j is e = ap cell is ∙ cc
+
+abbrev pub FirstTells : Node → Data → Type 0
+FirstTells n d = (j : json.Json) × (cell n ≡ first_cell j) × HasData j × (d ≡ data_of j)
+
+pub tells : (nodes : List Node) (n : Node) (d : Data) → HoldsData nodes → data_at nodes ≡ d → n ≡ slice_index_or nodes 0 n → FirstTells n d
+tells nodes n d h view is = (h.0, first_alone nodes n h.0 is h.1.0, h.1.1, sym view ∙ data_at_is nodes h.0 h.1)
+
+pub string_told : (n : Node) (d : Data) → FirstTells n d → string_in (cell n) ≡ as_str d
+string_told n d t = ap string_in t.1 ∙ string_is t.0 (data_of t.0) (form_of t.0 t.2) ∙ ap as_str (sym t.3)
+
+pub boolean_told : (n : Node) (d : Data) → FirstTells n d → boolean_in (cell n) ≡ as_bool d
+boolean_told n d t = ap boolean_in t.1 ∙ boolean_is t.0 (data_of t.0) (form_of t.0 t.2) ∙ ap as_bool (sym t.3)
+
+pub number_told : (n : Node) (d : Data) → FirstTells n d → number_in (cell n) ≡ as_number d
+number_told n d t = ap number_in t.1 ∙ number_is t.0 (data_of t.0) (form_of t.0 t.2) ∙ ap as_number (sym t.3)
+
+pub null_told : (n : Node) (d : Data) → FirstTells n d → is_null_cell (cell n) ≡ is_some (as_null d)
+null_told n d t = ap is_null_cell t.1 ∙ null_is t.0 (data_of t.0) (form_of t.0 t.2) ∙ ap (λ x. is_some (as_null x)) (sym t.3)
+
+pub array_told : (n : Node) (d : Data) → FirstTells n d → is_array_cell (cell n) ≡ is_some (as_array d)
+array_told n d t = ap is_array_cell t.1 ∙ array_is t.0 (data_of t.0) (form_of t.0 t.2) ∙ ap (λ x. is_some (as_array x)) (sym t.3)
+
+pub object_told : (n : Node) (d : Data) → FirstTells n d → is_object_cell (cell n) ≡ is_some (as_object d)
+object_told n d t = ap is_object_cell t.1 ∙ object_is t.0 (data_of t.0) (form_of t.0 t.2) ∙ ap (λ x. is_some (as_object x)) (sym t.3)
+
+-- ---- what an array and an object have
+
+past_first : (nodes : List Node) (j : json.Json) → map cell nodes ≡ json_cells j → map cell (drop 1 nodes) ≡ inner_cells j
+past_first nodes j e = sym (drop-map cell 1 nodes) ∙ ap (drop 1) e
+
+pub record HasArray (nodes : List Node) (d : Data) : Type 0 where
+  pub «items» : json.Items
+  pub are : AreOfItems (drop 1 nodes) «items»
+  pub is : as_array d ≡ Some (items_of «items»)
+
+pub array_there : (nodes : List Node) (d : Data) → HoldsData nodes → data_at nodes ≡ d → is_some (as_array d) ≡ true → HasArray nodes d
+array_there nodes d h view some =
+    let j = h.0 in
+    let same : d ≡ data_of j = sym view ∙ data_at_is nodes j h.1 in
+    let a = array_form j (array_is j (data_of j) (form_of j h.1.1) ∙ ap (λ x. is_some (as_array x)) (sym same) ∙ some) in
+    let f : Form (json.array a.0) (data_of j) = subst (λ x. Form x (data_of j)) a.1 (form_of j h.1.1) in
+    record {
+      «items» = a.0;
+      are = (past_first nodes j h.1.0 ∙ ap inner_cells a.1, has_items j a.0 a.1 h.1.1);
+      is = ap as_array (same ∙ f.2) ∙ ap (λ (ds : Items). Some ds) (sym (ap (λ o. unwrap_or o no_items) f.1));
+    }
+
+pub record HasObject (nodes : List Node) (d : Data) : Type 0 where
+  pub «members» : json.Members
+  pub are : AreOfMembers (drop 1 nodes) «members»
+  pub is : d ≡ object (put_all (pairs_of «members») no_members)
+
+pub object_there : (nodes : List Node) (d : Data) → HoldsData nodes → data_at nodes ≡ d → is_some (as_object d) ≡ true → HasObject nodes d
+object_there nodes d h view some =
+    let j = h.0 in
+    let same : d ≡ data_of j = sym view ∙ data_at_is nodes j h.1 in
+    let a = object_form j (object_is j (data_of j) (form_of j h.1.1) ∙ ap (λ x. is_some (as_object x)) (sym same) ∙ some) in
+    let all = has_pairs j a.0 a.1 h.1.1 in
+    record { «members» = a.0; are = (past_first nodes j h.1.0 ∙ ap inner_cells a.1, all.0); is = same ∙ all.1 }
+
+-- ---- the next item, the next member
+
+pub front : (nodes : List Node) (at : ℕ) (n : Node) → at < length nodes → n ≡ slice_index_or nodes at n → drop at nodes ≡ n ∷ drop (at + 1) nodes
+front nodes at n within is = rw (add-one, drop-cons nodes at n within) (ap (λ m. m ∷ drop (suc at) nodes) (sym is))
+
+tail_is : (nodes : List Node) (at : ℕ) → take (length nodes - at) (drop at nodes) ≡ drop at nodes
+tail_is nodes at = take_all (length nodes - at) (drop at nodes) (omega (arith, length-drop at nodes))
+
+-- a value is taken that stands first in a part
+abbrev pub TakesFirst : List Node → List Node → Type 0
+TakesFirst part value = (j : json.Json) → (more : List Cell) → map cell part ≡ json_cells j ++ more → (map cell value ≡ json_cells j) × (map cell (drop (length value) part) ≡ more)
+
+-- a value is taken that stands at a place, and what comes after it is left
+taken : (nodes value : List Node) (at : ℕ) (j : json.Json) (more : List Cell) → map cell (drop at nodes) ≡ json_cells j ++ more → TakesFirst (take (length nodes - at) (drop at nodes)) value
+    → (map cell value ≡ json_cells j) × (map cell (drop (at + length value) nodes) ≡ more)
+taken nodes value at j more e f =
+    let v = f j more (ap (map cell) (tail_is nodes at) ∙ e) in
+    (v.0, ap (map cell) (sym (drop-drop (length value) at nodes)) ∙ ap (λ part. map cell (drop (length value) part)) (sym (tail_is nodes at)) ∙ v.1)
+
+abbrev pub BeginsWithValue : List Node → Type 0
+BeginsWithValue part = (j : json.Json) × (more : List Cell) × (map cell part ≡ json_cells j ++ more)
+
+pub record NextItem (nodes : List Node) : Type 0 where
+  pub value : json.Json
+  pub others : json.Items
+  pub begins : map cell nodes ≡ json_cells value ++ items_cells others
+  pub has_value : HasData value
+  pub has_others : HasItems others
+  pub is : items_at nodes ≡ item (data_of value) (items_of others)
+
+item_next : (nodes : List Node) (js : json.Items) → AreOfItems nodes js → 0 < length nodes → NextItem nodes
+item_next nodes json.no_items h some = let none : length nodes ≡ 0 = sym (length-map nodes cell) ∙ ap length h.0 in absurd (omega (arith, none, some))
+item_next nodes (json.item j js) h some =
+    let f = first_of_items (json.item j js) js j refl h.1 in
+    record { value = j; others = js; begins = h.0; has_value = f.0; has_others = f.1.0; is = items_at_is nodes (json.item j js) h ∙ f.1.1 }
+
+pub next_item : (nodes : List Node) → HoldsItems nodes → 0 < length nodes → NextItem nodes
+next_item nodes h some = item_next nodes h.0 h.1 some
+
+pub record NextMember (nodes : List Node) : Type 0 where
+  pub key : List ℕ
+  pub value : json.Json
+  pub others : json.Members
+  pub begins : map cell nodes ≡ key_cell key ∷ (json_cells value ++ members_cells others)
+  pub has_value : HasData value
+  pub has_others : HasPairs others
+  pub is : members_at nodes ≡ (key, data_of value) ∷ pairs_of others
+
+member_next : (nodes : List Node) (ms : json.Members) → AreOfMembers nodes ms → 0 < length nodes → NextMember nodes
+member_next nodes json.no_members h some = let none : length nodes ≡ 0 = sym (length-map nodes cell) ∙ ap length h.0 in absurd (omega (arith, none, some))
+member_next nodes (json.member k j ms) h some =
+    let f = first_of_members (json.member k j ms) ms k j refl h.1 in
+    record { key = k; value = j; others = ms; begins = h.0; has_value = f.0; has_others = f.1.0; is = members_at_is nodes (json.member k j ms) h ∙ f.1.1 }
+
+pub next_member : (nodes : List Node) → HoldsMembers nodes → 0 < length nodes → NextMember nodes
+next_member nodes h some = member_next nodes h.0 h.1 some
+
+pub item_begins : (nodes : List Node) (at : ℕ) → HoldsItems (drop at nodes) → at < length nodes → BeginsWithValue (take (length nodes - at) (drop at nodes))
+item_begins nodes at h within =
+    let n = next_item (drop at nodes) h (omega (arith, length-drop at nodes, within)) in
+    (n.value, items_cells n.others, ap (map cell) (tail_is nodes at) ∙ n.begins)
+
+pub record ItemTaken (nodes value : List Node) (at : ℕ) : Type 0 where
+  pub holds_value : HoldsData value
+  pub holds_others : HoldsItems (drop (at + length value) nodes)
+  pub is : items_at (drop at nodes) ≡ item (data_at value) (items_at (drop (at + length value) nodes))
+
+pub item_taken : (nodes value : List Node) (at : ℕ) → HoldsItems (drop at nodes) → at < length nodes → TakesFirst (take (length nodes - at) (drop at nodes)) value → ItemTaken nodes value at
+item_taken nodes value at h within f =
+    let n = next_item (drop at nodes) h (omega (arith, length-drop at nodes, within)) in
+    let v = taken nodes value at n.value (items_cells n.others) n.begins f in
+    record {
+      holds_value = (n.value, (v.0, n.has_value));
+      holds_others = (n.others, (v.1, n.has_others));
+      is = n.is ∙ ap₂ item (sym (data_at_is value n.value (v.0, n.has_value))) (sym (items_at_is (drop (at + length value) nodes) n.others (v.1, n.has_others)));
+    }
+
+-- the member at a place: its name, and its value at the next one
+pub record MemberThere (nodes : List Node) (at : ℕ) (n : Node) : Type 0 where
+  pub next : NextMember (drop at nodes)
+  pub key : cell n ≡ key_cell next.key
+  pub begins : map cell (drop (at + 1) nodes) ≡ json_cells next.value ++ members_cells next.others
+
+pub member_there : (nodes : List Node) (at : ℕ) (n : Node) → HoldsMembers (drop at nodes) → at < length nodes → n ≡ slice_index_or nodes at n → MemberThere nodes at n
+member_there nodes at n h within is =
+    let m = next_member (drop at nodes) h (omega (arith, length-drop at nodes, within)) in
+    let both : cell n ∷ map cell (drop (at + 1) nodes) ≡ key_cell m.key ∷ (json_cells m.value ++ members_cells m.others) = sym (ap (map cell) (front nodes at n within is)) ∙ m.begins in
+    record { next = m; key = cc; begins = cc }
+
+pub member_begins : (nodes : List Node) (at : ℕ) (n : Node) → MemberThere nodes at n → BeginsWithValue (take (length nodes - (at + 1)) (drop (at + 1) nodes))
+member_begins nodes at n t = (t.next.value, members_cells t.next.others, ap (map cell) (tail_is nodes (at + 1)) ∙ t.begins)
+
+pub record MemberTaken (nodes value : List Node) (at : ℕ) (key : List ℕ) : Type 0 where
+  pub holds_value : HoldsData value
+  pub holds_others : HoldsMembers (drop (at + 1 + length value) nodes)
+  pub is : members_at (drop at nodes) ≡ (key, data_at value) ∷ members_at (drop (at + 1 + length value) nodes)
+
+pub member_taken : (nodes value : List Node) (at : ℕ) (n : Node) (key : List ℕ) (t : MemberThere nodes at n) → key ≡ t.next.key → TakesFirst (take (length nodes - (at + 1)) (drop (at + 1) nodes)) value → MemberTaken nodes value at key
+member_taken nodes value at n key t named f =
+    let m = t.next in
+    let v = taken nodes value (at + 1) m.value (members_cells m.others) t.begins f in
+    let past = drop (at + 1 + length value) nodes in
+    record {
+      holds_value = (m.value, (v.0, m.has_value));
+      holds_others = (m.others, (v.1, m.has_others));
+      is = m.is ∙ ap₂ (λ d ps. (m.key, d) ∷ ps) (sym (data_at_is value m.value (v.0, m.has_value))) (sym (members_at_is past m.others (v.1, m.has_others))) ∙ ap (λ k. (k, data_at value) ∷ members_at past) (sym named);
+    }
+
+pub array_tail : (nodes : List Node) (d : Data) → HoldsData nodes → data_at nodes ≡ d → is_some (as_array d) ≡ true
+    → HoldsItems (take (length nodes - 1) (drop 1 nodes)) × (Some (items_at (take (length nodes - 1) (drop 1 nodes))) ≡ as_array d)
+array_tail nodes d h view some =
+    let a = array_there nodes d h view some in
+    let all : (js : json.Items) × AreOfItems (take (length nodes - 1) (drop 1 nodes)) js = (a.«items», (ap (map cell) (tail_is nodes 1) ∙ a.are.0, a.are.1)) in
+    (all, ap (λ (ds : Items). Some ds) (items_at_is (take (length nodes - 1) (drop 1 nodes)) a.«items» all.1) ∙ sym a.is)
+
+pub object_tail : (nodes : List Node) (d : Data) → HoldsData nodes → data_at nodes ≡ d → is_some (as_object d) ≡ true
+    → HoldsMembers (take (length nodes - 1) (drop 1 nodes)) × (d ≡ object (put_all (members_at (take (length nodes - 1) (drop 1 nodes))) no_members))
+object_tail nodes d h view some =
+    let a = object_there nodes d h view some in
+    let all : (ms : json.Members) × AreOfMembers (take (length nodes - 1) (drop 1 nodes)) ms = (a.«members», (ap (map cell) (tail_is nodes 1) ∙ a.are.0, a.are.1)) in
+    (all, a.is ∙ ap (λ ps. object (put_all ps no_members)) (sym (members_at_is (take (length nodes - 1) (drop 1 nodes)) a.«members» all.1)))
+
+pub no_key : (nodes : List Node) (at : ℕ) (n : Node) → HoldsMembers (drop at nodes) → at < length nodes → n ≡ slice_index_or nodes at n → key_in (cell n) ≡ None → ⊥
+no_key nodes at n h within is none = let t = member_there nodes at n h within is in cc
+
+pub its_key : (nodes : List Node) (at : ℕ) (n : Node) (name : List ℕ) (t : MemberThere nodes at n) → Some name ≡ key_in (cell n) → name ≡ t.next.key
+its_key nodes at n name t e = cc
+
+pub member_at : (nodes value : List Node) (at : ℕ) (n : Node) (name : List ℕ) → HoldsMembers (drop at nodes) → at < length nodes → n ≡ slice_index_or nodes at n → Some name ≡ key_in (cell n)
+    → TakesFirst (take (length nodes - (at + 1)) (drop (at + 1) nodes)) value → MemberTaken nodes value at name
+member_at nodes value at n name h within is named f = let t = member_there nodes at n h within is in member_taken nodes value at n name t (its_key nodes at n name t named) f
+
+pub none_left : HoldsItems []
+none_left = (json.no_items, (refl, (no_items, refl)))

@@ -1,8 +1,5 @@
 pub mod Reading
-pub mod Spelled
 pub mod Holding
 pub mod Put
-pub mod Views
-pub mod Kept
-pub mod Digits
 pub mod Plain
+pub mod Building

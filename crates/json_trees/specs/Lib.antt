@@ -1,6 +1,5 @@
 pub mod DataCode
 pub mod Named
-pub mod Held
 pub mod Valued
-pub mod Either
-pub mod Opened
+pub mod Cells
+pub mod First

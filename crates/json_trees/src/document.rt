@@ -1,31 +1,27 @@
 //! A text that was read.
-ghost use Rattle.std.specs.Prelude.{◌≡◌, ◌≤◌, Some, None, Ok, Err, IfOk, OnOk, IsSome};
+ghost use Rattle.std.specs.Prelude.{◌≡◌, Some, None, Ok, Err, IfOk, OnOk, IsSome};
 ghost use Rattle.serde_json.specs.Read.{read};
 
-use crate::tape::TapeDocument;
+use crate::build::add_value;
+use crate::node::Node;
 use crate::tokens::pass_value;
 use crate::tree::Tree;
 use crate::unread::Unread;
-use crate::value::ValueDocument;
-use json::{MAX_LEN, Reader, Scratch};
+use json::{Reader, Scratch};
 use std::alloc::Global;
 use std::marker::Model;
 
 /// How deep arrays and objects may nest.
-pub(crate) const MAX_DEPTH: usize = 127;
+const MAX_DEPTH: usize = 127;
 
-/// What was made of a text.
-#[derive(Drop)]
-enum Content<'a> {
-    Tape(TapeDocument<'a>),
-    /// (of a text that is too long for a tape, which counts bytes in 32 bits)
-    Value(ValueDocument<'a>),
-}
+/// A list of nodes has room at first for one of so many bytes of its text: of most texts it is as much as they need, and what isn't
+/// written of it takes no memory.
+const BYTES_FOR_A_NODE: usize = 4;
 
 /// A JSON text that was read. A clause sees its value, as `serde_json` reads it.
 #[derive(Drop)]
 pub struct Document<'a> {
-    content: Content<'a>,
+    nodes: Vec<Node<'a>>,
 }
 
 impl<'a> Model for Document<'a> {
@@ -36,13 +32,15 @@ impl<'a> Model for Document<'a> {
 
     ghost coded = { data_code };
 
-    ghost use Rattle.json_trees.specs.Either.{in_content};
+    ghost use Rattle.json_trees.specs.Cells.{data_at, HoldsData};
 
-    ghost view = { λ a. in_content a.content };
+    ghost view = { λ a. data_at a.nodes.items };
+
+    ghost invariant = { λ a. HoldsData a.nodes.items };
 }
 
 /// Goes over a text once, and makes nothing: whether it is one value.
-pub(crate) fn check(text: &str, room: &mut Scratch) -> Result<(), Unread>
+fn check(text: &str, room: &mut Scratch) -> Result<(), Unread>
     ensures ok { OnOk result (IsSome (read text.now)) }
     ensures not_json { result ≡ Err Unread.NotJson → read text.now ≡ None }
 {
@@ -58,30 +56,21 @@ pub(crate) fn check(text: &str, room: &mut Scratch) -> Result<(), Unread>
     Ok(())
 }
 
-/// Reads a text: as a tape, where it has no more bytes than `longest`.
-fn read_within<'a>(
-    alloc: Global,
-    text: &'a str,
-    room: &'a mut Scratch,
-    longest: usize,
-) -> Result<Document<'a>, Unread>
-    requires within { longest ≤ MAX_LEN }
-    ensures ok { IfOk result (λ document. read text.now ≡ Some document) }
-    ensures not_json { result ≡ Err Unread.NotJson → read text.now ≡ None }
+/// Why a text is not read for whose nodes memory lacks. Where it is no JSON either, that is why.
+#[cold]
+#[inline(never)]
+fn without_nodes(alloc: Global, text: &str) -> Unread
+    ensures not_json { result ≡ Unread.NotJson → read text.now ≡ None }
 {
-    let content = if text.len() <= longest {
-        Content::Tape(TapeDocument::parse(alloc, text, room)?)
-    } else {
-        check(text, room)?;
-        Content::Value(ValueDocument::parse(alloc, text, room)?)
-    };
-    Ok(Document { content })
+    match check(text, &mut Scratch::new(alloc)) {
+        Ok(()) => Unread::Memory,
+        Err(unread) => unread,
+    }
 }
 
 impl<'a> Document<'a> {
     /// Reads a text, in the room that is lent. What `serde_json` refuses is refused: what is no JSON, nests deeper
-    /// than 127, or has a number past all floats. Where that comes early in a long text, it comes out before anything
-    /// is made of the text.
+    /// than 127, or has a number past all floats. It comes out where it stands, before the rest of the text is looked at.
     pub fn parse(
         alloc: Global,
         text: &'a str,
@@ -90,7 +79,24 @@ impl<'a> Document<'a> {
         ensures ok { IfOk result (λ document. read text.now ≡ Some document) }
         ensures not_json { result ≡ Err Unread.NotJson → read text.now ≡ None }
     {
-        read_within(alloc, text, room, MAX_LEN)
+        let Ok(mut reader) = Reader::new(text, room) else {
+            return Err(without_nodes(alloc, text));
+        };
+        let mut nodes = Vec::new(alloc);
+        // Where that much is refused, less may still do.
+        let _ = nodes.reserve(text.len() / BYTES_FOR_A_NODE + 1);
+        match add_value(&mut reader, MAX_DEPTH, &mut nodes) {
+            Ok(()) => {}
+            Err(Unread::Memory) => {
+                drop(nodes);
+                return Err(without_nodes(alloc, text));
+            }
+            Err(Unread::NotJson) => return Err(Unread::NotJson),
+        }
+        if let Some(_) = reader.next() {
+            return Err(Unread::NotJson);
+        }
+        Ok(Document { nodes })
     }
 
     /// The value that the text is.
@@ -98,9 +104,6 @@ impl<'a> Document<'a> {
     pub fn root(&self) -> Tree<'_, 'a>
         ensures { result ≡ self.now }
     {
-        match &self.content {
-            Content::Tape(document) => Tree::of_tape(document.root()),
-            Content::Value(document) => Tree::of_value(document.root()),
-        }
+        Tree::of_nodes(self.nodes.as_slice())
     }
 }

@@ -2,25 +2,20 @@
 ghost use Rattle.std.specs.Prelude.{◌≡◌, ◌<◌, Some, None, MatchOption, OnSome};
 ghost use Rattle.serde_json.specs.Data.{no_items, item};
 ghost use Rattle.serde_json.specs.Events.{items_len};
+ghost use Rattle.json_trees.specs.Cells.{items_at, HoldsItems};
 
-use crate::tape::TapeItems;
+use crate::node::Node;
+use crate::nodes::first_value;
 use crate::tree::Tree;
-use crate::value::ValueItems;
 use std::marker::Model;
-
-/// Where items stand.
-#[derive(Drop)]
-enum Row<'t, 'a> {
-    /// (there are none)
-    None,
-    Tape(TapeItems<'t, 'a>),
-    Value(ValueItems<'t, 'a>),
-}
 
 /// The items of an array from one on. A clause sees them as `serde_json` reads them.
 #[derive(Drop)]
 pub struct Items<'t, 'a> {
-    row: Row<'t, 'a>,
+    /// Those of the array's items, and no more.
+    nodes: &'t [Node<'a>],
+    /// Where the next item begins.
+    at: usize,
 }
 
 impl<'t, 'a> Model for Items<'t, 'a> {
@@ -31,30 +26,22 @@ impl<'t, 'a> Model for Items<'t, 'a> {
 
     ghost coded = { items_code };
 
-    ghost use Rattle.json_trees.specs.Either.{in_row};
+    ghost use Rattle.std.specs.Prelude.{drop};
+    ghost use Rattle.json_trees.specs.Cells.{items_at, HoldsItems};
 
-    ghost view = { λ a. in_row a.row };
+    ghost view = { λ a. items_at (drop a.at a.nodes.now) };
+
+    ghost invariant = { λ a. HoldsItems (drop a.at a.nodes.now) };
 }
 
 impl<'t, 'a> Items<'t, 'a> {
-    /// Items in a tape.
+    /// The items of these nodes.
     #[inline(always)]
-    pub(crate) fn of_tape(items: TapeItems<'t, 'a>) -> Items<'t, 'a>
-        ensures { result ≡ items.entry }
+    pub(crate) fn of_nodes(nodes: &'t [Node<'a>]) -> Items<'t, 'a>
+        requires { HoldsItems nodes.now }
+        ensures { result ≡ items_at nodes.now }
     {
-        Items {
-            row: Row::Tape(items),
-        }
-    }
-
-    /// Items in a tree of values.
-    #[inline(always)]
-    pub(crate) fn of_value(items: ValueItems<'t, 'a>) -> Items<'t, 'a>
-        ensures { result ≡ items.entry }
-    {
-        Items {
-            row: Row::Value(items),
-        }
+        Items { nodes, at: 0 }
     }
 
     /// No items.
@@ -62,7 +49,7 @@ impl<'t, 'a> Items<'t, 'a> {
     pub fn none() -> Items<'t, 'a>
         ensures { result ≡ no_items }
     {
-        Items { row: Row::None }
+        Items { nodes: &[], at: 0 }
     }
 
     /// The next item, and none at the end.
@@ -71,10 +58,12 @@ impl<'t, 'a> Items<'t, 'a> {
         ensures value { MatchOption result ((self.old ≡ no_items) × (self.new ≡ self.old)) (λ tree. self.old ≡ item tree self.new) }
         ensures shorter { OnSome result (items_len self.new < items_len self.old) }
     {
-        match &mut self.row {
-            Row::None => None,
-            Row::Tape(items) => Some(Tree::of_tape(items.next()?)),
-            Row::Value(items) => Some(Tree::of_value(items.next()?)),
+        let (nodes, at) = (self.nodes, self.at);
+        if at >= nodes.len() {
+            return None;
         }
+        let value = first_value(&nodes[at..]);
+        self.at = at + value.len();
+        Some(Tree::of_nodes(value))
     }
 }

@@ -1,20 +1,19 @@
-//! JSON texts, read in place: handles on a tape of tokens, whose meaning is the value that `serde_json` reads.
+//! JSON texts, read in place: handles on a flat list of nodes, whose meaning is the value that `serde_json` reads.
 //!
-//! `Document::parse` refuses a text after work in proportion to what comes before the fault, or little work. A text that
-//! is too long for a tape is read as a tree of values, on which the handles work just as well.
+//! `Document::parse` goes over the tokens of a text once and writes a node for each value and each name. A text is refused where its
+//! first fault stands.
 #![tactic(auto)]
 
+mod build;
 mod document;
-mod glance;
 mod items;
-mod limits;
 mod members;
+mod node;
+mod nodes;
 mod numbers;
-mod tape;
 mod tokens;
 mod tree;
 mod unread;
-mod value;
 
 pub use document::Document;
 pub use items::Items;

@@ -1,26 +1,23 @@
 //! The members of an object.
 ghost use Rattle.std.specs.Prelude.{◌≡◌, ◌<◌, [], ◌∷◌, length, Some, None, MatchOption, OnSome};
+ghost use Rattle.json_trees.specs.Cells.{members_at, HoldsMembers};
 
-use crate::tape::TapeMembers;
+use crate::node::Node;
+use crate::nodes::first_value;
 use crate::tree::Tree;
-use crate::value::ValueMembers;
 use std::marker::Model;
-
-/// Where members stand.
-#[derive(Drop)]
-enum Named<'t, 'a> {
-    Tape(TapeMembers<'t, 'a>),
-    Value(ValueMembers<'t, 'a>),
-}
 
 /// The members of an object from one on. A clause sees their names, and their values as `serde_json` reads them.
 #[derive(Drop)]
 pub struct Members<'t, 'a> {
-    named: Named<'t, 'a>,
+    /// Those of the object's members, and no more.
+    nodes: &'t [Node<'a>],
+    /// Where the next member begins.
+    at: usize,
 }
 
 impl<'t, 'a> Model for Members<'t, 'a> {
-    ghost use Rattle.std.specs.Prelude.{ℕ, List};
+    ghost use Rattle.std.specs.Prelude.{ℕ, List, drop};
     ghost use Rattle.serde_json.specs.Data.{Data};
     ghost use Rattle.json_trees.specs.Named.{members_code};
 
@@ -28,30 +25,21 @@ impl<'t, 'a> Model for Members<'t, 'a> {
 
     ghost coded = { members_code };
 
-    ghost use Rattle.json_trees.specs.Either.{in_named};
+    ghost use Rattle.json_trees.specs.Cells.{members_at, HoldsMembers};
 
-    ghost view = { λ a. in_named a.named };
+    ghost view = { λ a. members_at (drop a.at a.nodes.now) };
+
+    ghost invariant = { λ a. HoldsMembers (drop a.at a.nodes.now) };
 }
 
 impl<'t, 'a> Members<'t, 'a> {
-    /// Members in a tape.
+    /// The members of these nodes.
     #[inline(always)]
-    pub(crate) fn of_tape(members: TapeMembers<'t, 'a>) -> Members<'t, 'a>
-        ensures { result ≡ members.entry }
+    pub(crate) fn of_nodes(nodes: &'t [Node<'a>]) -> Members<'t, 'a>
+        requires { HoldsMembers nodes.now }
+        ensures { result ≡ members_at nodes.now }
     {
-        Members {
-            named: Named::Tape(members),
-        }
-    }
-
-    /// Members in a tree of values.
-    #[inline(always)]
-    pub(crate) fn of_value(members: ValueMembers<'t, 'a>) -> Members<'t, 'a>
-        ensures { result ≡ members.entry }
-    {
-        Members {
-            named: Named::Value(members),
-        }
+        Members { nodes, at: 0 }
     }
 
     /// The next member, and none at the end.
@@ -60,15 +48,15 @@ impl<'t, 'a> Members<'t, 'a> {
         ensures value { MatchOption result ((self.old ≡ []) × (self.new ≡ self.old)) (λ m. self.old ≡ (m.0.now, m.1) ∷ self.new) }
         ensures shorter { OnSome result (length self.new < length self.old) }
     {
-        match &mut self.named {
-            Named::Tape(members) => {
-                let (name, tree) = members.next()?;
-                Some((name, Tree::of_tape(tree)))
-            }
-            Named::Value(members) => {
-                let (name, tree) = members.next()?;
-                Some((name, Tree::of_value(tree)))
-            }
+        let (nodes, at) = (self.nodes, self.at);
+        if at >= nodes.len() {
+            return None;
         }
+        let Some(name) = nodes[at].as_key() else {
+            unreachable!()
+        };
+        let value = first_value(&nodes[at + 1..]);
+        self.at = at + 1 + value.len();
+        Some((name, Tree::of_nodes(value)))
     }
 }

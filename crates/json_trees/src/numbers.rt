@@ -9,9 +9,6 @@ ghost use Rattle.serde_json.specs.View.{number_view};
 use fast_float::{Numeral, parse_u64};
 use serde_json::Number;
 
-/// Any so many digits write an integer of 64 bits.
-const FEW_DIGITS: usize = 19;
-
 /// The integer that digits alone write, with no point and no exponent, if it is one of 64 bits.
 ///
 /// Most numbers are of this kind, and need no look for the parts of a numeral.
@@ -69,29 +66,4 @@ pub(crate) fn number_of(text: &str) -> Option<Number>
     } else {
         from_digits(text)
     }
-}
-
-/// Whether a text is some digits and nothing else.
-#[inline(always)]
-fn are_digits(text: &[u8]) -> bool
-    ensures { IsTrue result → AllDigits 10 text.now }
-{
-    'digits: for byte in text {
-        if !byte.is_ascii_digit() {
-            return false;
-        }
-    }
-    true
-}
-
-/// Whether a text writes a number that is not too large for a float. Of most it is enough to see that they are digits.
-#[inline(always)]
-pub(crate) fn is_number(text: &str) -> bool
-    ensures { result ≡ is_some (number_of text.now) }
-{
-    let bytes = text.as_bytes();
-    if !bytes.is_empty() && bytes.len() <= FEW_DIGITS && are_digits(bytes) {
-        return true;
-    }
-    number_of(text).is_some()
 }

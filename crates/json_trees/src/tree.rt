@@ -1,28 +1,24 @@
 //! A value of a document.
 ghost use Rattle.std.specs.Prelude.{◌≡◌, is_some, Some, None, MatchOption, option_map, option_and_then};
+ghost use Rattle.json.specs.Json.{Json};
 ghost use Rattle.serde_json.specs.Data.{object, no_members};
 ghost use Rattle.serde_json.specs.Find.{get, as_null, as_str, as_bool, as_number, as_u64, as_i64, as_array, as_object};
 ghost use Rattle.serde_json.specs.View.{number_view};
+ghost use Rattle.json_trees.specs.Cells.{cell, data_at, first_cell, HoldsData};
 ghost use Rattle.json_trees.specs.Named.{put_all};
+ghost use Rattle.json_trees.specs.Valued.{data_of, HasData};
 
 use crate::items::Items;
 use crate::members::Members;
-use crate::tape::TapeTree;
-use crate::value::ValueTree;
+use crate::node::Node;
 use serde_json::Number;
 use std::marker::Model;
-
-/// Where a value stands.
-#[derive(Drop)]
-enum Place<'t, 'a> {
-    Tape(TapeTree<'t, 'a>),
-    Value(ValueTree<'t, 'a>),
-}
 
 /// A value of a document. A clause sees it as `serde_json` reads it.
 #[derive(Drop)]
 pub struct Tree<'t, 'a> {
-    place: Place<'t, 'a>,
+    /// Those of the value, and no more.
+    nodes: &'t [Node<'a>],
 }
 
 impl<'t, 'a> Model for Tree<'t, 'a> {
@@ -33,42 +29,44 @@ impl<'t, 'a> Model for Tree<'t, 'a> {
 
     ghost coded = { data_code };
 
-    ghost use Rattle.json_trees.specs.Either.{in_place};
+    ghost use Rattle.json_trees.specs.Cells.{data_at, HoldsData};
 
-    ghost view = { λ a. in_place a.place };
+    ghost view = { λ a. data_at a.nodes.now };
+
+    ghost invariant = { λ a. HoldsData a.nodes.now };
 }
 
 impl<'t, 'a> Tree<'t, 'a> {
-    /// A value in a tape.
+    /// The value of these nodes.
     #[inline(always)]
-    pub(crate) fn of_tape(tree: TapeTree<'t, 'a>) -> Tree<'t, 'a>
-        ensures { result ≡ tree.entry }
+    pub(crate) fn of_nodes(nodes: &'t [Node<'a>]) -> Tree<'t, 'a>
+        requires { HoldsData nodes.now }
+        ensures { result ≡ data_at nodes.now }
     {
-        Tree {
-            place: Place::Tape(tree),
-        }
+        Tree { nodes }
     }
 
-    /// A value in a tree of values.
+    /// The first node.
     #[inline(always)]
-    pub(crate) fn of_value(tree: ValueTree<'t, 'a>) -> Tree<'t, 'a>
-        ensures { result ≡ tree.entry }
+    fn first(&self) -> &'t Node<'a>
+        ensures { (j : Json) × (cell result.now ≡ first_cell j) × HasData j × (self.now ≡ data_of j) }
     {
-        Tree {
-            place: Place::Value(tree),
-        }
+        &self.nodes[0]
     }
 
     /// The member of that name, where this is an object. Of those that have one name it is the last. It walks all
     /// members.
-    #[inline(always)]
     pub fn get(&self, name: &str) -> Option<Tree<'t, 'a>>
         ensures { result ≡ get name.now self.now }
     {
-        match &self.place {
-            Place::Tape(tree) => Some(Tree::of_tape(tree.get(name)?)),
-            Place::Value(tree) => Some(Tree::of_value(tree.get(name)?)),
+        let mut members = self.members()?;
+        let mut found = None;
+        'members: while let Some((own, tree)) = members.next() {
+            if own == name {
+                found = Some(tree);
+            }
         }
+        found
     }
 
     /// The text, where this is one.
@@ -76,20 +74,15 @@ impl<'t, 'a> Tree<'t, 'a> {
     pub fn as_str(&self) -> Option<&'a str>
         ensures { option_map (λ t. t.now) result ≡ as_str self.now }
     {
-        match &self.place {
-            Place::Tape(tree) => tree.as_str(),
-            Place::Value(tree) => tree.as_str(),
-        }
+        self.first().as_str()
     }
 
     /// The number, where this is one.
+    #[inline(always)]
     pub fn as_number(&self) -> Option<Number>
         ensures { option_map number_view result ≡ as_number self.now }
     {
-        match &self.place {
-            Place::Tape(tree) => tree.as_number(),
-            Place::Value(tree) => tree.as_number(),
-        }
+        self.first().as_number()
     }
 
     /// The whole number from 0 to 2^64 - 1, where this is one with no point and no exponent.
@@ -111,10 +104,7 @@ impl<'t, 'a> Tree<'t, 'a> {
     pub fn as_bool(&self) -> Option<bool>
         ensures { result ≡ as_bool self.now }
     {
-        match &self.place {
-            Place::Tape(tree) => tree.as_bool(),
-            Place::Value(tree) => tree.as_bool(),
-        }
+        self.first().as_bool()
     }
 
     /// Whether this is null.
@@ -122,10 +112,7 @@ impl<'t, 'a> Tree<'t, 'a> {
     pub fn is_null(&self) -> bool
         ensures { result ≡ is_some (as_null self.now) }
     {
-        match &self.place {
-            Place::Tape(tree) => tree.is_null(),
-            Place::Value(tree) => tree.is_null(),
-        }
+        self.first().is_null()
     }
 
     /// Whether this is a number.
@@ -133,10 +120,7 @@ impl<'t, 'a> Tree<'t, 'a> {
     pub fn is_number(&self) -> bool
         ensures { result ≡ is_some (as_number self.now) }
     {
-        match &self.place {
-            Place::Tape(tree) => tree.is_number(),
-            Place::Value(tree) => tree.is_number(),
-        }
+        self.as_number().is_some()
     }
 
     /// Whether this is an array.
@@ -144,10 +128,7 @@ impl<'t, 'a> Tree<'t, 'a> {
     pub fn is_array(&self) -> bool
         ensures { result ≡ is_some (as_array self.now) }
     {
-        match &self.place {
-            Place::Tape(tree) => tree.is_array(),
-            Place::Value(tree) => tree.is_array(),
-        }
+        self.first().is_array()
     }
 
     /// Whether this is an object.
@@ -155,10 +136,7 @@ impl<'t, 'a> Tree<'t, 'a> {
     pub fn is_object(&self) -> bool
         ensures { result ≡ is_some (as_object self.now) }
     {
-        match &self.place {
-            Place::Tape(tree) => tree.is_object(),
-            Place::Value(tree) => tree.is_object(),
-        }
+        self.first().is_object()
     }
 
     /// The items, where this is an array.
@@ -166,9 +144,10 @@ impl<'t, 'a> Tree<'t, 'a> {
     pub fn as_array(&self) -> Option<Items<'t, 'a>>
         ensures { result ≡ as_array self.now }
     {
-        match &self.place {
-            Place::Tape(tree) => Some(Items::of_tape(tree.as_array()?)),
-            Place::Value(tree) => Some(Items::of_value(tree.as_array()?)),
+        if self.is_array() {
+            Some(Items::of_nodes(&self.nodes[1..]))
+        } else {
+            None
         }
     }
 
@@ -177,9 +156,10 @@ impl<'t, 'a> Tree<'t, 'a> {
     pub fn members(&self) -> Option<Members<'t, 'a>>
         ensures { MatchOption result (as_object self.now ≡ None) (λ members. self.now ≡ object (put_all members no_members)) }
     {
-        match &self.place {
-            Place::Tape(tree) => Some(Members::of_tape(tree.members()?)),
-            Place::Value(tree) => Some(Members::of_value(tree.members()?)),
+        if self.is_object() {
+            Some(Members::of_nodes(&self.nodes[1..]))
+        } else {
+            None
         }
     }
 }

@@ -1,0 +1,6 @@
+use Rattle.std.proofs.Common.{◌∙◌}
+use Rattle.json_trees.proofs.Holding.{boolean_told}
+use Rattle.json_trees.proofs.tree.Tree.as_bool.Goals as goal
+
+pub returns : goal.returns
+returns c = c.as_bool.ensures ∙ boolean_told c.first.result.now c.args.self.now c.first.ensures

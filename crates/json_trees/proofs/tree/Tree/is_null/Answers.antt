@@ -1,0 +1,6 @@
+use Rattle.std.proofs.Common.{◌∙◌}
+use Rattle.json_trees.proofs.Holding.{null_told}
+use Rattle.json_trees.proofs.tree.Tree.is_null.Goals as goal
+
+pub returns : goal.returns
+returns c = c.is_null.ensures ∙ null_told c.first.result.now c.args.self.now c.first.ensures
