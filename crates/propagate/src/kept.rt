@@ -3,6 +3,7 @@ ghost use Rattle.std.specs.Prelude.{◌≡◌, IfOk, Some, is_some, not};
 ghost use Rattle.stage_ops.specs.States.{seen_of};
 ghost use Rattle.scratch_eval.specs.Blame.{failure_of};
 ghost use Rattle.propagate.specs.Completions.{differ, returned};
+ghost use Rattle.propagate.specs.KeptStates.{reads_in, start_in, state_in, state_returned, value_in};
 
 use crate::completions::{differ, is_returned};
 use act_expr::{Outcome, Value};
@@ -12,17 +13,119 @@ use std::alloc::{AllocError, Global};
 use std::marker::Model;
 use std::ops::Deref;
 
+/// What a state has read, without the index of the inner stage, which stands apart.
+#[derive(Clone, Copy)]
+enum Reading {
+    Nothing,
+    Sources,
+    Picked,
+}
+
 /// A compact state. The name of an exception is much larger than a number, so it is stored apart.
 #[derive(Drop)]
 enum Form {
     Pending(Reads),
+    /// A value, for which no source is blamed. What tells whether there is a number, whether there is a start, and which feeds were
+    /// read stands here beside the tag of the form, ahead of the numbers: in a [`Value`], an [`Option`] and a [`Reads`] each would have
+    /// eight bytes of its own. So a state takes 32 bytes in place of 56, and a tree's item, with its count, 48 of the heap in place of 80.
     Returned {
-        value: Value,
+        is_number: bool,
+        is_started: bool,
+        reading: Reading,
+        /// The index of the inner stage; nothing depends on it where none was read.
+        index: u32,
+        /// Nothing depends on it where the value is null.
+        number: i64,
         moment: u64,
-        start: Option<u64>,
-        reads: Reads,
+        /// Nothing depends on it where there is no start.
+        start: u64,
     },
     Other(Held<State>),
+}
+
+/// The value of this number, or null.
+#[inline(always)]
+fn value_in(is_number: bool, number: i64) -> Value
+    ensures { result ≡ value_in is_number number }
+{
+    if is_number {
+        Value::Num(number)
+    } else {
+        Value::Null
+    }
+}
+
+/// Whether a value is a number, and which.
+#[inline(always)]
+fn number_of(value: Value) -> (bool, i64)
+    ensures { value_in result.0 result.1 ≡ value }
+{
+    match value {
+        Value::Num(number) => (true, number),
+        Value::Null => (false, 0),
+    }
+}
+
+/// The start at this moment, or none.
+#[inline(always)]
+fn start_in(is_started: bool, start: u64) -> Option<u64>
+    ensures { result ≡ start_in is_started start }
+{
+    if is_started { Some(start) } else { None }
+}
+
+/// Whether there is a start, and at which moment.
+#[inline(always)]
+fn moment_of(start: Option<u64>) -> (bool, u64)
+    ensures { start_in result.0 result.1 ≡ start }
+{
+    match start {
+        Some(start) => (true, start),
+        None => (false, 0),
+    }
+}
+
+/// What was read, with this index of the inner stage.
+#[inline(always)]
+fn reads_in(reading: Reading, index: u32) -> Reads
+    ensures { result ≡ reads_in reading index }
+{
+    match reading {
+        Reading::Nothing => Reads::Nothing,
+        Reading::Sources => Reads::Sources,
+        Reading::Picked => Reads::Picked(index),
+    }
+}
+
+/// What was read, and the index of the inner stage.
+#[inline(always)]
+fn reading_of(reads: Reads) -> (Reading, u32)
+    ensures { reads_in result.0 result.1 ≡ reads }
+{
+    match reads {
+        Reads::Nothing => (Reading::Nothing, 0),
+        Reads::Sources => (Reading::Sources, 0),
+        Reads::Picked(index) => (Reading::Picked, index),
+    }
+}
+
+/// The form of a value, for which no source is blamed.
+#[inline(always)]
+fn returned(value: Value, moment: u64, start: Option<u64>, reads: Reads) -> Form
+    ensures { state_in result ≡ state_returned value moment start reads }
+{
+    let (is_number, number) = number_of(value);
+    let (is_started, start) = moment_of(start);
+    let (reading, index) = reading_of(reads);
+    Form::Returned {
+        is_number,
+        is_started,
+        reading,
+        index,
+        number,
+        moment,
+        start,
+    }
 }
 
 /// A state, as a list stores it. Contracts see the state.
@@ -53,12 +156,7 @@ impl KeptState {
         };
         match (&done.outcome, done.from) {
             (Outcome::Value(value), None) => Ok(KeptState {
-                form: Form::Returned {
-                    value: *value,
-                    moment: done.moment,
-                    start: done.start,
-                    reads: state.reads,
-                },
+                form: returned(*value, done.moment, done.start, state.reads),
             }),
             _ => Ok(KeptState {
                 form: Form::Other(Held::new(alloc, *state)?),
@@ -77,18 +175,21 @@ impl KeptState {
                 reads: *reads,
             },
             Form::Returned {
-                value,
+                is_number,
+                is_started,
+                reading,
+                index,
+                number,
                 moment,
                 start,
-                reads,
             } => State {
                 done: Some(Done {
-                    outcome: Outcome::Value(*value),
+                    outcome: Outcome::Value(value_in(*is_number, *number)),
                     moment: *moment,
                     from: None,
-                    start: *start,
+                    start: start_in(*is_started, *start),
                 }),
-                reads: *reads,
+                reads: reads_in(*reading, *index),
             },
             Form::Other(held) => *held.deref(),
         }
@@ -101,7 +202,7 @@ impl KeptState {
     {
         match &self.form {
             Form::Pending(reads) => *reads,
-            Form::Returned { reads, .. } => *reads,
+            Form::Returned { reading, index, .. } => reads_in(*reading, *index),
             Form::Other(held) => held.deref().reads,
         }
     }
@@ -128,8 +229,24 @@ impl KeptState {
         ensures { result ≡ differ (seen_of self.now) (seen_of after.now) }
     {
         match (&self.form, &after.form) {
-            (Form::Returned { value, moment, .. }, _) => !after.has_returned(*value, *moment),
-            (_, Form::Returned { value, moment, .. }) => !self.has_returned(*value, *moment),
+            (
+                Form::Returned {
+                    is_number,
+                    number,
+                    moment,
+                    ..
+                },
+                _,
+            ) => !after.has_returned(value_in(*is_number, *number), *moment),
+            (
+                _,
+                Form::Returned {
+                    is_number,
+                    number,
+                    moment,
+                    ..
+                },
+            ) => !self.has_returned(value_in(*is_number, *number), *moment),
             (Form::Pending(_), _) => after.has_completed(),
             (_, Form::Pending(_)) => self.has_completed(),
             (Form::Other(before), Form::Other(after)) => differ(before.deref(), after.deref()),
@@ -156,10 +273,11 @@ impl KeptState {
         match &self.form {
             Form::Pending(_) => false,
             Form::Returned {
-                value: own,
+                is_number,
+                number,
                 moment: at,
                 ..
-            } => *own == value && *at == moment,
+            } => value_in(*is_number, *number) == value && *at == moment,
             Form::Other(held) => match &held.deref().done {
                 None => false,
                 Some(done) => is_returned(value, moment, done),
