@@ -1,16 +1,17 @@
 -- Circles of parents, by lines that have all ancestors.
-use Rattle.std.proofs.Common.{◌≡◌, ℕ, suc, zero, inl, inr, ◌++◌, ◌+◌, ◌^◌, List, [], ◌∷◌, map, cond, Option, Some, None, refl, sym, ap, ◌∙◌, arith}
+use Rattle.std.proofs.Common.{◌≡◌, ℕ, suc, zero, inl, inr, ◌++◌, ◌+◌, ◌-◌, ◌≤◌, ◌^◌, List, [], ◌∷◌, map, cond, Bool, true, false, true≢false, Option, Some, None, IsTrue, refl, sym, ap, ◌∙◌, arith, rules}
 use Rattle.std.specs.Prelude.{◌⊎◌, Vec, nat_eq, length, slice_get}
 use Rattle.std.specs.declared.alloc.Global.{Global}
 use Rattle.std.specs.List.{range_with_len}
 use Rattle.std.specs.Option.{option_eq}
 use Rattle.std.proofs.lemmas.Grind.{common_steps}
 use Rattle.std.proofs.lemmas.Option.{none-some, same_Some}
+use Rattle.std.proofs.Math.Pow.{pow_mono}
 use Rattle.trace_family.specs.declared.ancestry.Line.{Line}
 use Rattle.trace_family.specs.declared.moment.Interval.{Interval}
 use Rattle.trace_family.specs.Ancestry.{first_among, line, most_spans, parent_at, parent_without_circles, without_circles}
-use Rattle.trace_family.specs.Lines.{AreLevels, AreLines, is_line_first, line_at, line_of_two, parent_by_lines}
-use Rattle.trace_family.proofs.Lineage.{doubled_lines, no_line}
+use Rattle.trace_family.specs.Lines.{AreLevels, AreLines, HaveAll, after_line, is_line_first, line_at, line_of_two, parent_by_lines}
+use Rattle.trace_family.proofs.Lineage.{after-none_after, doubled_lines, line-none_after, no_line, none_after}
 
 pub power_more : (k : ℕ) → 2 ^ k + 2 ^ k ≡ 2 ^ (k + 1)
 power_more k = grind (arith, common_steps)
@@ -49,6 +50,41 @@ more_levels intervals parents levels all lines k count are next is = λ j other 
   | inl p ↦ are j other p
   | inr q ↦ rw (q.0 ∙ count, q.1) next
 ]
+
+-- what `are_whole` tells
+pub told_whole : (told : Bool) (shown lines : List Line) → told ≡ true → shown ≡ lines → (IsTrue told → (place : ℕ) → (line_at shown place).after ≡ None) → (place : ℕ) → (line_at lines place).after ≡ None
+told_whole false shown lines is same whole place = absurd (true≢false (sym is))
+told_whole true shown lines is same whole place = ap (λ those. (line_at those place).after) (sym same) ∙ whole (search rules) place
+
+-- no span comes after lines that are whole
+none_after_whole : (intervals : List Interval) (parents : List (Option ℕ)) (n : ℕ) (lines : List Line) → AreLines intervals parents n lines → ((place : ℕ) → (line_at lines place).after ≡ None) → (place : ℕ) → after_line parents n (Some place) ≡ None
+none_after_whole intervals parents n lines are whole place = sym (are place).0 ∙ whole place
+
+none_after_all : (intervals : List Interval) (parents : List (Option ℕ)) (n : ℕ) (lines : List Line) → AreLines intervals parents n lines → ((place : ℕ) → (line_at lines place).after ≡ None) → (first : Option ℕ) → after_line parents n first ≡ None
+none_after_all intervals parents n lines are whole None = none_after parents n
+none_after_all intervals parents n lines are whole (Some place) = none_after_whole intervals parents n lines are whole place
+
+power_within : (k : ℕ) → k ≤ 16 → 2 ^ k + (most_spans - 2 ^ k) ≡ most_spans
+power_within k le = let most : 2 ^ k ≤ 2 ^ 16 = pow_mono le in omega arith
+
+-- lines that are whole have all ancestors
+pub whole_have_all : (intervals : List Interval) (parents : List (Option ℕ)) (k : ℕ) (lines : List Line) → k ≤ 16 → AreLines intervals parents (2 ^ k) lines → ((place : ℕ) → (line_at lines place).after ≡ None) → HaveAll parents (2 ^ k)
+whole_have_all intervals parents k lines le are whole = λ first.
+    ap (λ n. line parents n first) (sym (power_within k le))
+    ∙ line-none_after parents (2 ^ k) (most_spans - 2 ^ k) first (none_after_all intervals parents (2 ^ k) lines are whole first)
+
+-- and are those of as many spans as a trace may have
+pub whole_lines : (intervals : List Interval) (parents : List (Option ℕ)) (k : ℕ) (lines : List Line) → k ≤ 16 → AreLines intervals parents (2 ^ k) lines → ((place : ℕ) → (line_at lines place).after ≡ None) → AreLines intervals parents most_spans lines
+whole_lines intervals parents k lines le are whole = λ place. (
+  whole place
+      ∙ sym (after-none_after parents (2 ^ k) (most_spans - 2 ^ k) (Some place) (none_after_whole intervals parents (2 ^ k) lines are whole place))
+      ∙ ap (λ n. after_line parents n (Some place)) (power_within k le),
+  (are place).1 ∙ ap (λ places. first_among intervals places) (sym (whole_have_all intervals parents k lines le are whole (Some place))),
+)
+
+-- lines of 2^16 spans do
+pub power_has_all : (parents : List (Option ℕ)) (k : ℕ) → k ≡ 16 → HaveAll parents (2 ^ k)
+power_has_all parents k e = λ first. ap (λ n. line parents (2 ^ n) first) (sym e)
 
 -- lines that were doubled 16 times have all ancestors
 pub all_lines : (intervals : List Interval) (parents : List (Option ℕ)) (k : ℕ) (lines : List Line) → k ≡ 16 → AreLines intervals parents (2 ^ k) lines → AreLines intervals parents most_spans lines

@@ -10,7 +10,7 @@ use Rattle.std.proofs.lemmas.Option.{slice_get_read}
 use Rattle.trace_family.specs.declared.ancestry.Line.{Line}
 use Rattle.trace_family.specs.declared.moment.Interval.{Interval}
 use Rattle.trace_family.specs.Ancestry.{comes_first, first_among, first_with, host_of, line, most_spans, parent_at, start_at}
-use Rattle.trace_family.specs.Lines.{AreLevels, AreLines, line_at}
+use Rattle.trace_family.specs.Lines.{AreLevels, AreLines, HaveAll, line_at}
 use Rattle.trace_family.proofs.Circling.{power_more}
 use Rattle.trace_family.proofs.Lineage.{is_first, line-add, no_line}
 
@@ -82,73 +82,82 @@ first_reached : (intervals : List Interval) (parents : List (Option ℕ)) (k : �
 first_reached intervals parents k lines s at are = reached intervals s (line parents (2 ^ k) (Some at)) ∙ ap (λ o. is_reached intervals s o) (sym (are at).1)
 
 -- the lines at a level, on the way down
-pub level_at : (intervals : List Interval) (parents : List (Option ℕ)) (levels : List (Vec Line Global)) (passed : ℕ) (lines : Vec Line Global) → length levels ≡ 16 → AreLevels intervals parents levels → passed < 16 → lines ≡ get_or levels (16 - 1 - passed) lines → AreLines intervals parents (2 ^ (16 - (passed + 1))) lines.items
-level_at intervals parents levels passed lines count are lt is =
-    let e : 16 - 1 - passed ≡ 16 - (passed + 1) = omega arith in
-    are (16 - (passed + 1)) lines (slice_get_read levels 16 (16 - (passed + 1)) lines (sym count) (omega arith) (is ∙ ap (λ i. get_or levels i lines) e))
+pub level_at : (intervals : List Interval) (parents : List (Option ℕ)) (levels : List (Vec Line Global)) (passed : ℕ) (lines : Vec Line Global) → AreLevels intervals parents levels → passed < length levels → lines ≡ get_or levels (length levels - 1 - passed) lines → AreLines intervals parents (2 ^ (length levels - (passed + 1))) lines.items
+level_at intervals parents levels passed lines are lt is =
+    let e : length levels - 1 - passed ≡ length levels - (passed + 1) = omega arith in
+    are (length levels - (passed + 1)) lines (slice_get_read levels (length levels) (length levels - (passed + 1)) lines refl (omega arith) (is ∙ ap (λ i. get_or levels i lines) e))
 
 -- what the way down keeps: the host is in the line that begins at a span
-abbrev pub IsHostFrom : List Interval → List (Option ℕ) → ℕ → ℕ → Option ℕ → Type 0
-IsHostFrom intervals parents place passed at = host_of intervals parents place ≡ nearest intervals (start_at intervals place) (line parents (2 ^ (16 - passed)) at)
+abbrev pub IsHostFrom : List Interval → List (Option ℕ) → ℕ → ℕ → ℕ → Option ℕ → Type 0
+IsHostFrom intervals parents place count passed at = host_of intervals parents place ≡ nearest intervals (start_at intervals place) (line parents (2 ^ (count - passed)) at)
 
-more_of : (passed : ℕ) → passed < 16 → 16 - passed ≡ 16 - (passed + 1) + 1
-more_of passed lt = omega arith
+more_of : (count passed : ℕ) → passed < count → count - passed ≡ count - (passed + 1) + 1
+more_of count passed lt = omega arith
 
 -- the first half of the line starts too late
-pub gone_on : (intervals : List Interval) (parents : List (Option ℕ)) (place passed at : ℕ) (lines : List Line) → passed < 16 → AreLines intervals parents (2 ^ (16 - (passed + 1))) lines → start_at intervals place < start_at intervals (line_at lines at).first → IsHostFrom intervals parents place passed (Some at) → IsHostFrom intervals parents place (passed + 1) (line_at lines at).after
-gone_on intervals parents place passed at lines lt are late so_far =
+pub gone_on : (intervals : List Interval) (parents : List (Option ℕ)) (place count passed at : ℕ) (lines : List Line) → passed < count → AreLines intervals parents (2 ^ (count - (passed + 1))) lines → start_at intervals place < start_at intervals (line_at lines at).first → IsHostFrom intervals parents place count passed (Some at) → IsHostFrom intervals parents place count (passed + 1) (line_at lines at).after
+gone_on intervals parents place count passed at lines lt are late so_far =
     so_far
-    ∙ ap (λ n. nearest intervals (start_at intervals place) (line parents (2 ^ n) (Some at))) (more_of passed lt)
-    ∙ halves intervals parents (16 - (passed + 1)) lines (start_at intervals place) at are
-    ∙ skipped _ _ (first_reached intervals parents (16 - (passed + 1)) lines (start_at intervals place) at are ∙ test_false _ _ late)
+    ∙ ap (λ n. nearest intervals (start_at intervals place) (line parents (2 ^ n) (Some at))) (more_of count passed lt)
+    ∙ halves intervals parents (count - (passed + 1)) lines (start_at intervals place) at are
+    ∙ skipped _ _ (first_reached intervals parents (count - (passed + 1)) lines (start_at intervals place) at are ∙ test_false _ _ late)
 
 -- the host is in the first half
-pub stayed_at : (intervals : List Interval) (parents : List (Option ℕ)) (place passed at : ℕ) (lines : List Line) → passed < 16 → AreLines intervals parents (2 ^ (16 - (passed + 1))) lines → start_at intervals (line_at lines at).first ≤ start_at intervals place → IsHostFrom intervals parents place passed (Some at) → IsHostFrom intervals parents place (passed + 1) (Some at)
-stayed_at intervals parents place passed at lines lt are early so_far =
+pub stayed_at : (intervals : List Interval) (parents : List (Option ℕ)) (place count passed at : ℕ) (lines : List Line) → passed < count → AreLines intervals parents (2 ^ (count - (passed + 1))) lines → start_at intervals (line_at lines at).first ≤ start_at intervals place → IsHostFrom intervals parents place count passed (Some at) → IsHostFrom intervals parents place count (passed + 1) (Some at)
+stayed_at intervals parents place count passed at lines lt are early so_far =
     so_far
-    ∙ ap (λ n. nearest intervals (start_at intervals place) (line parents (2 ^ n) (Some at))) (more_of passed lt)
-    ∙ halves intervals parents (16 - (passed + 1)) lines (start_at intervals place) at are
-    ∙ stayed _ _ (first_reached intervals parents (16 - (passed + 1)) lines (start_at intervals place) at are ∙ test_true _ _ early)
+    ∙ ap (λ n. nearest intervals (start_at intervals place) (line parents (2 ^ n) (Some at))) (more_of count passed lt)
+    ∙ halves intervals parents (count - (passed + 1)) lines (start_at intervals place) at are
+    ∙ stayed _ _ (first_reached intervals parents (count - (passed + 1)) lines (start_at intervals place) at are ∙ test_true _ _ early)
 
 -- a line that has no span has no host
-pub no_host : (intervals : List Interval) (parents : List (Option ℕ)) (place passed : ℕ) → IsHostFrom intervals parents place passed None → host_of intervals parents place ≡ None
-no_host intervals parents place passed h = h ∙ ap (λ places. nearest intervals (start_at intervals place) places) (no_line parents (2 ^ (16 - passed)))
+pub no_host : (intervals : List Interval) (parents : List (Option ℕ)) (place count passed : ℕ) → IsHostFrom intervals parents place count passed None → host_of intervals parents place ≡ None
+no_host intervals parents place count passed h = h ∙ ap (λ places. nearest intervals (start_at intervals place) places) (no_line parents (2 ^ (count - passed)))
+
+none_left : (count passed : ℕ) → passed ≡ count → count - passed ≡ 0
+none_left count passed e = omega arith
 
 -- a line of one span has it, if it starts no later
-pub host_here : (intervals : List Interval) (parents : List (Option ℕ)) (place passed at : ℕ) → passed ≡ 16 → IsHostFrom intervals parents place passed (Some at) → host_of intervals parents place ≡ cond (nat_le (start_at intervals at) (start_at intervals place)) (Some at) None
+pub host_here : (intervals : List Interval) (parents : List (Option ℕ)) (place count passed at : ℕ) → passed ≡ count → IsHostFrom intervals parents place count passed (Some at) → host_of intervals parents place ≡ cond (nat_le (start_at intervals at) (start_at intervals place)) (Some at) None
 unfolding line
-host_here intervals parents place passed at e h = h ∙ ap (λ n. nearest intervals (start_at intervals place) (line parents (2 ^ (16 - n)) (Some at))) e
+host_here intervals parents place count passed at e h = h ∙ ap (λ n. nearest intervals (start_at intervals place) (line parents (2 ^ n) (Some at))) (none_left count passed e)
+
+none_passed : (count : ℕ) → count ≡ count - 0
+none_passed count = omega arith
 
 -- the first ancestor
-pub begun : (intervals : List Interval) (parents : List (Option ℕ)) (place : ℕ) (parent : Option ℕ) → parent ≡ parent_at parents place → IsHostFrom intervals parents place 0 parent
-begun intervals parents place parent e = ap (λ o. nearest intervals (start_at intervals place) (line parents most_spans o)) (sym e)
+pub begun : (intervals : List Interval) (parents : List (Option ℕ)) (place count : ℕ) (parent : Option ℕ) → HaveAll parents (2 ^ count) → parent ≡ parent_at parents place → IsHostFrom intervals parents place count 0 parent
+begun intervals parents place count parent all e =
+    ap (λ o. nearest intervals (start_at intervals place) (line parents most_spans o)) (sym e)
+    ∙ ap (λ places. nearest intervals (start_at intervals place) places) (all parent)
+    ∙ ap (λ n. nearest intervals (start_at intervals place) (line parents (2 ^ n) parent)) (none_passed count)
 
-later : (intervals : List Interval) (parents : List (Option ℕ)) (place passed at s t : ℕ) (here : Line) (lines : List Line) → passed < 16 → AreLines intervals parents (2 ^ (16 - (passed + 1))) lines → here ≡ line_at lines at → s ≡ start_at intervals place → t ≡ start_at intervals here.first → s < t → IsHostFrom intervals parents place passed (Some at) → IsHostFrom intervals parents place (passed + 1) here.after
-later intervals parents place passed at s t here lines lt are is s_is t_is late so_far =
+later : (intervals : List Interval) (parents : List (Option ℕ)) (place count passed at s t : ℕ) (here : Line) (lines : List Line) → passed < count → AreLines intervals parents (2 ^ (count - (passed + 1))) lines → here ≡ line_at lines at → s ≡ start_at intervals place → t ≡ start_at intervals here.first → s < t → IsHostFrom intervals parents place count passed (Some at) → IsHostFrom intervals parents place count (passed + 1) here.after
+later intervals parents place count passed at s t here lines lt are is s_is t_is late so_far =
     let t_at : t ≡ start_at intervals (line_at lines at).first = t_is ∙ ap (λ l. start_at intervals l.first) is in
-    gone_on intervals parents place passed at lines lt are (omega arith) so_far ∙ ap (λ l. nearest intervals (start_at intervals place) (line parents (2 ^ (16 - (passed + 1))) l.after)) (sym is)
+    gone_on intervals parents place count passed at lines lt are (omega arith) so_far ∙ ap (λ l. nearest intervals (start_at intervals place) (line parents (2 ^ (count - (passed + 1))) l.after)) (sym is)
 
 -- the way goes on after the line
-pub gone_to : (intervals : List Interval) (parents : List (Option ℕ)) (place passed at s t next : ℕ) (here : Line) (lines : List Line) → passed < 16 → AreLines intervals parents (2 ^ (16 - (passed + 1))) lines → here ≡ line_at lines at → s ≡ start_at intervals place → t ≡ start_at intervals here.first → s < t → here.after ≡ Some next → IsHostFrom intervals parents place passed (Some at) → IsHostFrom intervals parents place (passed + 1) (Some next)
-gone_to intervals parents place passed at s t next here lines lt are is s_is t_is late after so_far =
-    later intervals parents place passed at s t here lines lt are is s_is t_is late so_far ∙ ap (λ o. nearest intervals (start_at intervals place) (line parents (2 ^ (16 - (passed + 1))) o)) after
+pub gone_to : (intervals : List Interval) (parents : List (Option ℕ)) (place count passed at s t next : ℕ) (here : Line) (lines : List Line) → passed < count → AreLines intervals parents (2 ^ (count - (passed + 1))) lines → here ≡ line_at lines at → s ≡ start_at intervals place → t ≡ start_at intervals here.first → s < t → here.after ≡ Some next → IsHostFrom intervals parents place count passed (Some at) → IsHostFrom intervals parents place count (passed + 1) (Some next)
+gone_to intervals parents place count passed at s t next here lines lt are is s_is t_is late after so_far =
+    later intervals parents place count passed at s t here lines lt are is s_is t_is late so_far ∙ ap (λ o. nearest intervals (start_at intervals place) (line parents (2 ^ (count - (passed + 1))) o)) after
 
 -- nothing is after the line
-pub gone_out : (intervals : List Interval) (parents : List (Option ℕ)) (place passed at s t : ℕ) (here : Line) (lines : List Line) → passed < 16 → AreLines intervals parents (2 ^ (16 - (passed + 1))) lines → here ≡ line_at lines at → s ≡ start_at intervals place → t ≡ start_at intervals here.first → s < t → here.after ≡ None → IsHostFrom intervals parents place passed (Some at) → None ≡ host_of intervals parents place
-gone_out intervals parents place passed at s t here lines lt are is s_is t_is late after so_far =
-    sym (no_host intervals parents place (passed + 1) (later intervals parents place passed at s t here lines lt are is s_is t_is late so_far ∙ ap (λ o. nearest intervals (start_at intervals place) (line parents (2 ^ (16 - (passed + 1))) o)) after))
+pub gone_out : (intervals : List Interval) (parents : List (Option ℕ)) (place count passed at s t : ℕ) (here : Line) (lines : List Line) → passed < count → AreLines intervals parents (2 ^ (count - (passed + 1))) lines → here ≡ line_at lines at → s ≡ start_at intervals place → t ≡ start_at intervals here.first → s < t → here.after ≡ None → IsHostFrom intervals parents place count passed (Some at) → None ≡ host_of intervals parents place
+gone_out intervals parents place count passed at s t here lines lt are is s_is t_is late after so_far =
+    sym (no_host intervals parents place count (passed + 1) (later intervals parents place count passed at s t here lines lt are is s_is t_is late so_far ∙ ap (λ o. nearest intervals (start_at intervals place) (line parents (2 ^ (count - (passed + 1))) o)) after))
 
 -- the way stays
-pub stayed_here : (intervals : List Interval) (parents : List (Option ℕ)) (place passed at s t : ℕ) (here : Line) (lines : List Line) → passed < 16 → AreLines intervals parents (2 ^ (16 - (passed + 1))) lines → here ≡ line_at lines at → s ≡ start_at intervals place → t ≡ start_at intervals here.first → t ≤ s → IsHostFrom intervals parents place passed (Some at) → IsHostFrom intervals parents place (passed + 1) (Some at)
-stayed_here intervals parents place passed at s t here lines lt are is s_is t_is early so_far =
+pub stayed_here : (intervals : List Interval) (parents : List (Option ℕ)) (place count passed at s t : ℕ) (here : Line) (lines : List Line) → passed < count → AreLines intervals parents (2 ^ (count - (passed + 1))) lines → here ≡ line_at lines at → s ≡ start_at intervals place → t ≡ start_at intervals here.first → t ≤ s → IsHostFrom intervals parents place count passed (Some at) → IsHostFrom intervals parents place count (passed + 1) (Some at)
+stayed_here intervals parents place count passed at s t here lines lt are is s_is t_is early so_far =
     let t_at : t ≡ start_at intervals (line_at lines at).first = t_is ∙ ap (λ l. start_at intervals l.first) is in
-    stayed_at intervals parents place passed at lines lt are (omega arith) so_far
+    stayed_at intervals parents place count passed at lines lt are (omega arith) so_far
 
 -- the end of the way
-pub found_host : (intervals : List Interval) (parents : List (Option ℕ)) (place passed at s t : ℕ) → passed ≡ 16 → IsHostFrom intervals parents place passed (Some at) → s ≡ start_at intervals place → t ≡ start_at intervals at → t ≤ s → Some at ≡ host_of intervals parents place
-found_host intervals parents place passed at s t e h s_is t_is le =
-    sym (host_here intervals parents place passed at e h ∙ ap (λ b. cond b (Some at) None) (test_true (start_at intervals at) (start_at intervals place) (omega arith)))
+pub found_host : (intervals : List Interval) (parents : List (Option ℕ)) (place count passed at s t : ℕ) → passed ≡ count → IsHostFrom intervals parents place count passed (Some at) → s ≡ start_at intervals place → t ≡ start_at intervals at → t ≤ s → Some at ≡ host_of intervals parents place
+found_host intervals parents place count passed at s t e h s_is t_is le =
+    sym (host_here intervals parents place count passed at e h ∙ ap (λ b. cond b (Some at) None) (test_true (start_at intervals at) (start_at intervals place) (omega arith)))
 
-pub missed_host : (intervals : List Interval) (parents : List (Option ℕ)) (place passed at s t : ℕ) → passed ≡ 16 → IsHostFrom intervals parents place passed (Some at) → s ≡ start_at intervals place → t ≡ start_at intervals at → s < t → None ≡ host_of intervals parents place
-missed_host intervals parents place passed at s t e h s_is t_is lt =
-    sym (host_here intervals parents place passed at e h ∙ ap (λ b. cond b (Some at) None) (test_false (start_at intervals at) (start_at intervals place) (omega arith)))
+pub missed_host : (intervals : List Interval) (parents : List (Option ℕ)) (place count passed at s t : ℕ) → passed ≡ count → IsHostFrom intervals parents place count passed (Some at) → s ≡ start_at intervals place → t ≡ start_at intervals at → s < t → None ≡ host_of intervals parents place
+missed_host intervals parents place count passed at s t e h s_is t_is lt =
+    sym (host_here intervals parents place count passed at e h ∙ ap (λ b. cond b (Some at) None) (test_false (start_at intervals at) (start_at intervals place) (omega arith)))

@@ -18,7 +18,7 @@ first_on a b c x y z p q = grind (arith, nat_tests)
 first_over : (a b c x y z : ℕ) → is_first c a z x ≡ true → is_first b a y x ≡ false → is_first c b z y ≡ true
 first_over a b c x y z p q = grind (arith, nat_tests)
 
-none_after : (parents : List (Option ℕ)) (n : ℕ) → after_line parents n None ≡ None
+pub none_after : (parents : List (Option ℕ)) (n : ℕ) → after_line parents n None ≡ None
 unfolding after_line
 none_after parents zero = refl
 none_after parents (suc n) = refl
@@ -42,6 +42,18 @@ unfolding after_line line
 line-add parents zero n first = ap (λ k. line parents k first) (zero-add n)
 line-add parents (suc m) n None = no_line parents (suc m + n) ∙ sym (no_line parents n)
 line-add parents (suc m) n (Some place) = ap (λ k. line parents k (Some place)) (suc_sum m n) ∙ ap (λ others. place ∷ others) (line-add parents m n (parent_at parents place))
+
+-- where a line has all ancestors, a longer one has no more
+pub line-none_after : (parents : List (Option ℕ)) (m n : ℕ) (first : Option ℕ) → after_line parents m first ≡ None → line parents (m + n) first ≡ line parents m first
+line-none_after parents m n first e =
+    line-add parents m n first
+    ∙ ap (λ o. line parents m first ++ line parents n o) e
+    ∙ ap (λ others. line parents m first ++ others) (no_line parents n)
+    ∙ append-nil (line parents m first)
+
+-- nor does anything come after that
+pub after-none_after : (parents : List (Option ℕ)) (m n : ℕ) (first : Option ℕ) → after_line parents m first ≡ None → after_line parents (m + n) first ≡ None
+after-none_after parents m n first e = after-add parents m n first ∙ ap (λ o. after_line parents n o) e ∙ none_after parents n
 
 comes_first_on : (intervals : List Interval) (x y z : ℕ) → comes_first intervals x y ≡ true → comes_first intervals y z ≡ true → comes_first intervals x z ≡ true
 comes_first_on intervals x y z = first_on (start_at intervals x) (start_at intervals y) (start_at intervals z) x y z

@@ -4,6 +4,7 @@ pub mod FaultNumbers
 pub mod FaultTexts
 pub mod Hosts
 pub mod Lines
+pub mod MeantPlaces
 pub mod MetPlaces
 pub mod Moments
 pub mod Parents

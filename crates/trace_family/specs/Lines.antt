@@ -3,7 +3,7 @@ use Rattle.std.specs.Prelude.{◌≡◌, ℕ, suc, zero, ◌^◌, ◌==◌, List
 use Rattle.std.specs.declared.alloc.Global.{Global}
 use Rattle.trace_family.specs.declared.ancestry.Line.{Line}
 use Rattle.trace_family.specs.declared.moment.Interval.{Interval}
-use Rattle.trace_family.specs.Ancestry.{first_among, first_of, line, parent_at}
+use Rattle.trace_family.specs.Ancestry.{first_among, first_of, line, most_spans, parent_at}
 
 -- the line that begins with the span at a place
 abbrev pub line_at : List Line → ℕ → Line
@@ -34,6 +34,10 @@ AreLines intervals parents n lines =
 -- lines of 1, 2, 4, 8 .. spans
 abbrev pub AreLevels : List Interval → List (Option ℕ) → List (Vec Line Global) → Type 0
 AreLevels intervals parents levels = (k : ℕ) (lines : Vec Line Global) → slice_get levels k ≡ Some lines → AreLines intervals parents (2 ^ k) lines.items
+
+-- lines of so many spans have all ancestors
+abbrev pub HaveAll : List (Option ℕ) → ℕ → Type 0
+HaveAll parents n = (first : Option ℕ) → line parents most_spans first ≡ line parents n first
 
 abbrev pub is_line_first : List Line → Option ℕ → ℕ → Bool
 is_line_first lines None place = false

@@ -94,7 +94,10 @@ pub(crate) fn lines_of_one(
 }
 
 /// Whether each line has all ancestors, so that no span comes after it.
-fn are_whole(lines: &[Line]) -> bool
+///
+/// Few traces have more than some generations: whoever doubles lines is done where they are whole, and needs no longer
+/// ones.
+pub(crate) fn are_whole(lines: &[Line]) -> bool
     ensures { IsTrue result → (place : ℕ) → (line_at lines.now place).after ≡ None }
 {
     for place in 0..lines.len() {
@@ -106,8 +109,6 @@ fn are_whole(lines: &[Line]) -> bool
 }
 
 /// The lines of twice as many spans.
-///
-/// Few traces have more than some generations: lines that have all ancestors are those of twice as many spans too.
 pub(crate) fn doubled(
     alloc: Global,
     intervals: &[Interval],
@@ -115,26 +116,9 @@ pub(crate) fn doubled(
 ) -> Result<Vec<Line>, AllocError>
     ensures { IfOk result (λ more. (place : ℕ) → line_at more.items place ≡ line_of_two intervals.now lines.now place) }
 {
-    if are_whole(lines) {
-        return Vec::from_slice(alloc, lines);
-    }
     let mut more = Vec::with_capacity(alloc, lines.len())?;
     for place in 0..lines.len() {
         more.push(line_of_two(intervals, lines, place))?;
     }
     Ok(more)
-}
-
-/// The lines of twice as many spans in place of lines, which stay where they have all ancestors.
-pub(crate) fn twice_as_long(
-    alloc: Global,
-    intervals: &[Interval],
-    lines: Vec<Line>,
-) -> Result<Vec<Line>, AllocError>
-    ensures { IfOk result (λ more. (place : ℕ) → line_at more.items place ≡ line_of_two intervals.now lines.items place) }
-{
-    if are_whole(&lines) {
-        return Ok(lines);
-    }
-    doubled(alloc, intervals, &lines)
 }

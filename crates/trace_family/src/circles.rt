@@ -4,11 +4,11 @@ ghost use Rattle.std.specs.List.{range_with_len};
 ghost use Rattle.trace_family.specs.Ancestry.{most_spans, without_circles};
 ghost use Rattle.trace_family.specs.Lines.{AreLines, is_line_first, parent_by_lines};
 
-use crate::ancestry::{Line, line_at, lines_of_one, parent_at, twice_as_long};
+use crate::ancestry::{Line, are_whole, doubled, line_at, lines_of_one, parent_at};
 use crate::moment::Interval;
 use std::alloc::{AllocError, Global};
 
-/// How often lines of one span are doubled until they have as many as a trace may have.
+/// How often lines of one span are doubled at most: then they have as many as a trace may have.
 const DOUBLINGS: u32 = 16;
 
 /// The lines that have all ancestors.
@@ -21,7 +21,10 @@ fn longest_lines(
 {
     let mut lines = lines_of_one(alloc, parents)?;
     for _power in 0..DOUBLINGS {
-        let more = twice_as_long(alloc, intervals, lines)?;
+        if are_whole(&lines) {
+            return Ok(lines);
+        }
+        let more = doubled(alloc, intervals, &lines)?;
         lines = more;
     }
     Ok(lines)

@@ -1,14 +1,14 @@
 //! Hosts: the span in which or after which a span starts.
-ghost use Rattle.std.specs.Prelude.{◌≡◌, length, IfOk};
+ghost use Rattle.std.specs.Prelude.{◌≡◌, ◌≤◌, ◌^◌, length, IfOk};
 ghost use Rattle.trace_family.specs.Ancestry.{host_of};
 ghost use Rattle.trace_family.specs.Hosts.{host_at, hosts_of};
-ghost use Rattle.trace_family.specs.Lines.{AreLevels};
+ghost use Rattle.trace_family.specs.Lines.{AreLevels, HaveAll};
 
-use crate::ancestry::{Line, doubled, line_at, lines_of_one, parent_at};
+use crate::ancestry::{Line, are_whole, doubled, line_at, lines_of_one, parent_at};
 use crate::moment::{Interval, interval_at};
 use std::alloc::{AllocError, Global};
 
-/// Of how many lengths lines are kept: 1, 2, 4 and so on.
+/// Of how many lengths lines are kept at most: 1, 2, 4 and so on.
 const LEVELS: usize = 16;
 
 /// Where a span starts.
@@ -20,17 +20,23 @@ pub enum Host {
     After(usize),
 }
 
-/// The lines of 1, 2, 4 .. spans.
+/// The lines of 1, 2, 4 .. spans, as long as some of them don't have all ancestors.
+///
+/// The next lines have all: no longer ones are needed. So a trace of few generations has few levels, where each is a list
+/// as long as the trace.
 fn levels_of(
     alloc: Global,
     intervals: &[Interval],
     parents: &[Option<usize>],
 ) -> Result<Vec<Vec<Line>>, AllocError>
-    ensures { IfOk result (λ levels. (length levels.items ≡ 16) × AreLevels intervals.now parents.now levels.items) }
+    ensures { IfOk result (λ levels. (length levels.items ≤ 16) × AreLevels intervals.now parents.now levels.items × HaveAll parents.now (2 ^ length levels.items)) }
 {
     let mut levels = Vec::with_capacity(alloc, LEVELS)?;
     let mut lines = lines_of_one(alloc, parents)?;
     for _power in 0..LEVELS {
+        if are_whole(&lines) {
+            return Ok(levels);
+        }
         let more = doubled(alloc, intervals, &lines)?;
         levels.push(lines)?;
         lines = more;
@@ -45,16 +51,16 @@ fn host_above(
     parents: &[Option<usize>],
     place: usize,
 ) -> Option<usize>
-    requires count { length levels.now ≡ 16 }
     requires lines { AreLevels intervals.now parents.now levels.now }
+    requires all { HaveAll parents.now (2 ^ length levels.now) }
     ensures { result ≡ host_of intervals.now parents.now place }
 {
     let start = interval_at(intervals, place).start;
     let Some(mut at) = parent_at(parents, place) else {
         return None;
     };
-    for passed in 0..LEVELS {
-        let line = line_at(&levels[LEVELS - 1 - passed], at);
+    for passed in 0..levels.len() {
+        let line = line_at(&levels[levels.len() - 1 - passed], at);
         if start < interval_at(intervals, line.first).start {
             let Some(next) = line.after else {
                 return None;

@@ -1,5 +1,6 @@
 //! Which spans the references of spans mean.
 ghost use Rattle.std.specs.Prelude.{◌≡◌, ℕ, List, [], ◌∷◌, IfOk, OnOk, slice_get};
+ghost use Rattle.trace_family.specs.MeantPlaces.{places_in};
 ghost use Rattle.trace_family.specs.MetPlaces.{HasMet};
 ghost use Rattle.trace_family.specs.Parents.{IsPlacing, all_references, other_place, references_of, references_of_parents, with_meant};
 ghost use Rattle.trace_spans.specs.declared.span.Span.{Span};
@@ -11,21 +12,42 @@ use std::collections::HashMap;
 use std::marker::Model;
 use trace_spans::{Span, Text, TextList};
 
+/// The other spans that are meant. Mostly it is one, the parent: that is kept in the value itself, so that no memory is
+/// asked for.
+#[derive(Drop)]
+enum Meant {
+    One([usize; 1]),
+    Several(Vec<usize>),
+}
+
+impl Meant {
+    /// The places, in order.
+    fn as_slice(&self) -> &[usize]
+        ensures { result.now ≡ places_in self.now }
+    {
+        match self {
+            Meant::One(places) => places,
+            Meant::Several(places) => places.as_slice(),
+        }
+    }
+}
+
 /// What the references of a span mean: other spans of the trace, each once.
 #[derive(Drop)]
 pub struct References {
     /// The first is the parent, the others are links.
-    meant: Vec<usize>,
+    meant: Meant,
     /// Whether the parent is named as one, and isn't a link.
     is_named: bool,
 }
 
 impl Model for References {
     ghost use Rattle.std.specs.Prelude.{ℕ, List, Bool};
+    ghost use Rattle.trace_family.specs.MeantPlaces.{places_in};
 
     ghost Value = { List ℕ × Bool };
 
-    ghost view = { λ references. (references.meant.items, references.is_named) };
+    ghost view = { λ references. (places_in references.meant, references.is_named) };
 }
 
 impl References {
@@ -33,7 +55,7 @@ impl References {
     pub fn parent(&self) -> Option<usize>
         ensures { result ≡ slice_get self.now.0 0 }
     {
-        self.meant.first().copied()
+        self.meant.as_slice().first().copied()
     }
 
     /// Whether the parent is named as one.
@@ -82,21 +104,19 @@ fn references_of_one(
     places: &HashMap<String, usize>,
     place: usize,
     parent: &Text,
-) -> Result<References, AllocError>
-    ensures { (spans : List Span) → IsPlacing places.now spans → IfOk result (λ references. references ≡ references_of_parents spans place (parent.now ∷ [])) }
+) -> References
+    ensures { (spans : List Span) → IsPlacing places.now spans → result ≡ references_of_parents spans place (parent.now ∷ []) }
 {
-    let Some(other) = other_place(places, place, parent) else {
-        return Ok(References {
-            meant: Vec::new(alloc),
+    match other_place(places, place, parent) {
+        Some(other) => References {
+            meant: Meant::One([other]),
+            is_named: true,
+        },
+        None => References {
+            meant: Meant::Several(Vec::new(alloc)),
             is_named: false,
-        });
-    };
-    let mut meant = Vec::with_capacity(alloc, 1)?;
-    meant.push(other)?;
-    Ok(References {
-        meant,
-        is_named: true,
-    })
+        },
+    }
 }
 
 /// What the references of the span at a place mean that has several.
@@ -113,7 +133,7 @@ fn references_of_some(
     let is_named = !is_none_met(&met);
     meet_meant(places, place, &mut met, &span.links)?;
     Ok(References {
-        meant: places_met(met),
+        meant: Meant::Several(places_met(met)),
         is_named,
     })
 }
@@ -130,7 +150,7 @@ fn references_of(
     ensures { (spans : List Span) → IsPlacing places.now spans → IfOk result (λ references. references ≡ references_of spans place span.now) }
 {
     match (span.parents.as_slice(), span.links.as_slice()) {
-        ([parent], []) => references_of_one(alloc, places, place, parent),
+        ([parent], []) => Ok(references_of_one(alloc, places, place, parent)),
         _ => references_of_some(alloc, places, place, span),
     }
 }
