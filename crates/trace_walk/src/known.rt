@@ -17,15 +17,14 @@ pub(crate) fn none_known(alloc: Global) -> HashSet<usize>
 const SMALL_ROOM: usize = 16;
 
 /// No span is known any more; a small table is used again.
-pub(crate) fn forget(alloc: Global, known: HashSet<usize>) -> HashSet<usize>
-    ensures { Knows result [] }
+pub(crate) fn forget(alloc: Global, known: &mut HashSet<usize>)
+    ensures { Knows known.new [] }
 {
     if known.capacity() > SMALL_ROOM {
-        return HashSet::new(alloc);
+        *known = HashSet::new(alloc);
+    } else {
+        known.clear();
     }
-    let mut known = known;
-    known.clear();
-    known
 }
 
 /// Whether a span is known.

@@ -1,5 +1,5 @@
 //! The walk through a span by its events.
-ghost use Rattle.std.specs.Prelude.{◌≡◌, ◌≢◌, ℕ, ◌++◌, [], ◌∷◌, IfOk, if◌then◌else◌, map, true};
+ghost use Rattle.std.specs.Prelude.{◌≡◌, ◌≢◌, ℕ, ◌++◌, [], ◌∷◌, IfOk, OnOk, if◌then◌else◌, map, true};
 ghost use Rattle.trace_walk.specs.declared.stage.StageId.TheVariants.{Whole};
 ghost use Rattle.trace_walk.specs.Walk.{Holds, PlainHolding, after, begun_by, ended_by, looked, opening, walked};
 
@@ -9,6 +9,7 @@ use crate::joins::{Joined, JoinsOf, join_all};
 use crate::known::{forget, knows, learn, none_known};
 use crate::stage::StageId;
 use std::alloc::{AllocError, Global};
+use std::mem;
 
 /// What a span has first.
 fn opening(alloc: Global, span: usize) -> Holding
@@ -44,115 +45,102 @@ fn sources_of(
 }
 
 /// What a span has now where only one has ended since the last look, which began from what the span had: the end of it.
-fn look_at_one(alloc: Global, holding: Holding, only: usize) -> Holding
-    requires one { holding.ended.items ≡ only ∷ [] }
-    requires used { holding.is_used ≡ true }
-    ensures { (span : ℕ) (plain : PlainHolding) → Holds holding plain → Holds result (looked span plain) }
+fn look_at_one(alloc: Global, holding: &mut Holding, only: usize)
+    requires one { holding.old.ended.items ≡ only ∷ [] }
+    requires used { holding.old.is_used ≡ true }
+    ensures { (span : ℕ) (plain : PlainHolding) → Holds holding.old plain → Holds holding.new (looked span plain) }
 {
-    let Holding {
-        has: _,
-        mut ended,
-        begun,
-        is_used: _,
-        joins,
-        begins,
-    } = holding;
-    ended.clear();
-    Holding {
-        has: StageId::Whole(only),
-        ended,
-        begun: forget(alloc, begun),
-        is_used: false,
-        joins,
-        begins,
-    }
+    holding.has = StageId::Whole(only);
+    holding.ended.clear();
+    forget(alloc, &mut holding.begun);
+    holding.is_used = false;
 }
 
 /// What a span has now where spans have ended since the last look.
-fn look_at_some(alloc: Global, span: usize, holding: Holding) -> Result<Holding, AllocError>
-    requires { holding.ended.items ≢ [] }
-    ensures { (plain : PlainHolding) → Holds holding plain → IfOk result (λ now. Holds now (looked span plain)) }
+fn look_at_some(alloc: Global, span: usize, holding: &mut Holding) -> Result<(), AllocError>
+    requires { holding.old.ended.items ≢ [] }
+    ensures { (plain : PlainHolding) → Holds holding.old plain → OnOk result (Holds holding.new (looked span plain)) }
 {
-    let Holding {
-        has,
-        mut ended,
-        begun,
-        is_used,
-        joins,
-        begins,
-    } = holding;
-    let sources = sources_of(alloc, has, is_used, &ended)?;
-    let Joined { joins, stage } = join_all(alloc, JoinsOf::Holding(span), joins, &sources)?;
-    ended.clear();
-    Ok(Holding {
-        has: stage.unwrap_or(has),
-        ended,
-        begun: forget(alloc, begun),
-        is_used: false,
-        joins,
-        begins,
-    })
+    let sources = sources_of(alloc, holding.has, holding.is_used, &holding.ended)?;
+    let before = mem::replace(&mut holding.joins, Vec::new(alloc));
+    let Joined { joins, stage } = join_all(alloc, JoinsOf::Holding(span), before, &sources)?;
+    holding.has = stage.unwrap_or(holding.has);
+    holding.ended.clear();
+    forget(alloc, &mut holding.begun);
+    holding.is_used = false;
+    holding.joins = joins;
+    Ok(())
 }
 
-/// What a span has now: where spans have ended since the last look, it has these.
+/// What a span has now, in the place of what it had: where spans have ended since the last look, it has these.
 ///
 /// Where calls come one after another, one has ended that began from what the span had: nothing is gathered for it.
-pub fn look(alloc: Global, span: usize, holding: Holding) -> Result<Holding, AllocError>
-    ensures { (plain : PlainHolding) → Holds holding plain → IfOk result (λ now. Holds now (looked span plain)) }
+fn look_again(alloc: Global, span: usize, holding: &mut Holding) -> Result<(), AllocError>
+    ensures { (plain : PlainHolding) → Holds holding.old plain → OnOk result (Holds holding.new (looked span plain)) }
 {
     match holding.ended.as_slice() {
-        [] => Ok(holding),
+        [] => Ok(()),
         [only] if holding.is_used => {
             let only = *only;
-            Ok(look_at_one(alloc, holding, only))
+            look_at_one(alloc, holding, only);
+            Ok(())
         }
         _ => look_at_some(alloc, span, holding),
     }
 }
 
-/// A span starts: it begins from what is there.
-fn begin(holding: Holding, place: usize) -> Result<Holding, AllocError>
-    ensures { (plain : PlainHolding) → Holds holding plain → IfOk result (λ now. Holds now (begun_by place plain)) }
+/// What a span has now: where spans have ended since the last look, it has these.
+pub fn look(alloc: Global, span: usize, holding: Holding) -> Result<Holding, AllocError>
+    ensures { (plain : PlainHolding) → Holds holding plain → IfOk result (λ now. Holds now (looked span plain)) }
 {
     let mut holding = holding;
-    learn(&mut holding.begun, place)?;
-    holding.begins.push(Begin {
-        span: place,
-        from: holding.has,
-    })?;
+    look_again(alloc, span, &mut holding)?;
     Ok(holding)
 }
 
-/// What is waited for ends.
-fn end(holding: Holding, place: usize) -> Result<Holding, AllocError>
-    ensures { (plain : PlainHolding) → Holds holding plain → IfOk result (λ now. Holds now (ended_by place plain)) }
+/// A span starts: it begins from what is there.
+fn begin(holding: &mut Holding, place: usize) -> Result<(), AllocError>
+    ensures { (plain : PlainHolding) → Holds holding.old plain → OnOk result (Holds holding.new (begun_by place plain)) }
 {
-    let mut holding = holding;
+    learn(&mut holding.begun, place)?;
+    let from = holding.has;
+    holding.begins.push(Begin { span: place, from })?;
+    Ok(())
+}
+
+/// What is waited for ends.
+fn end(holding: &mut Holding, place: usize) -> Result<(), AllocError>
+    ensures { (plain : PlainHolding) → Holds holding.old plain → OnOk result (Holds holding.new (ended_by place plain)) }
+{
     if knows(&holding.begun, place) {
         holding.is_used = true;
     }
     holding.ended.push(place)?;
-    Ok(holding)
+    Ok(())
 }
 
 /// What a span has after an event.
-fn after(alloc: Global, span: usize, holding: Holding, event: Event) -> Result<Holding, AllocError>
-    ensures { (plain : PlainHolding) → Holds holding plain → IfOk result (λ now. Holds now (after span plain event)) }
+fn after(alloc: Global, span: usize, holding: &mut Holding, event: Event) -> Result<(), AllocError>
+    ensures { (plain : PlainHolding) → Holds holding.old plain → OnOk result (Holds holding.new (after span plain event)) }
 {
     match event {
-        Event::Starts(place) => begin(look(alloc, span, holding)?, place),
+        Event::Starts(place) => {
+            look_again(alloc, span, holding)?;
+            begin(holding, place)
+        }
         Event::Ends(place) => end(holding, place),
     }
 }
 
 /// What a span has after its events, in their order.
+///
+/// It is changed in its place: an event changes little of it, and it is too large to be handed on at each.
 pub fn walk(alloc: Global, span: usize, events: &[Event]) -> Result<Holding, AllocError>
     ensures { IfOk result (λ holding. Holds holding (walked span events.now)) }
 {
     let mut holding = opening(alloc, span);
     for event in events {
-        let next = after(alloc, span, holding, *event)?;
-        holding = next;
+        after(alloc, span, &mut holding, *event)?;
     }
     Ok(holding)
 }

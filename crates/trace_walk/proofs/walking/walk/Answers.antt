@@ -6,6 +6,6 @@ use Rattle.trace_walk.proofs.walking.walk.Goals as goal
 
 pub loop-event-preserved : goal.loop-event-preserved
 loop-event-preserved c =
-    let P : PlainHolding → Type 0 = λ plain. Holds c.in_ok-next.next plain in
+    let P : PlainHolding → Type 0 = λ plain. Holds c.after.new.holding plain in
     subst P (sym (walked_more c.args.span c.args.events.now c.loop-event.event-index (Starts 0) (omega arith)))
-    (c.in_ok-next.ensures (walked c.args.span (take c.loop-event.event-index c.args.events.now)) c.loop-event.invariant)
+    (c.in_ok-after.ensures (walked c.args.span (take c.loop-event.event-index c.args.events.now)) c.loop-event.invariant)
