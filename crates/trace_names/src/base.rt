@@ -12,15 +12,22 @@ const MOST_OF_SERVICE: usize = 20;
 /// The most characters of a service and a span together.
 const MOST_TOGETHER: usize = 46;
 
-/// The name of a span's stage, but for its number.
+/// The name of a span's stage, but for its number; the words are made in the place of others.
 #[tactic(auto, unfolding(crate::specs::Names::base_name))]
-fn base_name(alloc: Global, span: &Span) -> Result<Text, AllocError>
+fn base_name(
+    alloc: Global,
+    service: &mut String,
+    own: &mut String,
+    span: &Span,
+) -> Result<Text, AllocError>
     ensures { IfOk result (λ name. name ≡ base_name span.now) }
 {
-    let mut name = words_or(alloc, "service", MOST_OF_SERVICE, span.service.as_str())?;
-    let most = MOST_TOGETHER.saturating_sub(name.len());
-    let own = words_or(alloc, "span", most, span.name.as_str())?;
-    name.reserve(own.len().saturating_add(1))?;
+    words_or(service, "service", MOST_OF_SERVICE, span.service.as_str())?;
+    let most = MOST_TOGETHER.saturating_sub(service.len());
+    words_or(own, "span", most, span.name.as_str())?;
+    let room = service.len().saturating_add(own.len()).saturating_add(1);
+    let mut name = String::with_capacity(alloc, room)?;
+    name.push_str(service.as_str())?;
     name.push_str(".")?;
     name.push_str(own.as_str())?;
     Ok(Text::of(name))
@@ -31,8 +38,10 @@ pub(crate) fn base_names(alloc: Global, spans: &[Span]) -> Result<TextList, Allo
     ensures { IfOk result (λ names. names ≡ map base_name spans.now) }
 {
     let mut names = TextList::new(alloc);
+    let mut service = String::new(alloc);
+    let mut own = String::new(alloc);
     for span in spans {
-        names.push(base_name(alloc, span)?)?;
+        names.push(base_name(alloc, &mut service, &mut own, span)?)?;
     }
     Ok(names)
 }

@@ -1,15 +1,9 @@
 //! The words of a text.
-ghost use Rattle.std.specs.Prelude.{◌≡◌, ◌<◌, IfOk, OnOk, string_bytes};
+ghost use Rattle.std.specs.Prelude.{◌≡◌, ◌<◌, OnOk, string_bytes};
 ghost use Rattle.std.specs.Str.{IsAscii};
 ghost use Rattle.trace_names.specs.Words.{cut, is_word_character, joined, with_letter, words_or};
 
-use std::alloc::{AllocError, Global};
-
-/// For no more bytes of words room is made at first.
-const MOST_ROOM: usize = 46;
-
-/// For no fewer bytes: what a string has room for after its first byte, so that short names grow no more often.
-const LEAST_ROOM: usize = 8;
+use std::alloc::AllocError;
 
 fn is_word_character(byte: u8) -> bool
     ensures { result ≡ is_word_character byte }
@@ -28,30 +22,22 @@ fn push_letter(words: &mut String, is_apart: bool, byte: u8) -> Result<(), Alloc
     words.push(byte as char)
 }
 
-/// For how many bytes of words room is made at first. Most texts begin with a word, and no longer names are kept.
-fn first_room(text: &str) -> usize {
-    match text.as_bytes() {
-        [first, ..] if is_word_character(*first) => text.len().min(MOST_ROOM).max(LEAST_ROOM),
-        _ => 0,
-    }
-}
-
-/// The words of a text, joined by dashes.
-fn joined(alloc: Global, text: &str) -> Result<String, AllocError>
-    ensures bytes { IfOk result (λ words. string_bytes words ≡ joined text.now) }
-    ensures ascii { IfOk result (λ words. IsAscii (string_bytes words)) }
+/// The words of a text, joined by dashes, in the place of others.
+fn joined(words: &mut String, text: &str) -> Result<(), AllocError>
+    ensures bytes { OnOk result (string_bytes words.new ≡ joined text.now) }
+    ensures ascii { OnOk result (IsAscii (string_bytes words.new)) }
 {
-    let mut words = String::with_capacity(alloc, first_room(text))?;
+    words.clear();
     let mut is_apart = false;
     for byte in text.as_bytes() {
         if is_word_character(*byte) {
-            push_letter(&mut words, is_apart, *byte)?;
+            push_letter(words, is_apart, *byte)?;
             is_apart = false;
         } else {
             is_apart = !words.as_str().is_empty();
         }
     }
-    Ok(words)
+    Ok(())
 }
 
 /// Keeps no more characters of words than these, of which the last is no dash.
@@ -65,20 +51,22 @@ fn cut(words: &mut String, most: usize)
     }
 }
 
-/// So many characters of the words of a text, or what stands for none.
+/// So many characters of the words of a text, or what stands for none, in the place of other words.
+///
+/// The words of many texts are made one after another: in one place, only those ask for memory that are longer than all before.
 #[tactic(auto, unfolding(crate::specs::Words::words_or))]
 pub(crate) fn words_or(
-    alloc: Global,
+    words: &mut String,
     none: &str,
     most: usize,
     text: &str,
-) -> Result<String, AllocError>
-    ensures { IfOk result (λ words. string_bytes words ≡ words_or none.now most text.now) }
+) -> Result<(), AllocError>
+    ensures { OnOk result (string_bytes words.new ≡ words_or none.now most text.now) }
 {
-    let mut words = joined(alloc, text)?;
-    cut(&mut words, most);
+    joined(words, text)?;
+    cut(words, most);
     if words.is_empty() {
-        return String::from_str(alloc, none);
+        words.push_str(none)?;
     }
-    Ok(words)
+    Ok(())
 }

@@ -9,8 +9,8 @@ use Rattle.trace_names.proofs.words.joined.Goals.{then-is_word_character+in_ok-p
 
 pub loop-byte-init : goal.loop-byte-init
 loop-byte-init c = record {
-  joins = joined_none c.args.text.now ∙ ap (λ words. joined_from words false c.args.text.now) (sym c.in_ok-words.ensures.bytes);
-  ascii = no_ascii _ c.in_ok-words.ensures.bytes;
+  joins = joined_none c.args.text.now ∙ ap (λ words. joined_from words false c.args.text.now) (sym c.clear.ensures.bytes);
+  ascii = no_ascii _ c.clear.ensures.bytes;
 }
 
 pub loop-byte-preserved : goal.loop-byte-preserved
