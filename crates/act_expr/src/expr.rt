@@ -5,7 +5,7 @@
 //! toward zero. Operands are evaluated from left to right, and the first throw is the answer.
 ghost use Rattle.std.specs.Prelude.{◌≡◌, ◌≤◌, ◌↔◌, IfOk, OnOk, IsTrue};
 ghost use Rattle.act_expr.specs.Expression.{depth, nodes, cause_is, throw};
-ghost use Rattle.act_expr.specs.Forms.{tree, kind_of, number_of, IsMade};
+ghost use Rattle.act_expr.specs.Forms.{tree, kind_of, kind_on, number_of, operator_of, IsMade};
 ghost use Rattle.act_expr.specs.Meaning.{meaning, on_values, on_numbers, check, fault_number};
 ghost use Rattle.act_expr.specs.Throwing.{as_answer, name_of};
 
@@ -97,15 +97,17 @@ pub enum ExprFault {
 #[derive(Drop)]
 pub struct Expr {
     form: Arc<Form>,
-    /// The number, where the form is the literal that is one.
+    /// The number, where the form is the literal that is one, or an operator on it.
     number: i64,
     /// How many nodes there are; those of a shared part count as often as it is in the tree.
     forms: u32,
     /// How deeply the forms are nested.
     levels: u16,
-    /// What the form is, if it is a literal or an argument. Whoever owns an operand has this at hand, whereas the form lies in
-    /// memory of its own, and to wait for that is most of the time of an evaluation.
+    /// What the form is, if it is a literal, an argument or an operator on such. Whoever owns an expression has this at hand,
+    /// whereas the form lies in memory of its own, and to wait for that is most of the time of an evaluation.
     kind: Kind,
+    /// The operator, where the form is one.
+    operator: Operator,
 }
 
 /// What an expression keeps of its form beside it.
@@ -119,8 +121,25 @@ enum Kind {
     First,
     /// The second argument.
     Second,
+    /// An operator on the first argument and a number.
+    FirstAndNumber,
+    /// An operator on the first argument and the second.
+    FirstAndSecond,
     /// Any other form.
     Other,
+}
+
+impl Kind {
+    /// What is kept of an operator on operands of these kinds: what most actions are has a kind of its own.
+    fn on(self, right: Kind) -> Kind
+        ensures { result ≡ kind_on self right }
+    {
+        match (self, right) {
+            (Kind::First, Kind::Number) => Kind::FirstAndNumber,
+            (Kind::First, Kind::Second) => Kind::FirstAndSecond,
+            _ => Kind::Other,
+        }
+    }
 }
 
 /// The outermost form of an expression, with its operands.
@@ -155,11 +174,11 @@ impl Model for Expr {
 
     ghost use Rattle.std.specs.Prelude.{◌≡◌};
     ghost use Rattle.act_expr.specs.Expression.{depth};
-    ghost use Rattle.act_expr.specs.Forms.{tree, kind_of, number_of, IsMade};
+    ghost use Rattle.act_expr.specs.Forms.{tree, kind_of, number_of, operator_of, IsMade};
 
     ghost view = { λ e. tree e.form.value };
 
-    ghost invariant = { λ e. (e.levels ≡ depth (tree e.form.value)) × (e.forms ≡ nodes (tree e.form.value)) × (e.kind ≡ kind_of (tree e.form.value)) × (e.number ≡ number_of (tree e.form.value)) × IsMade (tree e.form.value) };
+    ghost invariant = { λ e. (e.levels ≡ depth (tree e.form.value)) × (e.forms ≡ nodes (tree e.form.value)) × (e.kind ≡ kind_of (tree e.form.value)) × (e.number ≡ number_of (tree e.form.value)) × (e.operator ≡ operator_of (tree e.form.value)) × IsMade (tree e.form.value) };
 
     ghost size = { nodes };
 
@@ -183,6 +202,7 @@ impl Expr {
         }
         let kind = form.kind();
         let number = form.number();
+        let operator = form.operator();
         let form = Arc::new(alloc, form)?;
         Ok(Expr {
             form,
@@ -190,6 +210,7 @@ impl Expr {
             forms,
             levels: levels as u16,
             kind,
+            operator,
         })
     }
 
@@ -258,7 +279,7 @@ impl Expr {
         self.forms
     }
 
-    /// The value of an operand, or what is thrown instead. Half of the nodes of a tree and more are literals and arguments, which
+    /// The value of an operand, or what is thrown instead. Most nodes are literals, arguments or operators on them, which
     /// [`Expr::value`] would be called for, and would load from memory of their own; their values are taken here, from what the
     /// operand keeps beside its form.
     #[cycle(value)]
@@ -271,6 +292,8 @@ impl Expr {
             Kind::Number => Ok(Value::Num(self.number)),
             Kind::First => Ok(args.first),
             Kind::Second => Ok(args.second),
+            Kind::FirstAndNumber => self.operator.on_values(args.first, Value::Num(self.number)),
+            Kind::FirstAndSecond => self.operator.on_values(args.first, args.second),
             Kind::Other => self.value(args),
         }
     }
@@ -336,6 +359,7 @@ impl Clone for Expr {
             forms: self.forms,
             levels: self.levels,
             kind: self.kind,
+            operator: self.operator,
         })
     }
 }
@@ -364,17 +388,29 @@ impl Form {
             Form::Literal(Value::Num(_)) => Kind::Number,
             Form::Argument(Position::First) => Kind::First,
             Form::Argument(Position::Second) => Kind::Second,
+            Form::Binary(_, left, right) => left.kind.on(right.kind),
             _ => Kind::Other,
         }
     }
 
-    /// The number that a literal is; 0 for any other form.
+    /// The number that a literal is, or that is kept of the right operand; 0 for any other form.
     fn number(&self) -> i64
         ensures { result ≡ number_of (tree self.now) }
     {
         match self {
             Form::Literal(Value::Num(number)) => *number,
+            Form::Binary(_, _, right) => right.number,
             _ => 0,
+        }
+    }
+
+    /// The operator; that of a sum for a form that has none.
+    fn operator(&self) -> Operator
+        ensures { result ≡ operator_of (tree self.now) }
+    {
+        match self {
+            Form::Binary(operator, _, _) => *operator,
+            _ => Operator::Add,
         }
     }
 
@@ -421,6 +457,7 @@ impl ExprFault {
 
 impl Operator {
     /// What the operator makes of two values.
+    #[inline(always)]
     fn on_values<'a>(self, left: Value, right: Value) -> Result<Value, Thrown<'a>>
         ensures { as_answer result ≡ on_values self left right }
     {
