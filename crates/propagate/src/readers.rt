@@ -23,6 +23,7 @@ use stage_graph::Graph;
 use std::alloc::{AllocError, Global};
 
 /// The dependents of a place: the places whose stages have it as a feed.
+#[inline(always)]
 pub(crate) fn dependents_of<R: OrderRepresentation>(order: &Order<R>, place: u32) -> &[u32]
     requires { IsLive order.now.graph.places place }
     ensures { result.now ≡ dependents order.now.graph.places place }
@@ -34,6 +35,7 @@ pub(crate) fn dependents_of<R: OrderRepresentation>(order: &Order<R>, place: u32
 }
 
 /// Marks a place, if a stage stands there.
+#[inline(always)]
 fn mark<R: OrderRepresentation>(
     marks: &mut Marks,
     order: &Order<R>,

@@ -67,6 +67,7 @@ impl Marks {
     }
 
     /// Marks a place, which has this rank. If out of memory, the marks stay as they are.
+    #[inline(always)]
     pub fn insert(&mut self, rank: u32, place: u32) -> Result<(), AllocError>
         ensures marked { OnOk result ((ranks : ℕ → ℕ) (other : ℕ) → rank ≡ ranks place
             → is_marked ranks self.new other ≡ (is_marked ranks self.old other || other == place)) }
@@ -79,6 +80,7 @@ impl Marks {
     }
 
     /// Takes the repeats out if there are as many marks as the limit.
+    #[inline(always)]
     fn keep_limit(&mut self)
         ensures { HaveSameMarks self.old self.new }
     {

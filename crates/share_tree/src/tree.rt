@@ -89,6 +89,7 @@ impl<T: Again> Tree<T> {
     }
 
     /// Writes an item at a place that a tree of this height has room for, or adds it at the end.
+    #[inline(always)]
     #[tactic(auto, using(crate::proofs::Puts::puts))]
     fn write_within(&mut self, alloc: Global, place: usize, item: T) -> Result<(), AllocError>
         requires height { HasHeight self.old }
