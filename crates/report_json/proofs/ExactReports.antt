@@ -21,8 +21,6 @@ use Rattle.report_text.specs.declared.comparison.Comparison.{Comparison}
 use Rattle.report_text.specs.declared.comparison.Comparison.TheVariants as compared
 use Rattle.report_text.specs.declared.shift.Shift.{Shift as Moved}
 use Rattle.report_text.specs.declared.shift.Shift.TheVariants.{Later, Earlier}
-use Rattle.report_text.specs.declared.what.What.{What}
-use Rattle.report_text.specs.declared.what.What.TheVariants as asked
 use Rattle.report_text.specs.AgainstTexts.{done_of, is_changed, shift_against}
 use Rattle.report_text.specs.Texts.{shift_at}
 use Rattle.report_json.specs.declared.entry.Entry.{Entry}
@@ -30,9 +28,12 @@ use Rattle.report_json.specs.declared.entry.Entry.TheVariants.{Name, State, Time
 use Rattle.report_json.specs.Entries.{entries, entry_at, entry_of}
 use Rattle.report_json.specs.declared.line_lists.Listed.{Listed}
 use Rattle.report_json.specs.declared.line_lists.Listed.TheVariants as list
+use Rattle.report_json.specs.declared.line_of_stage.OfStage.{OfStage}
+use Rattle.report_json.specs.declared.line_of_stage.OfStage.TheVariants as of
 use Rattle.report_json.specs.Json.{at_line, count, object, outcome_json}
 use Rattle.report_json.specs.Lists.{listed_json}
-use Rattle.report_json.specs.Reports.{against_members, all_members, blame_members, changes_members, comparison_json, drift_members, one_members, path_members, report_json, sweep_json, sweep_members, times_members, trials}
+use Rattle.report_json.specs.OfStage.{stage_json}
+use Rattle.report_json.specs.Reports.{against_members, all_members, blame_members, changes_members, comparison_json, drift_members, one_members, path_members, sweep_json, sweep_members, times_members, trials}
 use Rattle.report_json.specs.Stages.{before_json, cause_members, completion_members, join_members, kind_of_feed, old_and_new, shift_members, stage_members, state_members, step_members, there_json, timing_members, trial_members}
 use Rattle.report_json.proofs.Exact.{IsExact, at_line_exact, count_exact, deeper, far_from_the_limit, list_exact, null_exact, object_exact, optional_exact, outcome_exact, text_exact, value_exact}
 
@@ -185,15 +186,6 @@ of_stage_exact : (form : Stage → Data) (found : Option Stage) → ((stage : St
 of_stage_exact form None h = tt
 of_stage_exact form (Some stage) h = h stage
 
-pub report_exact : (version : PlainVersion) (what : What) → IfSome (report_json version what) (IsExact 5)
-report_exact version asked.All = all_exact version
-report_exact version (asked.One place) = of_stage_exact (λ stage. object (one_members version place stage)) (stage_at version.graph.places place) (one_exact version place)
-report_exact version (asked.Blame place) = of_stage_exact (λ stage. object (blame_members version place stage)) (stage_at version.graph.places place) (blame_exact version place)
-report_exact version (asked.Path place) = of_stage_exact (λ stage. object (path_members version place stage)) (stage_at version.graph.places place) (path_exact version place)
-report_exact version asked.Changes = changes_exact version
-report_exact version asked.Drift = drift_exact version
-report_exact version asked.Times = times_exact version
-
 against_exact : (report : List ℕ) (version against : PlainVersion) (stages : Data) → IsExact 4 stages → IsExact 5 (object (against_members report version against stages))
 against_exact report version against stages h = object_exact 4 (against_members report version against stages) (text_exact 4 _, (count_exact 4 _, (count_exact 4 _, (h, tt))))
 
@@ -219,3 +211,14 @@ listed_exact list.Drift version = drift_exact version
 
 pub listed_shallow : (line : Option ℕ) (listed : Listed) (version : PlainVersion) → depth (at_line line (listed_json listed version)) ≤ max_depth
 listed_shallow line listed version = (at_line_exact 126 line (listed_json listed version) (far_from_the_limit (listed_json listed version) (listed_exact listed version))).shallow
+
+-- ---- the same of one stage
+
+stage_report_exact : (report : OfStage) (version : PlainVersion) (place : ℕ) (stage : Stage) → IsExact 5 (stage_json report version place stage)
+stage_report_exact of.One version place stage = one_exact version place stage
+stage_report_exact of.Blame version place stage = blame_exact version place stage
+stage_report_exact of.Path version place stage = path_exact version place stage
+
+pub stage_shallow : (line : Option ℕ) (report : OfStage) (version : PlainVersion) (place : ℕ) (stage : Stage) → depth (at_line line (stage_json report version place stage)) ≤ max_depth
+stage_shallow line report version place stage =
+    (at_line_exact 126 line (stage_json report version place stage) (far_from_the_limit (stage_json report version place stage) (stage_report_exact report version place stage))).shallow

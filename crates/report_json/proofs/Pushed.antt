@@ -74,6 +74,12 @@ next_row rows name d old so_far new first then =
       reads = all_read rows ((name, d) ∷ []) first.reads last.reads;
     }
 
+-- the same where that was the last to be added
+pub last_row : {E : Type 0} (r : Result (Unit {0}) E) (rows : NamedValues) (name : List ℕ) (d e : Data) (old so_far new : List Token) → d ≡ e → TellsRows rows old so_far
+    → OnOk r (TellsMember name d so_far new) → OnOk r (TellsRows (rows ++ (name, e) ∷ []) old new)
+last_row (Ok done) rows name d e old so_far new is first then = next_row rows name e old so_far new first (member_is name d e so_far new is then)
+last_row (Err fault) rows name d e old so_far new is first then = tt
+
 pub both_rows : (xs ys : NamedValues) (old so_far new : List Token) → TellsRows xs old so_far → TellsRows ys so_far new → TellsRows (xs ++ ys) old new
 both_rows xs ys old so_far new first then = record {
   tokens =
@@ -121,16 +127,25 @@ module _ (rows : NamedValues) (sorted : with no_members rows ≡ members_in rows
   object_told (Ok done) named old one two three is begun told ended = object_of (with no_members named) old one two three is begun told ended
   object_told (Err fault) named old one two three is begun told ended = tt
 
--- the same with the number of the line that is answered, whose name is before all others
+-- the same with the number of the line that is answered, whose name is between those of two rows of others
+pub report_told_between : {E : Type 0} (r : Result (Unit {0}) E) (line : Option ℕ) (named first last : NamedValues) (old one two three : List Token)
+    → with no_members named ≡ members_in (first ++ last)
+    → with no_members (first ++ last) ≡ members_in (first ++ last)
+    → ((amount : ℕ) → put (codes "line") (count amount) (with no_members named) ≡ members_in (first ++ (codes "line", count amount) ∷ last))
+    → ((amount : ℕ) → with no_members (first ++ (codes "line", count amount) ∷ last) ≡ members_in (first ++ (codes "line", count amount) ∷ last))
+    → one ≡ old ++ begin_object ∷ [] → TellsRows (first ++ (line_rows line ++ last)) one two → OnOk r (three ≡ two ++ end_object ∷ []) → OnOk r (Tells (at_line line (object named)) old three)
+report_told_between (Err fault) line named first last old one two three is sorted stands stays begun told ended = tt
+report_told_between (Ok done) None named first last old one two three is sorted stands stays begun told ended = object_of (first ++ last) sorted _ old one two three is begun told ended
+report_told_between (Ok done) (Some amount) named first last old one two three is sorted stands stays begun told ended =
+    object_of (first ++ (codes "line", count amount) ∷ last) (stays amount) _ old one two three (stands amount) begun told ended
+
+-- the same where that name is before all others
 pub report_told : {E : Type 0} (r : Result (Unit {0}) E) (line : Option ℕ) (named rows : NamedValues) (old one two three : List Token) → with no_members named ≡ members_in rows
     → with no_members rows ≡ members_in rows
     → ((amount : ℕ) → put (codes "line") (count amount) (with no_members named) ≡ members_in ((codes "line", count amount) ∷ rows))
     → ((amount : ℕ) → with no_members ((codes "line", count amount) ∷ rows) ≡ members_in ((codes "line", count amount) ∷ rows))
     → one ≡ old ++ begin_object ∷ [] → TellsRows (line_rows line ++ rows) one two → OnOk r (three ≡ two ++ end_object ∷ []) → OnOk r (Tells (at_line line (object named)) old three)
-report_told (Err fault) line named rows old one two three is sorted first stays begun told ended = tt
-report_told (Ok done) None named rows old one two three is sorted first stays begun told ended = object_of rows sorted _ old one two three is begun told ended
-report_told (Ok done) (Some amount) named rows old one two three is sorted first stays begun told ended =
-    object_of ((codes "line", count amount) ∷ rows) (stays amount) _ old one two three (first amount) begun told ended
+report_told r line named rows = report_told_between r line named [] rows
 
 -- ---- lists
 

@@ -3,7 +3,9 @@ pub mod Forms
 pub mod Json
 pub mod Lists
 pub mod Objects
+pub mod OfStage
 pub mod Reports
 pub mod Stages
 pub mod Tokens
 pub mod Told
+pub mod Versions

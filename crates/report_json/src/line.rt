@@ -1,4 +1,4 @@
-//! The line of a report, put together from the tokens of JSON.
+//! The line of an answer, put together from the tokens of JSON.
 ghost use Rattle.std.specs.Prelude.{◌≡◌, ◌++◌, ◌∷◌, [], OnOk};
 ghost use Rattle.json.specs.Lex.{tokens};
 ghost use Rattle.json.specs.Print.{print};

@@ -21,8 +21,8 @@ use report_text::{ReportFault, Sink, mode_text};
 use std::alloc::{AllocError, Global};
 use version_store::Version;
 
-// The number of the line that is answered, where there is one. Its name is before those of all other members.
-fn push_number(line: &mut Line, number: Option<u64>) -> Result<(), AllocError>
+/// Adds the number of the line that is answered, where there is one.
+pub(crate) fn push_number(line: &mut Line, number: Option<u64>) -> Result<(), AllocError>
     ensures { OnOk result (TellsRows (line_rows number) line.old line.new) }
 {
     match number {
@@ -131,8 +131,8 @@ fn push_report<R: StateRepresentation>(
     }
 }
 
-// The bytes of a line, with its end.
-fn ended(line: Line) -> Result<Vec<u8>, AllocError>
+/// The bytes of a line, with its end.
+pub(crate) fn ended(line: Line) -> Result<Vec<u8>, AllocError>
     ensures bytes { IfOk result (λ bytes. bytes.items ≡ print line ++ line_end) }
     ensures reads_back { tokens (print line) ≡ line }
 {

@@ -16,8 +16,8 @@ use stage_ops::{Done, State};
 use std::alloc::AllocError;
 use version_store::{Before, StageView};
 
-// The tick at which a stage completed; null while it is pending.
-fn push_moment(line: &mut Line, state: &State) -> Result<(), AllocError>
+/// Adds the tick at which a stage completed; null while it is pending.
+pub(crate) fn push_moment(line: &mut Line, state: &State) -> Result<(), AllocError>
     ensures { OnOk result (TellsMember (codes "moment") (optional count (moment_in state.now)) line.old line.new) }
 {
     match &state.done {
@@ -26,8 +26,8 @@ fn push_moment(line: &mut Line, state: &State) -> Result<(), AllocError>
     }
 }
 
-// What a stage holds; null while it is pending.
-fn push_outcome(line: &mut Line, state: &State) -> Result<(), AllocError>
+/// Adds what a stage holds; null while it is pending.
+pub(crate) fn push_outcome(line: &mut Line, state: &State) -> Result<(), AllocError>
     ensures { OnOk result (TellsMember (codes "outcome") (optional outcome_json (outcome_in state.now)) line.old line.new) }
 {
     match &state.done {

@@ -8,8 +8,8 @@ use crate::line::Line;
 use act_expr::{Outcome, Value};
 use std::alloc::AllocError;
 
-// An object of one text.
-fn push_one_text(line: &mut Line, name: &str, content: &str) -> Result<(), AllocError>
+/// Adds an object of one text.
+pub(crate) fn push_one_text(line: &mut Line, name: &str, content: &str) -> Result<(), AllocError>
     ensures { OnOk result (Tells (object ((name.now, text content.now) ∷ [])) line.old line.new) }
 {
     line.begin_object()?;

@@ -11,9 +11,10 @@ ghost use Rattle.report_json.specs.Json.{at_line, line_text, told};
 ghost use Rattle.report_json.specs.Reports.{comparison_json, report_json, sweep_json};
 
 use crate::line_lists::Listed;
+use crate::line_of_stage::{OfStage, write_of_stage};
 use crate::line_reports::write_listed;
 use crate::object::Object;
-use crate::reports::{comparison_value, report_value};
+use crate::reports::comparison_value;
 use crate::sweep::sweep_value;
 use level_pool::Runner;
 use propagate::StateRepresentation;
@@ -106,31 +107,9 @@ pub fn write_report<R: StateRepresentation, S: Sink>(
         What::Times => write_listed(alloc, Listed::Times, version, line, sink),
         What::Changes => write_listed(alloc, Listed::Changes, version, line, sink),
         What::Drift => write_listed(alloc, Listed::Drift, version, line, sink),
-        What::One(_) | What::Blame(_) | What::Path(_) => {
-            write_value(alloc, version, what, line, sink)
-        }
-    }
-}
-
-// The same by way of the report's value, for the reports that are short.
-fn write_value<R: StateRepresentation, S: Sink>(
-    alloc: Global,
-    version: &Version<R>,
-    what: What,
-    line: Option<u64>,
-    sink: &mut S,
-) -> Result<(), ReportFault>
-    requires { S.failures sink.old < 2 ^ 64 - 1 }
-    ensures ok { OnOk result (Appends (S.held sink.old) (S.held sink.new) (told line (report_json version.now what))) }
-    ensures err { OnErr result (AppendsPrefix (S.held sink.old) (S.held sink.new) (told line (report_json version.now what))) }
-    ensures no_stage { (result ≡ Err ReportFault.NoStage) ↔ (report_json version.now what ≡ None) }
-    ensures failures { S.failures sink.new ≡ S.failures sink.old + failed_writes result }
-    ensures reads_back { OnOk result (IfSome (report_json version.now what) (λ report. read (compact_text (at_line line report)) ≡ Some (at_line line report))) }
-{
-    match report_value(alloc, version, what) {
-        Ok(answer) => write_answer(alloc, answer, line, sink),
-        Err(QueryFault::NoStage) => Err(ReportFault::NoStage),
-        Err(QueryFault::Memory) => Err(ReportFault::Memory),
+        What::One(place) => write_of_stage(alloc, OfStage::One, version, place, line, sink),
+        What::Blame(place) => write_of_stage(alloc, OfStage::Blame, version, place, line, sink),
+        What::Path(place) => write_of_stage(alloc, OfStage::Path, version, place, line, sink),
     }
 }
 

@@ -120,6 +120,9 @@ stand_refused form s t session asked reply is none = ap (after_stand form sessio
 pub all_of : {T E : Type 0} (r : Result T E) (x y : Answered) (t : State) (a b : Option (List ℕ)) → y ≡ x → OnOk r (IsAnswered x t a b) → OnOk r (IsAnswered y t a b)
 all_of r x y t a b same all = subst (λ z. OnOk r (IsAnswered z t a b)) (sym same) all
 
+pub whole_of : {T E : Type 0} (r : Result T E) (a b : Option (List ℕ)) (text more : List ℕ) → more ≡ text → OnOk r (Appends a b text) → OnOk r (Appends a b more)
+whole_of r a b text more same whole = subst (λ l. OnOk r (Appends a b l)) (sym same) whole
+
 pub part_of : {T E : Type 0} (r : Result T E) (a b : Option (List ℕ)) (text more : List ℕ) → more ≡ text → OnErr r (AppendsPrefix a b text) → OnErr r (AppendsPrefix a b more)
 part_of r a b text more same part = subst (λ l. OnErr r (AppendsPrefix a b l)) (sym same) part
 

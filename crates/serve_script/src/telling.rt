@@ -9,12 +9,13 @@ ghost use Rattle.text_io.specs.Sink.{AppendsPrefix};
 ghost use Rattle.report_json.specs.Json.{answer_text};
 ghost use Rattle.serve_script.specs.Faults.{failed_writes};
 ghost use Rattle.serve_script.specs.Told.{fault_told, no_stage_told, no_version_told, reply_told};
+ghost use Rattle.serve_script.specs.Values.{at_version, reply_json};
 
 use crate::fault::AnswerFault;
 use crate::reply::{fault_line, reply_line};
 use crate::values::{fault_value, plain_refusal, reply_value};
 use recording::Fault;
-use report_json::{Form, write_answer};
+use report_json::{Form, write_answer, write_at_version};
 use report_text::ReportFault;
 use serde_json::Value;
 use session_core::{Event, Reply};
@@ -43,10 +44,12 @@ pub fn tell_reply<R: StateRepresentation, S: Sink>(
             let line = reply_line(alloc, base, event, listed, reply)?;
             write_text(line.as_bytes(), sink)
         }
-        Form::Json { line } => {
-            let answer = reply_value(alloc, base, event, listed, reply)?;
-            write_value(alloc, answer, line, sink)
-        }
+        Form::Json { line } => match reply {
+            Reply::At(version) => write_version(alloc, "head", version, line, sink),
+            Reply::Committed(version) => write_version(alloc, "committed", version, line, sink),
+            Reply::Undone(version) => write_version(alloc, "undone", version, line, sink),
+            _ => write_reply_value(alloc, base, event, listed, reply, line, sink),
+        },
     }
 }
 
@@ -119,6 +122,47 @@ fn write_text<S: Sink>(text: &[u8], sink: &mut S) -> Result<(), AnswerFault>
 {
     sink.write(text)?;
     Ok(())
+}
+
+/// Writes a reply that tells a version as what answers the script's line of this number. Most replies tell one, so the line is
+/// put together without a value of it.
+fn write_version<S: Sink>(
+    alloc: Global,
+    reply: &str,
+    version: u32,
+    line: Option<u64>,
+    sink: &mut S,
+) -> Result<(), AnswerFault>
+    requires { S.failures sink.old < 2 ^ 64 - 1 }
+    ensures ok { OnOk result (Appends (S.held sink.old) (S.held sink.new) (answer_text line (at_version reply.now version))) }
+    ensures err { OnErr result (AppendsPrefix (S.held sink.old) (S.held sink.new) (answer_text line (at_version reply.now version))) }
+    ensures failures { S.failures sink.new ≡ S.failures sink.old + failed_writes result }
+{
+    match write_at_version(alloc, reply, version, line, sink) {
+        Ok(()) => Ok(()),
+        Err(ReportFault::NoStage) => unreachable!(),
+        Err(ReportFault::Write) => Err(AnswerFault::Write),
+        Err(ReportFault::Memory) => Err(AnswerFault::Memory),
+    }
+}
+
+/// Writes a reply as what answers the script's line of this number, by way of a value of it.
+fn write_reply_value<R: StateRepresentation, S: Sink>(
+    alloc: Global,
+    base: Option<&Version<R>>,
+    event: &Event,
+    listed: bool,
+    reply: Reply,
+    line: Option<u64>,
+    sink: &mut S,
+) -> Result<(), AnswerFault>
+    requires { S.failures sink.old < 2 ^ 64 - 1 }
+    ensures ok { OnOk result (Appends (S.held sink.old) (S.held sink.new) (answer_text line (reply_json (option_copied base.entry) event.now listed reply))) }
+    ensures err { OnErr result (AppendsPrefix (S.held sink.old) (S.held sink.new) (answer_text line (reply_json (option_copied base.entry) event.now listed reply))) }
+    ensures failures { S.failures sink.new ≡ S.failures sink.old + failed_writes result }
+{
+    let answer = reply_value(alloc, base, event, listed, reply)?;
+    write_value(alloc, answer, line, sink)
 }
 
 /// Writes a JSON value as what answers the script's line of this number.
