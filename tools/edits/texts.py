@@ -1,0 +1,100 @@
+"""The texts that decide an edit: the functions that it turns and that are to refuse it, and the definitions that these name."""
+import hashlib
+import os
+import re
+from functools import cache
+from glob import glob
+
+WORD = re.compile(r"[^\W\d][\w-]*")
+GHOST_USE = re.compile(r"^\s*(?:pub )?(?:ghost )?use (Rattle\.(\w+)\.specs\.[\w.]+)\.\{([^}]*)\}", re.M)
+HEAD = re.compile(r"^(?P<indent> *)(?:pub(?:\(\w+\))? )?(?:const )?(?:unsafe )?fn (?P<name>\w+)", re.M)
+SIGNATURE = re.compile(r"^(?:(?:pub|abbrev|unfoldable|opaque|infix\w*) )*(?:record |data )?(?:pub )?([^\s:{}()\[\],]+)(?: [^:=\n]*)?:(?=\s|$)")
+
+
+@cache
+def text_of(path):
+    with open(path, encoding="utf-8") as source:
+        return source.read()
+
+
+def functions(text):
+    """Each function of a source text: its name, and its text from its head to its end. A laid out function ends with a brace that
+    stands as far in as its head."""
+    lines = text.split("\n")
+    for at, line in enumerate(lines):
+        head = HEAD.match(line)
+        if head:
+            ends = (it for it in range(at, len(lines)) if lines[it] == f"{head['indent']}}}" or it == at and line.endswith(("}", ";")))
+            yield head["name"], "\n".join(lines[at : next(ends, len(lines)) + 1])
+
+
+def definitions(text):
+    """Each definition of a text of specs/ by its name: its signature, and all lines up to the next one's."""
+    found, name = {}, None
+    for line in text.split("\n"):
+        signature = SIGNATURE.match(line)
+        if signature and not line.startswith(("use ", "--")):
+            name = signature[1]
+            found[name] = []
+        if name and line.strip() and not line.lstrip().startswith("--"):
+            found[name].append(line)
+    return {name: "\n".join(lines) for name, lines in found.items()}
+
+
+@cache
+def definitions_of(path):
+    return definitions(text_of(path))
+
+
+def imported(text):
+    """The names that the text takes from specs/ of the repository, each with its crate and its module's path."""
+    for _, crate, names in ((it[0], it[1], it[2]) for it in GHOST_USE.findall(text)):
+        module = _.split(".specs.", 1)[1] if ".specs." in _ else ""
+        for name in filter(None, map(str.strip, names.split(","))):
+            yield name.split(" as ")[-1].strip(), crate, module, name.split(" as ")[0].strip()
+
+
+def named_definitions(top, text, source):
+    """The definitions that a text names by what its source takes from specs/, and those that they name in turn."""
+    found, left = {}, [(text, source)]
+    while left:
+        text, source = left.pop()
+        words = set(WORD.findall(text)) | {it for it in re.findall(r"[^\s(){},]+", text)}
+        known = {local: (crate, module, name) for local, crate, module, name in imported(text_of(source))}
+        own = definitions_of(source) if source.endswith(".antt") else {}
+        for word in sorted(words):
+            if word in known:
+                crate, module, name = known[word]
+                path = f"{top}/crates/{crate}/specs/{module.replace('.', '/')}.antt"
+            elif word in own:
+                path, name = source, word
+            else:
+                continue
+            if (path, name) in found or not os.path.isfile(path):
+                continue
+            found[path, name] = definitions_of(path).get(name, "")
+            left.append((found[path, name], path))
+    return [f"{os.path.relpath(path, top)}: {text}" for (path, _), text in sorted(found.items())]
+
+
+def deciding(top, edit):
+    """What decides the edit: the functions that refuse it and those that it turns, the definitions that they name, and the edit."""
+    folder, last = f"{top}/crates/{edit.crate}", edit.function.split("::")[-1]
+    sources = sorted(glob(f"{folder}/src/**/*.rt", recursive=True))
+    turned = [f"{folder}/{file}" for file in edit.files()]
+    refusing = [it for it in turned if it.endswith(".rt") and any(name == last for name, _ in functions(text_of(it)))] or sources
+    parts = []
+    for source in dict.fromkeys([*refusing, *turned]):
+        if not source.endswith(".rt"):
+            parts += [text for name, text in sorted(definitions_of(source).items()) if any(old in text for _, old, _ in edit.pairs)]
+            continue
+        for name, text in functions(text_of(source)):
+            if name == last and source in refusing or any(old in text for _, old, _ in edit.pairs):
+                parts += [f"{os.path.relpath(source, top)}: {text}", *named_definitions(top, text, source)]
+    return [*dict.fromkeys(parts), edit.words]
+
+
+def hash_of(top, edit):
+    """A hash of all that decides the edit, in which layout counts for nothing."""
+    whole = "\n".join(" ".join(part.split()) for part in deciding(top, edit))
+    return hashlib.sha256(whole.encode()).hexdigest()[:16]
