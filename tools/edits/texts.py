@@ -48,10 +48,11 @@ def definitions_of(path):
 
 def imported(text):
     """The names that the text takes from specs/ of the repository, each with its crate and its module's path."""
-    for _, crate, names in ((it[0], it[1], it[2]) for it in GHOST_USE.findall(text)):
-        module = _.split(".specs.", 1)[1] if ".specs." in _ else ""
+    for path, crate, names in GHOST_USE.findall(text):
+        module = path.split(".specs.", 1)[1]
         for name in filter(None, map(str.strip, names.split(","))):
-            yield name.split(" as ")[-1].strip(), crate, module, name.split(" as ")[0].strip()
+            own, _, local = name.partition(" as ")
+            yield (local or own).strip(), crate, module, own.strip()
 
 
 def named_definitions(top, text, source):
