@@ -4,10 +4,11 @@ ghost use Rattle.std.specs.Prelude.{◌≡◌, IfOk};
 ghost use Rattle.stage_graph.specs.Walk.{IsRanked};
 ghost use Rattle.text_io.specs.Counted.{write_failures};
 
+use crate::changes::{first_rewires, join_edits, source_edits};
 use crate::digest::Digest;
 use crate::names::name;
 use crate::recordings::{Plan, Shape, recording};
-use crate::scripts::{great_edits, small_edits};
+use crate::scripts::{Steps, great_edits, small_edits};
 use crate::traces::{Form as TraceForm, trace};
 use anyhow::{Result, bail};
 use level_pool::Runner;
@@ -34,6 +35,14 @@ pub(crate) enum Job {
     Sweep,
     /// Traces are imported.
     Import,
+    /// Scripts of small edits alone.
+    Small,
+    /// Scripts of edits of the one source of all hubs, for whose joins each hub is looked at.
+    Hubs,
+    /// Scripts that rewire what all stages wait for, each in many ways.
+    Windows,
+    /// A script that rewires, adds and removes joins, changes actions and ends, and makes lists of these edits.
+    Joins,
 }
 
 impl Job {
@@ -45,6 +54,10 @@ impl Job {
             "spread" => Some(Job::Spread),
             "sweep" => Some(Job::Sweep),
             "import" => Some(Job::Import),
+            "small" => Some(Job::Small),
+            "hubs" => Some(Job::Hubs),
+            "windows" => Some(Job::Windows),
+            "joins" => Some(Job::Joins),
             _ => None,
         }
     }
@@ -213,10 +226,10 @@ fn run_serve<R: StateRepresentation, W: Runner>(
     digest: &mut Digest,
 ) -> Result<()> {
     let mixed = plan(Shape::Mixed, scale.of(8_192), seed);
-    let script = small_edits(alloc, &mixed, scale.of(20_000))?;
+    let script = small_edits(alloc, &mixed, Steps::WithReports, scale.of(20_000))?;
     served::<R, W>(alloc, runner, &mixed, script.as_str(), Format::Text, digest)?;
     let trees = plan(Shape::Trees, scale.of(4_096), seed);
-    let script = small_edits(alloc, &trees, scale.of(20_000))?;
+    let script = small_edits(alloc, &trees, Steps::WithReports, scale.of(20_000))?;
     served::<R, W>(alloc, runner, &trees, script.as_str(), Format::Json, digest)
 }
 
@@ -278,6 +291,92 @@ fn run_import(alloc: Global, scale: Scale, seed: u32, digest: &mut Digest) -> Re
     imported(alloc, TraceForm::Otlp, scale.of(24_000), seed ^ 1, digest)
 }
 
+/// Runs the job `small`.
+fn run_small<R: StateRepresentation, W: Runner>(
+    alloc: Global,
+    runner: &W,
+    scale: Scale,
+    seed: u32,
+    digest: &mut Digest,
+) -> Result<()> {
+    for shape in [Shape::Mixed, Shape::Trees] {
+        let edited = plan(shape, scale.of(4_096), seed);
+        let script = small_edits(alloc, &edited, Steps::EditsAlone, scale.of(30_000))?;
+        served::<R, W>(
+            alloc,
+            runner,
+            &edited,
+            script.as_str(),
+            Format::Text,
+            digest,
+        )?;
+    }
+    Ok(())
+}
+
+/// Runs the job `hubs`.
+fn run_hubs<R: StateRepresentation, W: Runner>(
+    alloc: Global,
+    runner: &W,
+    scale: Scale,
+    seed: u32,
+    digest: &mut Digest,
+) -> Result<()> {
+    for hubs in [16, 64, 256, 512] {
+        let hubbed = plan(
+            Shape::Hubs(hubs),
+            scale.of(1_001).saturating_add(hubs),
+            seed,
+        );
+        let script = source_edits(alloc, &hubbed, 40)?;
+        served::<R, W>(
+            alloc,
+            runner,
+            &hubbed,
+            script.as_str(),
+            Format::Text,
+            digest,
+        )?;
+    }
+    Ok(())
+}
+
+/// Runs the job `windows`.
+fn run_windows<R: StateRepresentation, W: Runner>(
+    alloc: Global,
+    runner: &W,
+    scale: Scale,
+    seed: u32,
+    digest: &mut Digest,
+) -> Result<()> {
+    for width in [16, 64, 200] {
+        let windowed = plan(Shape::Window(width), scale.of(1_000), seed);
+        let script = first_rewires(alloc, &windowed, 32)?;
+        served::<R, W>(
+            alloc,
+            runner,
+            &windowed,
+            script.as_str(),
+            Format::Text,
+            digest,
+        )?;
+    }
+    Ok(())
+}
+
+/// Runs the job `joins`.
+fn run_joins<R: StateRepresentation, W: Runner>(
+    alloc: Global,
+    runner: &W,
+    scale: Scale,
+    seed: u32,
+    digest: &mut Digest,
+) -> Result<()> {
+    let joins = plan(Shape::Joins, scale.of(2_048), seed);
+    let script = join_edits(alloc, &joins, scale.of(2_048))?;
+    served::<R, W>(alloc, runner, &joins, script.as_str(), Format::Text, digest)
+}
+
 /// The digest of all results of a job.
 pub(crate) fn run<R: StateRepresentation, W: Runner>(
     alloc: Global,
@@ -293,6 +392,10 @@ pub(crate) fn run<R: StateRepresentation, W: Runner>(
         Job::Spread => run_spread::<R, W>(alloc, runner, scale, seed, &mut digest)?,
         Job::Sweep => run_sweep::<R, W>(alloc, runner, scale, seed, &mut digest)?,
         Job::Import => run_import(alloc, scale, seed, &mut digest)?,
+        Job::Small => run_small::<R, W>(alloc, runner, scale, seed, &mut digest)?,
+        Job::Hubs => run_hubs::<R, W>(alloc, runner, scale, seed, &mut digest)?,
+        Job::Windows => run_windows::<R, W>(alloc, runner, scale, seed, &mut digest)?,
+        Job::Joins => run_joins::<R, W>(alloc, runner, scale, seed, &mut digest)?,
     }
     Ok(digest)
 }

@@ -1,11 +1,13 @@
 //! The jobs that a user waits for, on inputs that it makes of a seed, to be timed.
 //!
-//! `job_bench JOB SEED` runs one of the jobs `report`, `serve`, `spread`, `sweep` and `import`, and prints a digest of all
-//! that it wrote. Without words it runs each once on small inputs, which is what the gate runs.
+//! `job_bench JOB SEED` runs one of the jobs `report`, `serve`, `spread`, `sweep`, `import`, `small`, `hubs`, `windows` and
+//! `joins`, and prints a digest of all that it wrote. Without words it runs each once on small inputs, which is what the gate runs.
 #![tactic(auto)]
 
+mod changes;
 mod digest;
 mod jobs;
+mod joins;
 mod names;
 mod random;
 mod recordings;
@@ -21,7 +23,9 @@ use std::env;
 use std::thread::Threads;
 
 /// The jobs, by name.
-const JOBS: [&str; 5] = ["report", "serve", "spread", "sweep", "import"];
+const JOBS: [&str; 9] = [
+    "report", "serve", "spread", "sweep", "import", "small", "hubs", "windows", "joins",
+];
 
 /// The line of a job: its name, and the digest and the number of the bytes that it wrote.
 fn line_of<H: Threads + Sync>(

@@ -1,5 +1,6 @@
 //! Recordings, as text: the shapes that recorded runs have.
 
+use crate::joins::{push_hubbed, push_joined, push_windowed};
 use crate::names::push_name;
 use crate::random::Random;
 use std::alloc::{AllocError, Global};
@@ -16,6 +17,12 @@ pub(crate) enum Shape {
     Trees,
     /// Every operation, over the last few stages, with timeouts, retries and failures.
     Mixed,
+    /// One source, so many hubs that wait for it, and joins of all hubs.
+    Hubs(u32),
+    /// Each stage waits for so many before it, or for all where there are fewer.
+    Window(u32),
+    /// Roots, hubs that wait for one of them, and joins of 2 to 200 of the stages before.
+    Joins,
 }
 
 /// A recording that is written.
@@ -39,7 +46,7 @@ const EXCEPTIONS: [&str; 4] = [
 ];
 
 /// Adds a list of names of stages, as a member.
-fn push_stages(
+pub(crate) fn push_stages(
     text: &mut String,
     seed: u32,
     member: &str,
@@ -59,7 +66,12 @@ fn push_stages(
 }
 
 /// Adds the beginning of a stage: its name and operation.
-fn push_head(text: &mut String, seed: u32, number: u32, operation: &str) -> Result<(), AllocError> {
+pub(crate) fn push_head(
+    text: &mut String,
+    seed: u32,
+    number: u32,
+    operation: &str,
+) -> Result<(), AllocError> {
     if number > 0 {
         text.push_str(",\n")?;
     }
@@ -69,13 +81,18 @@ fn push_head(text: &mut String, seed: u32, number: u32, operation: &str) -> Resu
 }
 
 /// Adds a stage that waits for nothing.
-fn push_root(text: &mut String, seed: u32, number: u32, runs: u32) -> Result<(), AllocError> {
+pub(crate) fn push_root(
+    text: &mut String,
+    seed: u32,
+    number: u32,
+    runs: u32,
+) -> Result<(), AllocError> {
     push_head(text, seed, number, "supplyAsync")?;
     write!(text, ",\"queued\":1,\"runs\":{runs},\"action\":4}}")
 }
 
 /// Adds a stage that waits for another one.
-fn push_applied(
+pub(crate) fn push_applied(
     text: &mut String,
     seed: u32,
     number: u32,
@@ -91,7 +108,7 @@ fn push_applied(
 }
 
 /// Adds a stage that waits for two others.
-fn push_combined(
+pub(crate) fn push_combined(
     text: &mut String,
     seed: u32,
     number: u32,
@@ -337,6 +354,9 @@ fn push_stage(
         Shape::Layers => push_layered(text, plan, random, number),
         Shape::Trees => push_in_tree(text, plan, random, number),
         Shape::Mixed => push_mixed(text, plan, random, number),
+        Shape::Hubs(hubs) => push_hubbed(text, plan, hubs, number),
+        Shape::Window(width) => push_windowed(text, plan, width, number),
+        Shape::Joins => push_joined(text, plan, random, number),
     }
 }
 

@@ -10,7 +10,7 @@ use std::fmt::Write;
 const SESSIONS: u32 = 4;
 
 /// Adds a step of a session about a stage, up to its further members.
-fn push_about(
+pub(crate) fn push_about(
     text: &mut String,
     plan: &Plan,
     step: &str,
@@ -52,11 +52,24 @@ fn late_stage(plan: &Plan, random: &mut Random) -> u32 {
     }
 }
 
-/// Adds a small edit, or a report.
-fn push_step(text: &mut String, plan: &Plan, random: &mut Random) -> Result<(), AllocError> {
-    let session = 1 + random.below(SESSIONS);
-    let stage = late_stage(plan, random);
-    match random.below(20) {
+/// What the steps of a script are.
+#[derive(Clone, Copy, PartialEq, Eq)]
+pub(crate) enum Steps {
+    /// Three edits or undos to each report.
+    WithReports,
+    /// Edits and undos.
+    EditsAlone,
+}
+
+/// Adds a report of a kind from 0 to 4.
+fn push_asked(
+    text: &mut String,
+    plan: &Plan,
+    session: u32,
+    stage: u32,
+    kind: u32,
+) -> Result<(), AllocError> {
+    match kind {
         0 => push_report(text, plan, session, "one", stage),
         1 => push_report(text, plan, session, "blame", stage),
         2 => push_report(text, plan, session, "path", stage),
@@ -64,21 +77,34 @@ fn push_step(text: &mut String, plan: &Plan, random: &mut Random) -> Result<(), 
             text,
             "{{\"do\":\"report\",\"session\":{session},\"what\":\"changes\"}}\n"
         ),
-        4 => write!(
+        _ => write!(
             text,
             "{{\"do\":\"report\",\"session\":{session},\"what\":\"drift\"}}\n"
         ),
-        5 => write!(text, "{{\"do\":\"undo\",\"session\":{session}}}\n"),
-        6 => write!(text, "{{\"do\":\"head\",\"session\":{session}}}\n"),
-        7 => {
+    }
+}
+
+/// Adds an undo, a question for the head, or a small edit, of a kind from 0 to 14.
+fn push_edit(
+    text: &mut String,
+    plan: &Plan,
+    random: &mut Random,
+    session: u32,
+    stage: u32,
+    kind: u32,
+) -> Result<(), AllocError> {
+    match kind {
+        0 => write!(text, "{{\"do\":\"undo\",\"session\":{session}}}\n"),
+        1 => write!(text, "{{\"do\":\"head\",\"session\":{session}}}\n"),
+        2 => {
             push_about(text, plan, "pinResult", session, stage)?;
             write!(text, ",\"result\":{{\"value\":{}}}}}\n", random.below(1000))
         }
-        8 => {
+        3 => {
             push_about(text, plan, "pinResult", session, stage)?;
             text.push_str(",\"result\":{\"wrapped\":\"java.util.concurrent.TimeoutException\"}}\n")
         }
-        9 => {
+        4 => {
             push_about(text, plan, "pinMoment", session, stage)?;
             write!(text, ",\"at\":{}}}\n", random.below(100_000))
         }
@@ -94,8 +120,27 @@ fn push_step(text: &mut String, plan: &Plan, random: &mut Random) -> Result<(), 
     }
 }
 
+/// Adds a step.
+fn push_step(
+    text: &mut String,
+    plan: &Plan,
+    random: &mut Random,
+    steps: Steps,
+) -> Result<(), AllocError> {
+    let session = 1 + random.below(SESSIONS);
+    let stage = late_stage(plan, random);
+    let kind = match steps {
+        Steps::WithReports => random.below(20),
+        Steps::EditsAlone => 5 + random.below(15),
+    };
+    match kind.checked_sub(5) {
+        None => push_asked(text, plan, session, stage, kind),
+        Some(edit) => push_edit(text, plan, random, session, stage, edit),
+    }
+}
+
 /// The steps that open the sessions.
-fn opened(alloc: Global) -> Result<String, AllocError> {
+pub(crate) fn opened(alloc: Global) -> Result<String, AllocError> {
     let mut text = String::new(alloc);
     for session in 0..SESSIONS {
         write!(
@@ -107,12 +152,25 @@ fn opened(alloc: Global) -> Result<String, AllocError> {
     Ok(text)
 }
 
-/// A script of small edits and their reports.
-pub(crate) fn small_edits(alloc: Global, plan: &Plan, steps: u32) -> Result<String, AllocError> {
+/// A script of so many small edits, with their reports among them, or alone and a report of all stages for each session.
+pub(crate) fn small_edits(
+    alloc: Global,
+    plan: &Plan,
+    steps: Steps,
+    count: u32,
+) -> Result<String, AllocError> {
     let mut random = Random::new(plan.seed ^ 0x5eed);
     let mut text = opened(alloc)?;
-    for _ in 0..steps {
-        push_step(&mut text, plan, &mut random)?;
+    for _ in 0..count {
+        push_step(&mut text, plan, &mut random, steps)?;
+    }
+    if steps == Steps::EditsAlone {
+        for session in 1..=SESSIONS {
+            write!(
+                text,
+                "{{\"do\":\"report\",\"session\":{session},\"what\":\"all\"}}\n"
+            )?;
+        }
     }
     Ok(text)
 }
