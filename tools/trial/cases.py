@@ -46,6 +46,13 @@ def step(do, **members):
 OPEN = step("open", session=1, version=0)
 
 
+# What output is written to that takes none, and what is said of it: nothing where nobody reads any more.
+UNWRITTEN = [
+    ("a full standard output", "full", r"\Awhatif: standard output: No space left on device\n\Z"),
+    ("a closed standard output", "closed", r"\Awhatif: standard output: Bad file descriptor\n\Z"),
+    ("a pipe that nobody reads", "gone", r"\A\Z"),
+]
+
 # The command line.
 COMMAND_LINES = [
     Case("help is printed", ["--help"], re.compile(rb"(?s).*report.*serve.*")),
@@ -65,10 +72,16 @@ COMMAND_LINES = [
     Case("a subcommand that is no text", [b"\xff\xfe"], "", 2, err=r"\S"),
     Case("a file's name that is no text", ["report", b"r\xff.json"], "", 2, err=r"\S"),
     Case("the command line is looked at before the file", ["serve", "absent", "more"], "", 2, err=r"\S"),
-    Case("help on a full standard output", ["--help"], "", 3, stdout="full"),
-    Case("help on a closed standard output", ["--help"], "", 3, stdout="closed"),
-    Case("help on a pipe that nobody reads", ["--help"], "", 3, stdout="gone"),
-    Case("a wrong word on a closed standard error", ["nonsense"], "", (2, 3), shell="exec 2>&-;"),
+    *[
+        Case(f"{name} on {told}", words, "", 3, err=err, stdout=stdout)
+        for name, words in (("help", ["--help"]), ("the version", ["--version"]), ("help of report", ["report", "--help"]))
+        for told, stdout, err in UNWRITTEN
+    ],
+    *[
+        Case(f"{name} on {told} error", words, "", 2, shell=f"exec 2>{where};")
+        for name, words in (("a wrong word", ["nonsense"]), ("a subcommand that is no text", [b"\xff\xfe"]))
+        for told, where in (("a closed standard", "&-"), ("a full standard", "/dev/full"))
+    ],
     Case("a file's name after --", ["report", "--", "r.json"], FIRST_RUN),
 ]
 
@@ -87,22 +100,28 @@ FILES = [
     Case("report of a file that opens and can't be read", ["report", "/proc/self/mem"], NO_READ, 3),
     Case("report of a closed standard input", ["report"], NO_READ, 3, stdin=CLOSED),
     Case("report of a folder on standard input", ["report"], NO_READ, 3, stdin=File(".")),
-    Case("report on a full standard output", ["report", "r.json"], "", 3, stdout="full"),
-    Case("report on a closed standard output", ["report", "r.json"], "", 3, stdout="closed"),
-    Case("report on a pipe that nobody reads", ["report", "r.json"], "", 3, stdout="gone"),
-    Case("a refused recording on a full standard output", ["report"], "", 3, stdout="full"),
-    Case("a read fault on a closed standard output", ["report", "absent"], "", 3, stdout="closed"),
+    *[
+        Case(f"{words[0]} on {told}", words, "", 3, err=err, stdout=stdout, files={"s": OPEN, "warned": R.replace("{", '{"stage":1,', 1)})
+        for words in (["report", "r.json"], ["explain", "r.json", "a"], ["sweep", "r.json", "b"], ["draw", "r.json"], ["check", "warned"], ["export", "r.json", "s"])
+        for told, stdout, err in UNWRITTEN
+    ],
+    Case("report of many stages on a pipe that nobody reads", ["report"], "", 3, err=r"\A\Z", stdout="gone", stdin=lambda: recording(*(stage("manual", name=f"m{it}") for it in range(5000)))),
+    Case("a refused recording on a full standard output", ["report"], "", 3, err=r"\Awhatif: standard input: there are no bytes[^\n]*\nwhatif: standard output: No space left on device\n\Z", stdout="full"),
+    Case("a refused recording on a full standard output, quietly", ["report", "--quiet"], "", 3, err=r"\A\Z", stdout="full"),
+    Case("a refused recording on a pipe that nobody reads", ["report"], "", 3, err=r"\Awhatif: standard input: there are no bytes[^\n]*\n\Z", stdout="gone"),
+    Case("a read fault on a closed standard output", ["report", "absent"], "", 3, err=r"\Awhatif: absent: No such file or directory\nwhatif: standard output: Bad file descriptor\n\Z", stdout="closed"),
     Case("serve of no file", ["serve", "absent"], NO_READ, 3),
     Case("serve of a folder", ["serve", "folder"], NO_READ, 3, files={"folder": None}),
     Case("serve of a file that may not be read", ["serve", "shut"], NO_READ, 3, files={"shut": Shut(R)}),
-    Case("serve of a closed standard input", ["serve", "r.json"], NO_READ, 3, stdin=CLOSED),
-    Case("serve of a folder on standard input", ["serve", "r.json"], NO_READ, 3, stdin=File(".")),
+    Case("serve of a closed standard input", ["serve", "r.json"], NO_READ, 3, err=r"\Awhatif: standard input: Bad file descriptor\n\Z", stdin=CLOSED),
+    Case("serve of a folder on standard input", ["serve", "r.json"], NO_READ, 3, err=r"\Awhatif: standard input: Is a directory\n\Z", stdin=File(".")),
+    Case("serve of a folder on standard input, quietly", ["serve", "--quiet", "r.json"], NO_READ, 3, err=r"\A\Z", stdin=File(".")),
+    Case("export of a folder as a script", ["export", "r.json", "folder"], NO_READ, 3, err=r"\Awhatif: folder: Is a directory\n\Z", files={"folder": None}),
+    Case("export of no script", ["export", "r.json", "absent"], NO_READ, 3, err=r"\Awhatif: absent: No such file or directory\n\Z"),
     Case("serve refuses the recording before it reads a step", ["serve", "bad"], "refused 70 JSON\n", 1, stdin=CLOSED, files={"bad": "["}),
     Case("serve of no step", ["serve", "r.json"], ""),
     Case("serve of no step writes nothing", ["serve", "r.json"], "", stdout="full"),
-    Case("serve on a full standard output", ["serve", "r.json"], "", 3, stdin="{}\n", stdout="full"),
-    Case("serve on a closed standard output", ["serve", "r.json"], "", 3, stdin="{}\n", stdout="closed"),
-    Case("serve on a pipe that nobody reads", ["serve", "r.json"], "", 3, stdin="{}\n", stdout="gone"),
+    *[Case(f"serve on {told}", ["serve", "r.json"], "", 3, err=err, stdin=lines(OPEN), stdout=stdout) for told, stdout, err in UNWRITTEN],
     Case("a script whose steps are all refused is done", ["serve", "r.json"], "refused 71 Shape do\n", stdin="{}"),
 ]
 
@@ -478,13 +497,12 @@ MANY = [
     Case("many: a name that is no text", ["many", "r.json", b"\xff"], "", 2, err=r"\S"),
     Case("many: no recording", ["many", "absent", "s"], NO_READ, 3, files={"s": ""}),
     Case("many: the recording before the scripts", ["many", "bad", "absent"], "refused 70 JSON\n", 1, files={"bad": "["}),
-    Case("many: no such script", ["many", "r.json", "s", "absent"], NO_READ, 3, files={"s": SESSION_1}),
+    Case("many: no such script", ["many", "r.json", "s", "absent"], NO_READ, 3, err=r"\Awhatif: absent: No such file or directory\n\Z", files={"s": SESSION_1}),
     Case("many: a script that may not be read", ["many", "r.json", "shut"], NO_READ, 3, files={"shut": Shut("{}")}),
-    Case("many: a script that opens and can't be read", ["many", "r.json", "s", "/proc/self/mem"], NO_READ, 3, files={"s": "{}"}),
-    Case("many: a folder as a script", ["many", "r.json", "folder"], NO_READ, 3, files={"folder": None}),
-    Case("many: on a full standard output", ["many", "r.json", "s"], "", 3, stdout="full", files={"s": "{}"}),
-    Case("many: on a closed standard output", ["many", "r.json", "s"], "", 3, stdout="closed", files={"s": "{}"}),
-    Case("many: on a pipe that nobody reads", ["many", "r.json", "s"], "", 3, stdout="gone", files={"s": "{}"}),
+    Case("many: a script that opens and can't be read", ["many", "r.json", "s", "/proc/self/mem"], NO_READ, 3, err=r"\Awhatif: /proc/self/mem: Input/output error\n\Z", files={"s": "{}"}),
+    Case("many: a folder as a script", ["many", "r.json", "s", "folder", "s"], NO_READ, 3, err=r"\Awhatif: folder: Is a directory\n\Z", files={"folder": None, "s": "{}"}),
+    Case("many: a folder as a script, quietly", ["many", "--quiet", "r.json", "folder"], NO_READ, 3, err=r"\A\Z", files={"folder": None}),
+    *[Case(f"many: on {told}", ["many", "r.json", "s"], "", 3, err=err, stdout=stdout, files={"s": OPEN}) for told, stdout, err in UNWRITTEN],
     *[
         Case(
             f"many: no thread can be started, {it} workers",

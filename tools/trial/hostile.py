@@ -237,9 +237,12 @@ NEVER = [
 
 
 def long_cases():
+    def told(script):
+        return rf"\Awhatif: {script}: it has more than 1073741823 bytes\n\Z"
+
     return [
-        Case("many: a script without an end", ["many", "r.json", "/dev/zero"], NO_READ, 3, shell="ulimit -v 131072;", seconds=120),
-        Case("many: a script of 2^30 bytes", ["many", "r.json", "s"], NO_READ, 3, files={"s": Sparse(MOST_SCRIPT)}, shell="ulimit -v 131072;", seconds=120),
+        Case("many: a script without an end", ["many", "r.json", "/dev/zero"], NO_READ, 3, err=told("/dev/zero"), shell="ulimit -v 131072;", seconds=120),
+        Case("many: a script of 2^30 bytes", ["many", "r.json", "s"], NO_READ, 3, err=told("s"), files={"s": Sparse(MOST_SCRIPT)}, shell="ulimit -v 131072;", seconds=120),
         Case("many: a script of 2^30 - 1 bytes", ["many", "r.json", "s"], lines("script 1") + TOO_LONG + lines("log 0"), files={"s": Sparse(MOST_SCRIPT - 1)}, shell="ulimit -v 131072;", seconds=120),
     ]
 

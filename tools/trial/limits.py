@@ -282,7 +282,7 @@ def long_cases():
     most_refused = re.compile(rb"(refused 70 JSON\n){%d,%d}refused 41 ReadFault\n" % (ALL_LINES - 17, ALL_LINES))
     serve = ["serve", "r.json"]
     return [
-        Case("limit: a script of 2^30 bytes", serve, fault, 3, stdin=File("script"), files={"script": Sparse(MOST_SCRIPT)}, shell=constant, seconds=120),
+        Case("limit: a script of 2^30 bytes", serve, fault, 3, err=r"(?m)^whatif: standard input: it has more than 1073741823 bytes$", stdin=File("script"), files={"script": Sparse(MOST_SCRIPT)}, shell=constant, seconds=120),
         Case("limit: a script of 2^30 - 1 bytes", serve, TOO_LONG, stdin=File("script"), files={"script": Sparse(MOST_SCRIPT - 1)}, shell=constant, seconds=120),
         Case("limit: a line that never ends", serve, fault, 3, stdin=File("/dev/zero"), shell=constant, seconds=120),
         Case("limit: lines of 2^30 - 1 bytes together", serve, "refused 70 JSON\n" * ALL_LINES, stdin=Pieces(lambda: lines_of_blanks(BLANKS[:-1])), shell=constant, seconds=240),

@@ -1,4 +1,4 @@
-"""Runs of the program with too little address space."""
+"""Runs of the program with too little address space, and with little that is enough."""
 import concurrent.futures
 import dataclasses
 import shlex
@@ -39,6 +39,17 @@ COMMANDS = [
     Case("a word too many of 60,000 letters", ["report", *["y" * 60_000] * 5], "", 2),
     Case("many", ["many", "r.json", "s"], lines("script 1") + ANSWERS + lines("log 3"), files={"r.json": R, "s": lines(*STEPS)}),
 ]
+
+# A recording of 16 MB, most of which is labels, and what has to be enough for it, in kilobytes of address space: what is asked for goes
+# by what a text has, and not by its length alone, so that more room is never too little.
+LABELLED_STAGES = 4_000
+LABELLED = Case(
+    "report of 4,000 stages with labels of 4,000 bytes",
+    ["report", "labelled"],
+    chain_report(LABELLED_STAGES),
+    files={"labelled": lambda: chain_of(LABELLED_STAGES).replace('"op"', f'"x-label": "{"y" * 4_000}", "op"')},
+)
+ENOUGH = range(60_000, 160_000, 4_000)
 
 
 def under(program, case, kilobytes, name="LANG=C.UTF-8"):
@@ -88,8 +99,20 @@ def sweep(program, case, steps):
     return "", met
 
 
+def refused_in(program, case, limits):
+    """The first complaint of the case under one of these limits, each of which is enough; and the refusals that came."""
+    met = set()
+    for kilobytes in limits:
+        answer = under(program, case, kilobytes)
+        met |= refusals(answer.out)
+        if essence(answer) != (case.status, case.out.encode(), b""):
+            return f"with {kilobytes} KB of address space came {answer.status} and {shown(answer.out)}; standard error: {shown(answer.err)}", met
+    return "", met
+
+
 def memory(program, has_many, steps=30):
     """Each command's name, its first complaint or nothing, and the refusals that came."""
+    yield f"little address space: {LABELLED.name}", *refused_in(program, LABELLED, ENOUGH)
     tried = [it for it in COMMANDS if has_many or it.words[0] != "many"]
     with concurrent.futures.ThreadPoolExecutor(LANES) as lanes:
         for case, (said, met) in zip(tried, lanes.map(lambda it: sweep(program, it, steps), tried)):

@@ -35,6 +35,11 @@ def begins(text):
     return r"(?m)^" + re.escape(text)
 
 
+def told_by(text):
+    """A pattern of the one line of standard error, which begins so."""
+    return r"\A" + re.escape(text) + r"[^\n]*\n\Z"
+
+
 def wrong(name, old, new, out, err, status=1):
     """A report of the checkout with one mistake."""
     assert CHECKOUT.count(old) == 1, old
@@ -53,7 +58,7 @@ def answered(name, old, new, err):
 RECORDINGS = [
     refused("source for sources", '"op": "thenApplyAsync", "sources": ["accept"]', '"op": "thenApplyAsync", "source": ["accept"]', "13 Arity at 1",
             told('whatif: warning: stage "auth": nothing reads "source"; did you mean "sources"?',
-                 'whatif: r.json: stage "auth" (place 1): "thenApplyAsync" takes 1 source, and none is given')),
+                 'whatif: r.json: line 5: stage "auth" (place 1): "thenApplyAsync" takes 1 source, and none is given')),
     answered("queue for queued", '"queued": 371', '"queue": 371', told('whatif: warning: stage "tax": nothing reads "queue"; did you mean "queued"?')),
     answered("end for ends", '"ends"', '"end"', told('whatif: warning: stage "inventory": nothing reads "end"; did you mean "ends"?')),
     answered("labels of an imported recording", '"form": 2,', '"form": 2, "trace": "7a", "unit": "us", "start": "0",', r"\A\Z"),
@@ -62,39 +67,39 @@ RECORDINGS = [
     answered("Form for form", '"form"', '"Form"', begins('whatif: warning: the recording: nothing reads "Form"; did you mean "form"?')),
     answered("queued and runs in form 1", '"form": 2', '"form": 1',
              told('whatif: warning: stage "accept" and 6 more: nothing reads "queued" in form 1, which has takes; write "form": 2 for queued and runs')),
-    refused("dely in an end", '"delay"', '"dely"', "71 Shape ends", begins('whatif: r.json: stages[6].ends[0].delay ("inventory") is missing')),
+    refused("dely in an end", '"delay"', '"dely"', "71 Shape ends", begins('whatif: r.json: line 11: stages[6].ends[0].delay ("inventory") is missing')),
     answered("a member of no end", '"delay": 200', '"delay": 200, "dely": 3',
              told('whatif: warning: stage "inventory", ends[0]: nothing reads "dely"; did you mean "delay"?')),
     answered("a member of another end", '"do": "completeOnTimeout", "delay": 200, "value": 50', '"do": "cancel", "delay": 200',
              told('whatif: warning: stage "inventory", ends[0]: nothing reads "delay" beside "cancel"')),
     answered("value beside another operation", '"name": "money"', '"value": 4, "name": "money"',
              told('whatif: warning: stage "money": nothing reads "value" beside "thenApply"')),
-    refused("nam for name", '"name": "tax"', '"nam": "tax"', "71 Shape name", begins('whatif: r.json: stages[3].name (after "price") is missing')),
+    refused("nam for name", '"name": "tax"', '"nam": "tax"', "71 Shape name", begins('whatif: r.json: line 7: stages[3].name (after "price") is missing')),
     refused("an operation of no CompletionStage", '"exceptionally"', '"onErrorReturn"', "71 Shape op",
-            begins('whatif: r.json: stages[7].op ("inventory-part") is "onErrorReturn" (the operations are async, ')),
+            begins('whatif: r.json: line 12: stages[7].op ("inventory-part") is "onErrorReturn" (the operations are async, ')),
     refused("thenapply for thenApply", '"thenApply", "sources": ["total"]', '"thenapply", "sources": ["total"]', "71 Shape op",
-            begins('whatif: r.json: stages[5].op ("money") is "thenapply"; did you mean "thenApply"?')),
+            begins('whatif: r.json: line 9: stages[5].op ("money") is "thenapply"; did you mean "thenApply"?')),
     refused("a comma left out", '["price"], "queued"', '["price"] "queued"', "70 JSON", told('whatif: r.json: line 7, column 66: expected "," or "}"')),
     refused("an unknown source", '["price", "tax"]', '["price", "taxes"]', "14 NoSource at 4",
-            told('whatif: r.json: stage "total" (place 4): source "taxes" is no stage; did you mean "tax"?')),
+            told('whatif: r.json: line 8: stage "total" (place 4): source "taxes" is no stage; did you mean "tax"?')),
     refused("a stage that waits for itself", '["price", "tax"]', '["price", "total"]', "19 Cycle",
-            told("whatif: r.json: these stages wait for each other: total, total")),
+            told("whatif: r.json: line 8: these stages wait for each other: total, total")),
     refused("a circle", '["price", "tax"]', '["price", "money"]', "19 Cycle",
-            r"\Awhatif: r.json: these stages wait for each other: (total, money, total|money, total, money)\n\Z"),
+            r"\Awhatif: r.json: (line 8: these stages wait for each other: total, money, total|line 9: these stages wait for each other: money, total, money)\n\Z"),
     refused("ticks with a fraction", '"queued": 412', '"queued": 0.412', "71 Shape queued",
-            told('whatif: r.json: stages[2].queued ("price") is 0.412 (it is whole ticks, from 0)')),
+            told('whatif: r.json: line 6: stages[2].queued ("price") is 0.412 (it is whole ticks, from 0)')),
     refused("takes in form 2", '"queued": 412, "runs": 38', '"takes": 450', "71 Shape takes",
-            begins('whatif: r.json: stages[2].takes ("price") is not read in form 2, which has queued and runs in place of takes')),
+            begins('whatif: r.json: line 6: stages[2].takes ("price") is not read in form 2, which has queued and runs in place of takes')),
     refused("a name that is taken", '"name": "money"', '"name": "tax"', "11 NameTaken at 5",
-            begins('whatif: r.json: stage "tax" (place 5): the stage at place 3 has this name already')),
-    refused("a bad name", '"name": "inventory-part"', '"name": "-part"', "12 BadName at 7", begins('whatif: r.json: stage "-part" (place 7): a name is 1 to 64')),
+            begins('whatif: r.json: line 9: stage "tax" (place 5): the stage at place 3 has this name already')),
+    refused("a bad name", '"name": "inventory-part"', '"name": "-part"', "12 BadName at 7", begins('whatif: r.json: line 12: stage "-part" (place 7): a name is 1 to 64')),
     refused("a limit", '"runs": 300', '"runs": 1099511627777', "15 Limit at 6",
-            begins('whatif: r.json: stage "inventory" (place 6): runs is 1099511627777, and at most 1099511627776 is allowed')),
+            begins('whatif: r.json: line 10: stage "inventory" (place 6): runs is 1099511627777, and at most 1099511627776 is allowed')),
     refused("an end before the stage is created", '"name": "inventory",', '"name": "inventory", "created": 94,', "16 EndBeforeCreated at 6",
-            begins('whatif: r.json: stage "inventory" (place 6): ends[0] is at 93, before the stage is created at 94')),
-    refused("an action missing", ', "action": -1', "", "13 Arity at 7", begins('whatif: r.json: stage "inventory-part" (place 7): "exceptionally" needs an action')),
-    refused("a word that begins no expression", '["div", ', '["divide", ', "71 Shape action", begins('whatif: r.json: stages[3].action ("tax") is "divide"')),
-    refused("a form that is none", '"form": 2', '"form": 3', "71 Shape form", begins("whatif: r.json: form is 3 (the form is 1 or 2)")),
+            begins('whatif: r.json: line 10: stage "inventory" (place 6): ends[0] is at 93, before the stage is created at 94')),
+    refused("an action missing", ', "action": -1', "", "13 Arity at 7", begins('whatif: r.json: line 12: stage "inventory-part" (place 7): "exceptionally" needs an action')),
+    refused("a word that begins no expression", '["div", ', '["divide", ', "71 Shape action", begins('whatif: r.json: line 7: stages[3].action ("tax") is "divide"')),
+    refused("a form that is none", '"form": 2', '"form": 3', "71 Shape form", begins("whatif: r.json: line 2: form is 3 (the form is 1 or 2)")),
 ]
 
 BYTES = [
@@ -158,15 +163,30 @@ ALONE = [
     (stage("async", action=["throw", 1]), "71 Shape action", 'stages[0].action ("a") is 1 (it is the name of an exception'),
     (3, "71 Shape stages", "stages[0] is 3 (a stage is an object)"),
 ]
-ALONE_CASES = [Case(f"mistake: {err[:60]}", ["report"], f"refused {out}\n", 1, err=begins(f"whatif: standard input: {err}"), stdin=recording(it)) for it, out, err in ALONE]
+ALONE_CASES = [Case(f"mistake: {err[:60]}", ["report"], f"refused {out}\n", 1, err=begins(f"whatif: standard input: line 1: {err}"), stdin=recording(it)) for it, out, err in ALONE]
 
 # Bytes that are no JSON, and where.
 NO_JSON = [
     ("{", 'line 1, column 2: expected a name in quotes or "}", and the text ends'),
     ('{"a"', 'line 1, column 5: expected ":", and the text ends'),
     ('{"a":1 "b"', 'line 1, column 8: expected "," or "}"'),
-    ('{"a":1,}', "line 1, column 8: expected a name in quotes"),
-    ("[1,]", "line 1, column 4: expected a value"),
+    ('{"a":1,}', 'line 1, column 7: a comma before "}": JSON has none'),
+    ("[1,]", 'line 1, column 3: a comma before "]": JSON has none'),
+    ('{"a":\n[1,\n 2 ,\n\n]}', 'line 3, column 4: a comma before "]"'),
+    ("[,]", 'line 1, column 2: expected a value or "]"'),
+    ('{"a":]', "line 1, column 6: expected a value"),
+    ("// a\n{}", "line 1, column 1: a comment: JSON has none"),
+    ('{"a":1, /* b */ "b":2}', "line 1, column 9: a comment: JSON has none"),
+    ('{"a":1 # b\n}', "line 1, column 8: a comment: JSON has none"),
+    ("{'a':1}", "line 1, column 2: a single quote: JSON has names and texts in double quotes"),
+    ('{"a":`b`}', "line 1, column 6: a single quote"),
+    ("{\u201ca\u201d:1}", "line 1, column 2: a curly quote: JSON has names and texts in straight double quotes"),
+    ("[\u2018a\u2019]", "line 1, column 2: a curly quote"),
+    ('["\u201ca\u201d", NaN]', "line 1, column 9: NaN or Infinity: JSON has no such number"),
+    ('{"a":Infinity}', "line 1, column 6: NaN or Infinity"),
+    ('{"a":-Infinity}', "line 1, column 6: NaN or Infinity"),
+    ('{"a":None}', "line 1, column 6: a word of another language: JSON has true, false and null"),
+    ('["#", "//", True]', "line 1, column 13: a word of another language"),
     ("[1 2]", 'line 1, column 4: expected "," or "]"'),
     ("[;]", 'line 1, column 2: expected a value or "]"'),
     ("[] []", "line 1, column 4: expected the end of the text"),
@@ -188,6 +208,79 @@ ARCHIVES = [
     Case("mistake: wrap", ["report"], "refused 71 Shape wrap\n", 1, err=r'wrap is "litteral"; did you mean "literal"\? \(the wrap mode is one of computed, literal\)', stdin=recording(wrap="litteral")),
     Case("mistake: too many bytes", ["report"], "refused 72 TooLong\n", 1, err=begins("whatif: standard input: it has more than 67108864 bytes"), stdin=lambda: b" " * (2**26 + 1), seconds=60),
 ]
+
+# Texts that name no exception, and what is said of them in an action, as in an outcome and an end.
+EXCEPTIONS = [
+    ("java.io.IOException: reset", '; the class alone is meant, "java.io.IOException" (it is the name of an exception, 1 to 128'),
+    ("java.util.concurrent.CompletionException", "; its cause is meant, which a stage holds wrapped (it is the name of an exception, 1 to 128"),
+    ("java.util.concurrent.CompletionException: java.io.IOException: reset", '; the class alone is meant, "java.io.IOException" (it is'),
+    ("java.util.concurrent.CompletionException: java.io.IOException", '; the class alone is meant, "java.io.IOException" (it is'),
+    ("a b", " (it is the name of an exception, 1 to 128"),
+    ("a b: c", " (it is the name of an exception, 1 to 128"),
+]
+WHERE = [
+    ("action", lambda it: stage("supplyAsync", action=["throw", it]), "action"),
+    ("action", lambda it: stage("exceptionally", sources=["a"], action=["if", ["causeis", it], 1, 2]), "action"),
+    ("throws", lambda it: stage("failed", throws=it), "throws"),
+    ("pinResult", lambda it: stage("manual", pinResult={"bare": it}), "pinResult.bare"),
+    ("ends", lambda it: stage("manual", ends=[{"at": 1, "do": "completeExceptionally", "throws": it}]), "ends[0].throws"),
+]
+EXCEPTION_CASES = [
+    Case(f"mistake: {text!r} in {place}", ["report"], f"refused 71 Shape {member}\n", 1, err=told_by(f'whatif: standard input: line 1: stages[0].{place} ("a") is "{text}"{said}'), stdin=recording(made(text), form=2))
+    for member, made, place in WHERE for text, said in EXCEPTIONS
+] + [
+    Case(f"mistake: no exception's name, of {words[0]}", [words[0], "r.json", *words[1:]], "refused 71 Shape action\n", 1, err=begins('whatif: r.json: line 1: stages[0].action ("a") is "java.io.IOException: reset"; the class alone is meant'),
+         files={"r.json": recording(stage("supplyAsync", action=["throw", "java.io.IOException: reset"]), form=2), "s": ""})
+    for words in (["explain", "a"], ["sweep", "a"], ["draw"], ["serve"], ["export", "s"], ["many", "s"])
+] + [
+    Case("mistake: no exception's name beside another mistake", ["check", "-"],
+         re.compile(rb'standard input: line 1: stages\[0\]\.action \("a"\) is "a b" .*\nstandard input: line 1: stage "b" \(place 1\): source "c" .*\n'), 1,
+         stdin=recording(stage("async", action=["throw", "a b"]), stage("copy", "b", sources=["c"]))),
+]
+
+# A member that stands twice, and what is said of it.
+def twice(what, old, new, told_of, **members):
+    text = recording(stage("manual", name="m", created=1, pinResult={"value": 1}, pinMoment=5, ends=[{"at": 2, "do": "cancel"}]), stage("async", runs=1, action=4), form=2, **members)
+    assert text.count(old) == 1, old
+    return what, text.replace(old, new), told_of
+
+
+TWICE = [
+    twice("runs of a stage", '"runs": 1', '"runs": 10, "runs": 99', 'stage "a": "runs" stands'),
+    twice("runs of a stage, three times", '"runs": 1', '"runs": 10, "runs": 99, "runs": 1', 'stage "a": "runs" stands'),
+    twice("runs of a stage, with an escape", '"runs": 1', '"runs": 10, "r\\u0075ns": 99', 'stage "a": "runs" stands'),
+    *(twice(f"{it} of a stage", f'"{it}": ', f'"{it}": {value}, "{it}": ', f'stage "m": "{it}" stands')
+      for it, value in (("created", 0), ("pinResult", "null"), ("pinMoment", "null"), ("ends", "[]"))),
+    twice("the operation of a stage", '"op": "async"', '"op": "manual", "op": "async"', 'stage "a": "op" stands'),
+    twice("the name of a stage", '"name": "a"', '"name": "b", "name": "a"', 'stage "a": "name" stands'),
+    twice("the value of an outcome", '"value": 1', '"value": 3, "value": 1', 'stage "m", pinResult: "value" stands'),
+    twice("what an end does", '"do": "cancel"', '"do": "complete", "do": "cancel"', 'stage "m", ends[0]: "do" stands'),
+    twice("the form", '"form": 2', '"form": 1, "form": 2', 'the recording: "form" stands'),
+    twice("the stages", '"stages": ', '"stages": [{"name":"a","op":"manual","op":"manual"}], "stages": ', 'the recording: "stages" stands'),
+]
+SAID_TWICE = " more than once, and the last one counts"
+TWICE_CASES = [
+    case for what, text, said in TWICE for case in (
+        Case(f"mistake: twice {what}", ["report"], re.compile(rb"version 0 parent - (.*\n)*"), err=told(f"whatif: warning: {said}{SAID_TWICE}"), stdin=text),
+        Case(f"mistake: twice {what}, of check", ["check", "-"], f"standard input: warning: {said}{SAID_TWICE}\n", err=r"\A\Z", stdin=text),
+        Case(f"mistake: twice {what}, strictly", ["check", "--strict", "-"], None, 1, stdin=text))
+] + [Case("mistake: labels twice", ["check", "--strict", "-"], "", stdin='{"x-a":1,"x-a":2,"unit":"ms","unit":"us","stages":[{"name":"a","op":"manual","_b":1,"_b":2,"span":"1","span":"2"}]}')]
+
+# Traces in place of recordings.
+OTLP = '{"resourceSpans":[]}'
+ZIPKIN = '[{"traceId":"7a","id":"7b","name":"get","timestamp":1,"duration":2}]'
+IS_TRACE = "it looks like a trace: whatif import makes a recording of it"
+IS_ZIPKIN = "it looks like a trace in Zipkin's JSON: whatif import makes a recording of one in OTLP/JSON or Jaeger's JSON, so export it in one of these"
+TRACES = [
+    ("OTLP", OTLP, "71 Shape stages", IS_TRACE), ("OTLP by lines", f"{OTLP}\n{OTLP}\n", "70 JSON", IS_TRACE), ("Jaeger's", '{"data":[]}', "71 Shape stages", IS_TRACE),
+    ("Zipkin's", ZIPKIN, "71 Shape recording", IS_ZIPKIN), ("Zipkin's, in lists", f"[{ZIPKIN}]", "71 Shape recording", IS_ZIPKIN),
+]
+TRACE_CASES = [
+    case for what, text, out, said in TRACES for case in (
+        *(Case(f"mistake: a trace, {what}, of {words[0]}", [words[0], "t.json", *words[1:]], f"refused {out}\n", 1, err=begins(f"whatif: t.json: {said}"), files={"t.json": text, "s": ""})
+          for words in (["report"], ["explain", "a"], ["sweep", "a"], ["draw"], ["serve"], ["export", "s"])),
+        Case(f"mistake: a trace, {what}, of check", ["check", "t.json"], f"t.json: {said}\n", 1, err=r"\A\Z", files={"t.json": text}))
+] + [Case("mistake: a trace, Zipkin's, of import", ["import", "t.json"], "refused 80 NotATrace\n", 1, err=told(f"whatif: t.json: {IS_ZIPKIN}"), files={"t.json": ZIPKIN})]
 
 UNREAD = CHECKOUT.replace('"queued": 371', '"queue": 371')
 MANY_UNREAD = recording(*(stage("manual", name=f"m{it}", note=1) for it in range(50)))
@@ -219,9 +312,9 @@ CHECKS = [
     Case("check of a warning", ["check", "r.json"], 'r.json: warning: stage "tax": nothing reads "queue"; did you mean "queued"?\n', files={"r.json": UNREAD}),
     Case("check --strict of a warning", ["check", "--strict", "r.json"], 'r.json: warning: stage "tax": nothing reads "queue"; did you mean "queued"?\n', 1, files={"r.json": UNREAD}),
     Case("check tells all", ["check", "r.json"],
-         re.compile(rb'r.json: stages\[3\].queued \("tax"\) is 0.5 .*\nr.json: stage "total" \(place 4\): source "taxes" .*\nr.json: stages\[7\].op .*\nr.json: warning: .*"source".*\n'), 1,
+         re.compile(rb'r.json: line 7: stages\[3\].queued \("tax"\) is 0.5 .*\nr.json: line 8: stage "total" \(place 4\): source "taxes" .*\nr.json: line 12: stages\[7\].op .*\nr.json: warning: .*"source".*\n'), 1,
          files={"r.json": CHECKOUT.replace("371", "0.5").replace('"tax"]', '"taxes"]').replace('"exceptionally"', '"sometimes"').replace('"sources": ["total"]', '"source": ["total"], "sources": ["total"]')}),
-    Case("check of a circle", ["check", "r.json"], "r.json: these stages wait for each other: total, total\n", 1, files={"r.json": CHECKOUT.replace('["price", "tax"]', '["price", "total"]')}),
+    Case("check of a circle", ["check", "r.json"], "r.json: line 8: these stages wait for each other: total, total\n", 1, files={"r.json": CHECKOUT.replace('["price", "tax"]', '["price", "total"]')}),
     Case("check of no JSON", ["check", "-"], 'standard input: line 1, column 2: expected a name in quotes or "}"\n', 1, stdin="{1}"),
     Case("check of no file", ["check", "absent"], "refused 41 ReadFault\n", 3, err="No such file"),
     Case("check without a file", ["check"], "", 2, err="FILE"),
@@ -317,7 +410,72 @@ STEPS = [
            re.compile(rb"opened 1 at 0\ncommitted 1\nrefused manual rank 0 pending\n(.*\n){4}"), r"\A\Z", words=["--strict"]),
     Case("step: none is read of a refused recording", ["serve", "r.json"], "refused 71 Shape stages\n", 1, err=r"\Awhatif: r.json: stages is missing[^\n]*\nwhatif: the recording is refused, so no step was read\n\Z",
          files={"r.json": "{}"}, stdin=lines(OPEN)),
+    *(served(f"a member twice, {text}", [OPEN, text], lines("opened 1 at 0", "committed 1"), told(f"whatif: line 2: warning: {said} more than once, and the last one counts")) for text, said in (
+        ('{"do":"setTakes","session":1,"stage":"a","takes":1,"takes":2}', 'stage "a": "takes" stands'),
+        ('{"do":"remove","do":"setTakes","session":1,"stage":"a","takes":2}', 'stage "a": "do" stands'),
+        ('{"do":"pinResult","session":1,"stage":"a","result":{"value":1,"value":2}}', 'stage "a", result: "value" stands'),
+        ('{"do":"setEnds","session":1,"stage":"a","ends":[{"at":1,"at":2,"do":"cancel"}]}', 'stage "a", ends[0]: "at" stands'),
+        ('{"do":"add","session":1,"new":{"name":"n","name":"m","op":"manual"}}', 'stage "m": "name" stands'),
+        ('{"do":"edits","session":1,"edits":[{"do":"remove","stage":"b"},{"do":"setTakes","stage":"a","takes":1,"takes":2}]}', 'stage "a": "takes" stands'),
+        ('{"do":"edits","session":1,"edits":[{"do":"add","new":{"name":"m","op":"manual","op":"manual"}}]}', 'stage "m": "op" stands'))),
+    served("a comment", [OPEN, '{"do":"head", // a\t"session":1}'], lines("opened 1 at 0", "refused 70 JSON"), begins("whatif: line 2: column 15: a comment: JSON has none")),
     Case("step: warnings of the recording, strictly", ["serve", "--strict", "r.json"], "", 1, err=begins("whatif: warning: "), files={"r.json": UNREAD}, stdin=lines(OPEN)),
+]
+
+
+def many(name, scripts, out, err, status=0, words=(), **how):
+    """Scripts by `many`; each is the text of a file."""
+    return Case(f"many: {name}", ["many", *words, "r.json", *scripts], out, status, err=err, files={"r.json": R, **scripts}, **how)
+
+
+def reported(what, **members):
+    return step("report", version=0, what=what, **members)
+
+
+NO_SESSION = step("head", session=7)
+TWO = {"one": lines(OPEN, "", NO_SESSION), "two\nlines": lines("{}}")}
+# Reports of several lines, of stages that have the words of answers for names, and a refused step after each.
+WORDS = [stage("manual", name=it) for it in ("refused", "script", "log", "blame", "async", "rank")]
+REPORTS = [reported("all"), reported("times"), reported("path", stage="refused"), reported("sweep", stage="script"), reported("recording"), reported("changes"), reported("changes", against=0),
+           reported("drift"), *(reported(what, stage=it) for what in ("one", "blame") for it in ("refused", "script", "blame", "log")), r'{"do":"\u0072eport","version":0,"what":"one","stage":"refused"}']
+AFTER_EACH = lines(*(it for report in REPORTS for it in (report, NO_SESSION)))
+SEVERAL = [
+    many("a refused step of each script is explained", TWO, lines("script 1", "opened 1 at 0", "refused 51 NoSession", "script 2", "refused 70 JSON", "log 2"),
+         told("whatif: one: line 3: session 7 is not open: open it first", r"whatif: two\u000alines: line 1: column 3: expected the end of the text")),
+    many("as JSON", TWO, re.compile(rb'\{"script":1\}\n.*\n.*"refused"\}\n\{"script":2\}\n.*"refused"\}\n\{"log":2\}\n'),
+         told("whatif: one: line 3: session 7 is not open: open it first", r"whatif: two\u000alines: line 1: column 3: expected the end of the text"), words=["--format", "json"]),
+    many("--quiet", TWO, None, r"\A\Z", words=["--quiet"]),
+    many("--strict", TWO, lines("script 1", "opened 1 at 0", "refused 51 NoSession", "script 2", "refused 70 JSON", "log 2"), begins("whatif: one: line 3: session 7"), 5, words=["--strict"]),
+    many("--strict with --quiet", TWO, None, r"\A\Z", 5, words=["--strict", "--quiet"]),
+    many("--strict as JSON", TWO, None, r"\A\Z", 5, words=["--strict", "--quiet", "--format", "json"]),
+    many("--strict where none is refused", {"one": lines(OPEN), "two": ""}, lines("script 1", "opened 1 at 0", "script 2", "log 1"), r"\A\Z", words=["--strict"]),
+    many("a member that nothing reads", {"one": lines(OPEN, step("setTakes", session=1, stage="a", takes=3, tick=1))}, None, begins('whatif: one: line 2: warning: stage "a": nothing reads "tick"')),
+    many("a name that another script has added", {"one": lines(OPEN, step("add", session=1, new=stage("manual", name="total"))), "two": lines(step("open", session=2, version=0), step("remove", session=2, stage="totl"))},
+         None, begins('whatif: two: line 2: stage "totl": no stage has the name "totl"; did you mean "total"?')),
+    many("a long line", {"one": lines(" " * 70_000, NO_SESSION)}, None, told("whatif: one: line 1: the step has more than 65536 bytes", "whatif: one: line 2: session 7 is not open: open it first")),
+    many("lines that end in CR LF, and the last one in nothing", {"one": f"{OPEN}\r\n\r\n{NO_SESSION}"}, None, told("whatif: one: line 3: session 7 is not open: open it first")),
+    Case("many: a script that comes by a pipe", ["many", "r.json", "/dev/stdin"], lines("script 1", "refused 51 NoSession", "log 1"), err=told("whatif: /dev/stdin: line 1: session 7 is not open: open it first"), stdin=lines(NO_SESSION), files={"r.json": R}),
+    many("a thousand are explained", {"one": lines(*[NO_SESSION] * 600), "two": lines(*[NO_SESSION] * 600)}, None,
+         r"(?s)\A(whatif: one: line \d+: session 7 [^\n]*\n){600}(whatif: two: line \d+: session 7 [^\n]*\n){400}whatif: two: line 400: from here on no step is explained[^\n]*\n\Z"),
+    many("more than is kept of a script", {"one": lambda: "\n" * 2**24 + lines(NO_SESSION, NO_SESSION)}, lines("script 1", "refused 51 NoSession", "refused 51 NoSession", "log 2"),
+         told("whatif: one: line 16777217: from here on no step is explained, as no more of the script was kept"), seconds=60),
+    many("more than is kept of a script, strictly", {"one": lambda: "\n" * 2**24 + lines(NO_SESSION)}, None, r"line 16777217", 5, words=["--strict"], seconds=60),
+    *(
+        Case(f"many: a refused step after each report, {form}", ["many", "--format", form, "words", "s"], None,
+             err=told(*(f"whatif: s: line {2 * it + 2}: session 7 is not open: open it first" for it in range(len(REPORTS)))), files={"words": recording(*WORDS), "s": AFTER_EACH})
+        for form in ("text", "json")
+    ),
+]
+
+# The name of a file that has what would not be seen, or would move what stands beside it.
+NAME = "a\nb\x1b[31m\\"
+SHOWN_NAME = r"a\u000ab\u001b[31m\\"
+NAMES = [
+    Case("name: a file that isn't there", ["report", NAME], "refused 41 ReadFault\n", 3, err=told(f"whatif: {SHOWN_NAME}: No such file or directory")),
+    Case("name: a mistaken recording", ["report", NAME], "refused 71 Shape stages\n", 1, err=begins(f"whatif: {SHOWN_NAME}: stages is missing"), files={NAME: "{}"}),
+    Case("name: check", ["check", NAME], re.compile(rb"a\\u000ab\\u001b\[31m\\\\: stages is missing.*\n"), 1, files={NAME: "{}"}),
+    Case("name: a script of export", ["export", "r.json", NAME], "refused 41 ReadFault\n", 3, err=told(f"whatif: {SHOWN_NAME}: Is a directory"), files={"r.json": R, NAME: None}),
+    Case("name: a script of many", ["many", "r.json", NAME], "refused 41 ReadFault\n", 3, err=told(f"whatif: {SHOWN_NAME}: Is a directory"), files={"r.json": R, NAME: None}),
 ]
 
 
@@ -363,4 +521,4 @@ def answered_steps():
 
 def mistakes():
     """The cases of what people are told."""
-    return [*RECORDINGS, *ALONE_CASES, *NO_JSON_CASES, *ARCHIVES, *BYTES, *OPTIONS, *CHECKS, *STEPS, *answered_steps()]
+    return [*RECORDINGS, *ALONE_CASES, *EXCEPTION_CASES, *TWICE_CASES, *TRACE_CASES, *NO_JSON_CASES, *ARCHIVES, *BYTES, *OPTIONS, *CHECKS, *STEPS, *SEVERAL, *NAMES, *answered_steps()]

@@ -3,12 +3,14 @@ import json
 import re
 import xml.etree.ElementTree as tree
 
+from . import courses
 from .cases import NO_READ, R, recording, stage, with_r
 from .readme import read
 from .run import CLOSED, Case, run, shown
 
 SVG = "{http://www.w3.org/2000/svg}"
 MOST_ROWS = 2_000
+SOME = 12
 NO_STAGE = "refused 10 NoStage\n"
 PENDING = recording(stage("manual"), stage("thenRun", "b", sources=["a"], action=None))
 STATE = re.compile(r"(\S+) \S+ rank (\d+) (.*)")
@@ -64,7 +66,38 @@ def mark_x(row):
     return int(circle.get("cx")) if circle is not None else int(re.match(r"M(\d+)", cross[0].get("d"))[1])
 
 
-def wrong_svg(text, meant, path):
+def wrong_words(cause, own, stage, meant):
+    """What is told of what completed a stage, and of its action, otherwise than the stage's course."""
+    name = stage["name"]
+    wanted = courses.course(stage, meant).told()
+    if own != wanted:
+        return f"{name} tells {own!r}, and not {wanted!r}"
+    wanted = courses.end_of(stage, courses.moment_of(meant[name][1]))
+    return f"{name} tells {cause!r}, and not {wanted!r}" if cause.startswith("completed by") and cause != wanted else ""
+
+
+def wrong_bars(row, stage, meant):
+    """What the bars of a row, and what it tells of its action, are otherwise than the stage's course."""
+    title = row.find(f"{SVG}title").text.split("\n")
+    name, state = title[0], meant[title[0]][1]
+    if state == "pending":
+        return ""
+    if said := wrong_words(title[3], title[4], stage, meant):
+        return said
+    came = courses.course(stage, meant)
+    bars = {it.get("class"): (float(it.get("x")), float(it.get("width"))) for it in row if it.get("class") in ("queued", "ran", "cut")}
+    wanted = {"ran", *(["queued"] if came.queued else []), *(["cut"] if came.cut_off else [])}
+    if {*bars} != wanted:
+        return f"{name} has the bars {sorted(bars)}, and not {sorted(wanted)}"
+    at = mark_x(row)
+    if came.cut_off and (bars["cut"][0] != at or bars["cut"][1] < 14):
+        return f"{name} is hatched from {bars['cut']}, and completes at {at}"
+    if came.cut_off and came.ran and abs(sum(bars["ran"]) - at) > 1:
+        return f"{name} is cut off at {at}, and runs to {sum(bars['ran'])}"
+    return ""
+
+
+def wrong_svg(text, meant, path, known=()):
     """What is wrong with a picture of a recording, or nothing."""
     root = tree.fromstring(text)
     names = {it.tag for it in root.iter()}
@@ -74,7 +107,8 @@ def wrong_svg(text, meant, path):
     if len(rows) != min(len(meant), MOST_ROWS):
         return f"{len(rows)} rows of {len(meant)} stages"
     for row in rows:
-        if said := wrong_row(row, meant):
+        name = row.find(f"{SVG}title").text.split("\n")[0]
+        if said := wrong_row(row, meant) or (wrong_bars(row, known[name], meant) if name in known else ""):
             return said
     heights = [int(row.find(f"{SVG}text").get("y")) for row in rows]
     if any(after - before < 18 for before, after in zip(heights, heights[1:])):
@@ -86,7 +120,14 @@ def wrong_svg(text, meant, path):
     return "" if on == set(path) else f"on the path are {sorted(on)}, and not {sorted(path)}"
 
 
-def wrong_events(text, meant, times, path):
+def wrong_spans(stage, spans, meant):
+    """What the spans of a completed stage's row are otherwise than the stage's course."""
+    came, completed = courses.course(stage, meant), courses.moment_of(meant[stage["name"]][1])
+    wanted = [("queued", came.triggered, came.queued)] * (came.queued > 0) + [(stage["name"], min(came.triggered + came.queued, completed), came.ran)]
+    return "" if spans == wanted else f"{stage['name']} has the spans {spans}, and not {wanted}"
+
+
+def wrong_events(text, meant, times, path, known=()):
     """What is wrong with the trace events of a recording, or nothing."""
     events = json.loads(text)
     names = {it["tid"]: it["args"]["name"] for it in events if it["name"] == "thread_name"}
@@ -94,12 +135,20 @@ def wrong_events(text, meant, times, path):
         return "the rows are not numbered from 1 on, each with a name"
     ran = {names[it["tid"]]: it for it in events if it["ph"] == "X" and it["cat"] != "queued"}
     pending = {names[it["tid"]] for it in events if it["ph"] == "i"}
+    spans = {name: [] for name in names.values()}
+    for it in events:
+        if it["ph"] == "X":
+            spans[names[it["tid"]]].append((it["name"], it["ts"], it["dur"]))
     for name in names.values():
         rank, state = meant[name]
         if (state == "pending") != (name in pending) or (name in ran) == (name in pending):
             return f"{name} is {state}, and not drawn so"
         if name in ran and not ran[name]["args"]["about"].startswith(f"{state}\nrank {rank}\n"):
             return f"{name} tells {ran[name]['args']['about']!r}"
+        if name in known and name in ran:
+            about = ran[name]["args"]["about"].split("\n")
+            if said := wrong_spans(known[name], spans[name], meant) or wrong_words(about[2], about[3], known[name], meant):
+                return said
         start = times[name][0]
         if start != "-" and name in ran and ran[name]["ts"] != int(start):
             return f"{name} started at {start}, and not at {ran[name]['ts']}"
@@ -113,13 +162,13 @@ TIMES = re.compile(r"(\S+) start (\S+) queued (\d+) runs (\d+)")
 
 def compared(program, text, name):
     """What the pictures of a recording, with the path of a stage, tell otherwise than its reports; or nothing."""
-    meant = states(program, text)
+    meant, known = states(program, text), courses.known(text)
     path = [it.split(" ")[0] for it in asked(program, text, {"what": "path", "stage": name})]
     times = {found[1]: found.groups()[1:] for found in map(TIMES.fullmatch, asked(program, text, {"what": "times"})) if found}
-    said = wrong_svg(told(program, text, "draw"), meant, []) or wrong_svg(told(program, text, "draw", "--stage", name), meant, path)
+    said = wrong_svg(told(program, text, "draw"), meant, [], known) or wrong_svg(told(program, text, "draw", "--stage", name), meant, path, known)
     few = {it: meant[it] for it in path}
     said = said or wrong_svg(told(program, text, "draw", "--what", "path", "--stage", name), few, path)
-    return said or wrong_events(told(program, text, "draw", "--format", "trace", "--stage", name), meant, times, path)
+    return said or wrong_events(told(program, text, "draw", "--format", "trace", "--stage", name), meant, times, path, known)
 
 
 def pictures(top, program):
@@ -129,6 +178,8 @@ def pictures(top, program):
         ("the late reply", late, "reply"),
         ("pending stages", PENDING, "b"),
         ("no stages", recording(), None),
+        ("what was cut off", courses.CUT, "while-it-runs"),
+        *((f"stages that are cut off at random, {seed}", courses.some(seed, 60), "s59") for seed in range(SOME)),
         ("10 stages", fan(10), "stage-9-xxxxxxxxx"),
         ("100 stages", fan(100), "stage-7-xxxxxxx"),
         ("2,000 stages", fan(2_000), "stage-40-" + "x" * 40),

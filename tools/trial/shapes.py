@@ -6,7 +6,7 @@ import json
 import os
 import re
 
-from . import cases, limits, why
+from . import cases, explained, limits, why
 from .cases import stage, step
 from .schema import Schemas
 
@@ -80,6 +80,8 @@ def recordings(top):
         yield name, given, None if wanted.startswith("version") else number_of(wanted)
     for name, _, given, _, _ in why.TOLD:
         yield name, given, None
+    for name, given, line, _ in explained.refused():
+        yield name, given, number_of(line)
     yield "65,537 stages", limits.chain_of(limits.MOST_STAGES + 1), 15
     for path in sorted(glob.glob(os.path.join(top, "examples", "*.json"))):
         yield f"examples/{os.path.basename(path)}", read(path), None
@@ -112,6 +114,7 @@ def steps(top):
         for at, (line, number) in enumerate(answered(text, answers)):
             yield f"{name}, line {at}", line, number
     yield from FURTHER_STEPS
+    yield from ((name, json.dumps(made), 71) for name, made, _, _ in explained.steps())
     for path in sorted(glob.glob(os.path.join(top, "examples", "*.script"))):
         for at, line in enumerate(read(path).splitlines()):
             yield f"examples/{os.path.basename(path)}, line {at}", line, None

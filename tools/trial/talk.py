@@ -6,7 +6,9 @@ import subprocess
 import tempfile
 
 from .cases import FIRST_RUN, R, SCRIPTS
+from .devices import SPAN
 from .run import shown
+from .why import EXPLAINED_A
 
 SECONDS = 10
 
@@ -47,13 +49,24 @@ def at_once(child, steps, answers):
     return "" if came == wanted else f"wanted {shown(wanted)} before the script ended, came {shown(came)}"
 
 
-def terminal(program):
-    """What is said where a person has named no file, who then types a recording and its end."""
+# What is typed at a terminal, by which words it is read, what is printed, and what is said to be read.
+TYPED = [
+    (["report"], R, FIRST_RUN, "recording"),
+    (["report", "-"], R, FIRST_RUN, "recording"),
+    (["explain", "-", "a"], R, EXPLAINED_A, "recording"),
+    (["check", "-"], R, "", "recording"),
+    (["import", "--quiet", "-"], SPAN, None, None),
+    (["import", "-"], SPAN, None, "trace"),
+]
+
+
+def terminal(program, words, text, wanted, what):
+    """What is said where a person has named no file, or standard input, who then types a recording or a trace and its end."""
     master, slave = pty.openpty()
-    child = subprocess.Popen([program, "report"], stdin=slave, stdout=subprocess.PIPE, stderr=subprocess.PIPE)
+    child = subprocess.Popen([program, *words], stdin=slave, stdout=subprocess.PIPE, stderr=subprocess.PIPE)
     os.close(slave)
     try:
-        os.write(master, f"{R}\n\x04".encode())
+        os.write(master, f"{text}\n\x04".encode())
         out, err = child.communicate(timeout=SECONDS)
     except subprocess.TimeoutExpired:
         return "it doesn't end"
@@ -61,16 +74,18 @@ def terminal(program):
         child.kill()
         child.wait()
         os.close(master)
-    if out.decode() != FIRST_RUN:
-        return f"wanted the report, came {shown(out)}"
-    return "" if b"whatif: the recording is read from standard input" in err else f"it doesn't say what it reads: {shown(err)}"
+    if wanted is not None and out.decode() != wanted:
+        return f"wanted {shown(wanted.encode())}, came {shown(out)}"
+    said = f"whatif: the {what} is read from standard input, to its end\n" if what else ""
+    return "" if err.decode() == said else f"wanted {said!r} in standard error, came {shown(err)}"
 
 
 def talk(program):
     """The name of each case, and its complaint or nothing."""
     yield from talked(program, "each answer goes out before the next step is waited for", conversation)
     yield from talked(program, "answers to steps of one write go out before the next is waited for", at_once)
-    yield "a report of a terminal says what it reads", terminal(program), set()
+    for words, text, wanted, what in TYPED:
+        yield f"at a terminal {' '.join(words)} says what it reads", terminal(program, words, text, wanted, what), set()
 
 
 def talked(program, name, how):

@@ -5,7 +5,8 @@
 //! toward zero. Operands are evaluated from left to right, and the first throw is the answer.
 ghost use Rattle.std.specs.Prelude.{◌≡◌, ◌≤◌, ◌↔◌, IfOk, OnOk, IsTrue};
 ghost use Rattle.act_expr.specs.Expression.{depth, nodes, cause_is, throw};
-ghost use Rattle.act_expr.specs.Forms.{tree, kind_of, kind_on, number_of, operator_of, IsMade};
+ghost use Rattle.act_expr.specs.declared.expr.Kept.TheVariants.{Nothing};
+ghost use Rattle.act_expr.specs.Forms.{tree, kept_of, kept_on, number_of, value_kept, IsMade};
 ghost use Rattle.act_expr.specs.Meaning.{meaning, on_values, on_numbers, check, fault_number};
 ghost use Rattle.act_expr.specs.Throwing.{as_answer, name_of};
 
@@ -75,7 +76,7 @@ pub enum Answer {
 /// What is thrown where an expression has no value. A name that stands in the expression is lent, since it is far larger than a
 /// value, and each operand hands this on.
 #[derive(Clone, Copy)]
-enum Thrown<'a> {
+pub enum Thrown<'a> {
     NullPointer,
     Arithmetic,
     Named(&'a ExName),
@@ -96,48 +97,69 @@ pub enum ExprFault {
 #[cycle(expr)]
 #[derive(Drop)]
 pub struct Expr {
-    form: Arc<Form>,
-    /// The number, where the form is the literal that is one, or an operator on it.
+    node: Arc<Node>,
+    /// The number, where what is kept has one; whatever owns an expression has this at hand.
     number: i64,
+    kept: Kept,
+}
+
+/// What the owners of an expression share.
+#[cycle(expr)]
+#[derive(Drop)]
+struct Node {
+    form: Form,
     /// How many nodes there are; those of a shared part count as often as it is in the tree.
     forms: u32,
     /// How deeply the forms are nested.
     levels: u16,
-    /// What the form is, if it is a literal, an argument or an operator on such. Whoever owns an expression has this at hand,
-    /// whereas the form lies in memory of its own, and to wait for that is most of the time of an evaluation.
-    kind: Kind,
-    /// The operator, where the form is one.
-    operator: Operator,
 }
 
-/// What an expression keeps of its form beside it.
+/// A literal or an argument.
 #[derive(Clone, Copy)]
-enum Kind {
-    /// The literal null.
+enum Operand {
     Null,
-    /// A literal that is a number.
+    /// The number that the expression keeps.
     Number,
-    /// The first argument.
     First,
-    /// The second argument.
     Second,
-    /// An operator on the first argument and a number.
-    FirstAndNumber,
-    /// An operator on the first argument and the second.
-    FirstAndSecond,
-    /// Any other form.
-    Other,
 }
 
-impl Kind {
-    /// What is kept of an operator on operands of these kinds: what most actions are has a kind of its own.
-    fn on(self, right: Kind) -> Kind
-        ensures { result ≡ kind_on self right }
+/// What an expression keeps of its form. Whoever owns an expression has this at hand, whereas the form lies in memory of its
+/// own, and to wait for that is most of the time of an evaluation.
+#[derive(Clone, Copy)]
+enum Kept {
+    /// The form is a literal or an argument.
+    Operand(Operand),
+    /// The form is an operator on two such, of which one at most is a number.
+    Operation(Operator, Operand, Operand),
+    /// Any other form, of which nothing is kept.
+    Nothing,
+}
+
+impl Operand {
+    /// Its value, where this number is kept.
+    #[inline(always)]
+    fn value(self, number: i64, args: &Args) -> Value
+        ensures { result ≡ value_kept self number args.now }
     {
-        match (self, right) {
-            (Kind::First, Kind::Number) => Kind::FirstAndNumber,
-            (Kind::First, Kind::Second) => Kind::FirstAndSecond,
-            _ => Kind::Other,
+        match self {
+            Operand::Null => Value::Null,
+            Operand::Number => Value::Num(number),
+            Operand::First => args.first,
+            Operand::Second => args.second,
+        }
+    }
+}
+
+impl Kept {
+    /// What is kept of an operator on expressions of which this is kept: there is room for one number.
+    fn on(operator: Operator, left: Kept, right: Kept) -> Kept
+        ensures { result ≡ kept_on operator left right }
+    {
+        match (left, right) {
+            (Kept::Operand(Operand::Number), Kept::Operand(Operand::Number)) => Kept::Nothing,
+            (Kept::Operand(left), Kept::Operand(right)) => Kept::Operation(operator, left, right),
+            _ => Kept::Nothing,
         }
     }
 }
@@ -174,11 +196,11 @@ impl Model for Expr {
 
     ghost use Rattle.std.specs.Prelude.{◌≡◌};
     ghost use Rattle.act_expr.specs.Expression.{depth};
-    ghost use Rattle.act_expr.specs.Forms.{tree, kind_of, number_of, operator_of, IsMade};
+    ghost use Rattle.act_expr.specs.Forms.{tree, kept_of, number_of, IsMade};
 
-    ghost view = { λ e. tree e.form.value };
+    ghost view = { λ e. tree e.node.value.form };
 
-    ghost invariant = { λ e. (e.levels ≡ depth (tree e.form.value)) × (e.forms ≡ nodes (tree e.form.value)) × (e.kind ≡ kind_of (tree e.form.value)) × (e.number ≡ number_of (tree e.form.value)) × (e.operator ≡ operator_of (tree e.form.value)) × IsMade (tree e.form.value) };
+    ghost invariant = { λ e. (e.node.value.levels ≡ depth (tree e.node.value.form)) × (e.node.value.forms ≡ nodes (tree e.node.value.form)) × (e.kept ≡ kept_of (tree e.node.value.form)) × (e.number ≡ number_of (tree e.node.value.form)) × IsMade (tree e.node.value.form) };
 
     ghost size = { nodes };
 
@@ -200,32 +222,31 @@ impl Expr {
         if levels > MOST_MADE_DEPTH || forms > MOST_MADE_NODES {
             return Err(AllocError);
         }
-        let kind = form.kind();
+        let kept = form.kept();
         let number = form.number();
-        let operator = form.operator();
-        let form = Arc::new(alloc, form)?;
-        Ok(Expr {
-            form,
-            number,
-            forms,
-            levels: levels as u16,
-            kind,
-            operator,
-        })
+        let node = Arc::new(
+            alloc,
+            Node {
+                form,
+                forms,
+                levels: levels as u16,
+            },
+        )?;
+        Ok(Expr { node, number, kept })
     }
 
     /// The outermost form.
     pub fn form(&self) -> &Form
         ensures { tree result.now ≡ self.now }
     {
-        &self.form
+        &self.node.form
     }
 
     /// Whether two expressions are the same tree, shared or not.
     pub fn same(&self, other: &Expr) -> bool
         ensures { IsTrue result ↔ (self.now ≡ other.now) }
     {
-        match (&*self.form, &*other.form) {
+        match (self.form(), other.form()) {
             (Form::Literal(a), Form::Literal(b)) => a == b,
             (Form::Argument(a), Form::Argument(b)) => a == b,
             (Form::Binary(o, a, b), Form::Binary(p, c, d)) => o == p && a.same(c) && b.same(d),
@@ -257,7 +278,7 @@ impl Expr {
     pub fn eval(&self, args: &Args) -> Answer
         ensures { result ≡ meaning self.now args.now }
     {
-        match self.operand(args) {
+        match self.value(args) {
             Ok(value) => Answer::Gives(value),
             Err(thrown) => Answer::Throws(thrown.name()),
         }
@@ -268,7 +289,7 @@ impl Expr {
         ensures depth { result ≡ depth self.now }
         ensures made { IsMade self.now }
     {
-        u32::from(self.levels)
+        u32::from(self.node.levels)
     }
 
     /// How many nodes there are.
@@ -276,49 +297,55 @@ impl Expr {
         ensures nodes { result ≡ nodes self.now }
         ensures made { IsMade self.now }
     {
-        self.forms
+        self.node.forms
     }
 
-    /// The value of an operand, or what is thrown instead. Most nodes are literals, arguments or operators on them, which
-    /// [`Expr::value`] would be called for, and would load from memory of their own; their values are taken here, from what the
-    /// operand keeps beside its form.
+    /// The value, or what is thrown instead, which is lent. Of a literal, of an argument and of an operator on such it is taken
+    /// from what the expression keeps of its form.
     #[cycle(value)]
     #[inline(always)]
-    fn operand<'a>(&'a self, args: &Args) -> Result<Value, Thrown<'a>>
+    pub fn value<'a>(&'a self, args: &Args) -> Result<Value, Thrown<'a>>
         ensures { as_answer result ≡ meaning self.now args.now }
     {
-        match self.kind {
-            Kind::Null => Ok(Value::Null),
-            Kind::Number => Ok(Value::Num(self.number)),
-            Kind::First => Ok(args.first),
-            Kind::Second => Ok(args.second),
-            Kind::FirstAndNumber => self.operator.on_values(args.first, Value::Num(self.number)),
-            Kind::FirstAndSecond => self.operator.on_values(args.first, args.second),
-            Kind::Other => self.value(args),
+        match self.kept {
+            Kept::Operand(operand) => Ok(operand.value(self.number, args)),
+            // most actions
+            Kept::Operation(operator, Operand::First, Operand::Number) => {
+                operator.on_values(args.first, Value::Num(self.number))
+            }
+            Kept::Operation(operator, Operand::First, Operand::Second) => {
+                operator.on_values(args.first, args.second)
+            }
+            Kept::Operation(operator, left, right) => {
+                let first = left.value(self.number, args);
+                let second = right.value(self.number, args);
+                operator.on_values(first, second)
+            }
+            Kept::Nothing => self.value_by_form(args),
         }
     }
 
-    /// The value, or what is thrown instead.
+    /// The value of an expression of whose form nothing is kept, or what is thrown instead.
     #[cycle(value)]
-    fn value<'a>(&'a self, args: &Args) -> Result<Value, Thrown<'a>>
+    #[inline(never)]
+    fn value_by_form<'a>(&'a self, args: &Args) -> Result<Value, Thrown<'a>>
+        requires { kept_of self.now ≡ Nothing }
         ensures { as_answer result ≡ meaning self.now args.now }
     {
-        match &*self.form {
-            Form::Literal(value) => Ok(*value),
-            Form::Argument(Position::First) => Ok(args.first),
-            Form::Argument(Position::Second) => Ok(args.second),
+        match self.form() {
+            Form::Literal(_) | Form::Argument(_) => unreachable!(),
             Form::Binary(operator, left, right) => {
-                let left = left.operand(args)?;
-                let right = right.operand(args)?;
+                let left = left.value(args)?;
+                let right = right.value(args)?;
                 operator.on_values(left, right)
             }
-            Form::If(condition, first, second) => match condition.operand(args)? {
+            Form::If(condition, first, second) => match condition.value(args)? {
                 Value::Null => Err(Thrown::NullPointer),
-                Value::Num(0) => second.operand(args),
-                Value::Num(_) => first.operand(args),
+                Value::Num(0) => second.value(args),
+                Value::Num(_) => first.value(args),
             },
             Form::IsNull(operand) => {
-                let value = operand.operand(args)?;
+                let value = operand.value(args)?;
                 Ok(Value::truth(matches!(value, Value::Null)))
             }
             Form::Failed => Ok(Value::truth(args.failure.is_some())),
@@ -337,7 +364,7 @@ impl Expr {
 
 impl Thrown<'_> {
     /// The name of the exception.
-    fn name(self) -> ExName
+    pub fn name(self) -> ExName
         ensures { result ≡ name_of self.entry }
     {
         match self {
@@ -354,12 +381,9 @@ impl Clone for Expr {
 
     fn clone(&self) -> Result<Expr, AllocError> {
         Ok(Expr {
-            form: Arc::try_clone(&self.form)?,
+            node: Arc::try_clone(&self.node)?,
             number: self.number,
-            forms: self.forms,
-            levels: self.levels,
-            kind: self.kind,
-            operator: self.operator,
+            kept: self.kept,
         })
     }
 }
@@ -380,37 +404,30 @@ impl Form {
     }
 
     /// What an expression of this form keeps of it.
-    fn kind(&self) -> Kind
-        ensures { result ≡ kind_of (tree self.now) }
+    fn kept(&self) -> Kept
+        ensures { result ≡ kept_of (tree self.now) }
     {
         match self {
-            Form::Literal(Value::Null) => Kind::Null,
-            Form::Literal(Value::Num(_)) => Kind::Number,
-            Form::Argument(Position::First) => Kind::First,
-            Form::Argument(Position::Second) => Kind::Second,
-            Form::Binary(_, left, right) => left.kind.on(right.kind),
-            _ => Kind::Other,
+            Form::Literal(Value::Null) => Kept::Operand(Operand::Null),
+            Form::Literal(Value::Num(_)) => Kept::Operand(Operand::Number),
+            Form::Argument(Position::First) => Kept::Operand(Operand::First),
+            Form::Argument(Position::Second) => Kept::Operand(Operand::Second),
+            Form::Binary(operator, left, right) => Kept::on(*operator, left.kept, right.kept),
+            _ => Kept::Nothing,
         }
     }
 
-    /// The number that a literal is, or that is kept of the right operand; 0 for any other form.
+    /// The number that a literal is, or that the literal operand of an operator is; 0 where there is none.
     fn number(&self) -> i64
         ensures { result ≡ number_of (tree self.now) }
     {
         match self {
             Form::Literal(Value::Num(number)) => *number,
-            Form::Binary(_, _, right) => right.number,
+            Form::Binary(_, left, right) => match left.kept {
+                Kept::Operand(Operand::Number) => left.number,
+                _ => right.number,
+            },
             _ => 0,
-        }
-    }
-
-    /// The operator; that of a sum for a form that has none.
-    fn operator(&self) -> Operator
-        ensures { result ≡ operator_of (tree self.now) }
-    {
-        match self {
-            Form::Binary(operator, _, _) => *operator,
-            _ => Operator::Add,
         }
     }
 

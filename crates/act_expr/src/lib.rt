@@ -8,6 +8,6 @@ mod expr;
 mod name;
 mod outcome;
 
-pub use expr::{Answer, Args, Expr, ExprFault, Failure, Form, Operator, Position};
+pub use expr::{Answer, Args, Expr, ExprFault, Failure, Form, Operator, Position, Thrown};
 pub use name::ExName;
 pub use outcome::{Mode, Outcome, Value};

@@ -36,6 +36,12 @@ const STRICT_STEPS: Argument = Argument {
     takes: Takes::Nothing,
 };
 
+const STRICT_SCRIPTS: Argument = Argument {
+    name: "strict",
+    help: "end with status 1 where the recording has a warning, and with 5 where a step was refused",
+    takes: Takes::Nothing,
+};
+
 const FORMAT: Argument = Argument {
     name: "format",
     help: "text for people, or json for programs: a line for each answer, which is one object",
@@ -242,7 +248,7 @@ fn command_of<'a>(alloc: Global, name: Subcommand) -> Result<Command<'a>, AllocE
             "many",
             "Answers several scripts at once, whose clients share the sessions and versions",
             "Examples:\n  whatif many examples/late-reply.json examples/late-reply.script examples/late-reply-why.script\n  whatif many --workers 4 examples/late-reply.json examples/late-reply.script\n\nThe steps and their answers: docs/FORMATS.md, Scripts and The program.",
-            &[WORKERS, QUIET, STRICT, FORMAT, RECORDING, SCRIPTS],
+            &[WORKERS, QUIET, STRICT_SCRIPTS, FORMAT, RECORDING, SCRIPTS],
         ),
         Subcommand::Import => told(
             alloc,

@@ -1,3 +1,4 @@
 pub mod FaultTexts
+pub mod Kept
 pub mod Listened
 pub mod Stopping

@@ -1,13 +1,16 @@
 //! Every fault of a recording, and every member that nothing reads.
 use crate::explaining::{value_of, why_refused};
 use crate::fault::Fault;
+use crate::file_name::FileName;
 use crate::input;
+use crate::remembering::{Remembering, with_reason};
 use crate::voice::Voice;
 use clap::ArgMatches;
-use diagnosis::{Findings, examine_recording};
+use diagnosis::{Findings, Lined, examine_recording, lines_of, trace_kind};
 use recording::{Fault as ReadingFault, read_recording};
 use stage_graph::{Graph, InShared};
-use std::alloc::Global;
+use std::alloc::{AllocError, Global};
+use std::cell::Cell;
 use std::io::{self, BufWriter, Write};
 use std::process::ExitCode;
 
@@ -20,17 +23,19 @@ fn refusal(alloc: Global, recording: &[u8]) -> Option<ReadingFault> {
     }
 }
 
-/// Writes each finding on a line. Faults are told only of a recording that is refused.
+/// Writes each finding on a line: the faults with the lines on which they stand, as far as these are given.
 fn write_findings<W: Write>(
     writer: &mut W,
-    file: &str,
+    file: FileName<'_>,
     findings: &Findings<'_>,
-    is_refused: bool,
+    lines: &[Option<usize>],
 ) -> io::Result<()> {
-    if is_refused {
-        for fault in findings.faults() {
-            writeln!(writer, "{file}: {fault}")?;
-        }
+    for (finding, line) in findings.faults().iter().zip(lines) {
+        let fault = Lined {
+            line: *line,
+            finding,
+        };
+        writeln!(writer, "{file}: {fault}")?;
     }
     for warning in findings.warnings() {
         writeln!(writer, "{file}: {warning}")?;
@@ -48,12 +53,17 @@ pub fn run_check<'a>(rt: &'a HostRuntime, matches: &ArgMatches<'a>) -> Result<Ex
     if let Some(ReadingFault::Memory) = refusal {
         return Err(Fault::Memory);
     }
-    let Ok(mut writer) = BufWriter::new(alloc, io::writer(rt)) else {
+    let reason = Cell::new(None);
+    let output = Remembering {
+        device: io::writer(rt),
+        reason: &reason,
+    };
+    let Ok(mut writer) = BufWriter::new(alloc, output) else {
         return Err(Fault::Memory);
     };
     let (written, is_warned) = write_check(alloc, &mut writer, voice, &recording, &refusal)?;
     if written.is_err() || writer.flush().is_err() {
-        return Err(Fault::Write(None));
+        return with_reason(voice, &reason, Err(Fault::Write(None)));
     }
     if refusal.is_some() || is_warned && voice.is_strict() {
         return Ok(ExitCode::from(1));
@@ -74,12 +84,41 @@ fn write_check<W: Write>(
         let written = write_refusal(alloc, writer, voice, recording, refusal)?;
         return Ok((written, false));
     };
-    let findings = examine_recording(alloc, &value)?;
-    let mut written = write_findings(writer, file, &findings, refusal.is_some());
-    if written.is_ok() && findings.faults().is_empty() {
+    if let (Some(kind), true) = (trace_kind(&value), refusal.is_some()) {
+        return Ok((writeln!(writer, "{file}: {kind}"), false));
+    }
+    let findings = examine_recording(alloc, recording, &value)?;
+    let lines = lines_if_refused(alloc, recording, &findings, refusal)?;
+    let mut written = write_findings(writer, file, &findings, lines.as_slice());
+    if written.is_ok() && !is_told(&findings, refusal) {
         written = write_refusal(alloc, writer, voice, recording, refusal)?;
     }
     Ok((written, !findings.warnings().is_empty()))
+}
+
+/// Whether one of the findings tells why the recording is refused.
+fn is_told(findings: &Findings<'_>, refusal: &Option<ReadingFault>) -> bool {
+    let finding = match refusal {
+        Some(ReadingFault::Shape(member)) => findings.explanation(71, None, Some(member.text())),
+        Some(ReadingFault::Refused(refused)) => {
+            findings.explanation(refused.refusal.number(), Some(refused.at), None)
+        }
+        _ => None,
+    };
+    finding.is_some()
+}
+
+/// The lines of the faults of a recording that is refused. Of one that is not no fault is told.
+fn lines_if_refused(
+    alloc: Global,
+    recording: &[u8],
+    findings: &Findings<'_>,
+    refusal: &Option<ReadingFault>,
+) -> Result<Vec<Option<usize>>, AllocError> {
+    match refusal {
+        Some(_) => lines_of(alloc, recording, findings.faults()),
+        None => Ok(Vec::new(alloc)),
+    }
 }
 
 /// Writes why the recording is refused, if it is.

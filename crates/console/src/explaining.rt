@@ -1,12 +1,16 @@
 //! Why a recording is refused, and what nothing reads in it.
 use crate::fault::Fault;
 use crate::voice::Voice;
-use diagnosis::{beginning_of, examine_recording, json_fault, may_be_unread, nearest_stage};
+use diagnosis::{
+    TraceKind, beginning_of, examine_recording, json_fault, line_of_stage, may_be_unread,
+    nearest_stage, trace_kind, with_line,
+};
 use json_names::circle_of;
 use recording::Fault as ReadingFault;
 use serde_json::{Category, Value};
 use std::alloc::{AllocError, Global};
 use std::fmt::Display;
+use std::str;
 
 /// How many warnings are told of one recording; `check` tells all.
 const MOST_WARNINGS: usize = 20;
@@ -44,7 +48,7 @@ fn warnings_told(alloc: Global, voice: Voice<'_>, recording: &[u8]) -> Result<us
     let Some(value) = value_of(alloc, recording)? else {
         return Ok(0);
     };
-    let findings = examine_recording(alloc, &value)?;
+    let findings = examine_recording(alloc, recording, &value)?;
     let warnings = findings.warnings();
     for warning in warnings.iter().take(MOST_WARNINGS) {
         voice.say(*warning);
@@ -90,14 +94,32 @@ pub(crate) fn told<T: Display + Drop>(
     }
 }
 
+/// Which trace bytes are, of which each line is a JSON text, if they are one.
+fn trace_by_lines(alloc: Global, recording: &[u8]) -> Result<Option<TraceKind>, AllocError> {
+    let Ok(text) = str::from_utf8(recording) else {
+        return Ok(None);
+    };
+    for line in text.split('\n') {
+        let bytes = line.trim().as_bytes();
+        if !bytes.is_empty() {
+            let value = value_of(alloc, bytes)?;
+            return Ok(value.as_ref().and_then(|value| trace_kind(value)));
+        }
+    }
+    Ok(None)
+}
+
 /// Why bytes are no JSON.
 fn why_no_json(
     alloc: Global,
     voice: Voice<'_>,
     recording: &[u8],
 ) -> Result<Option<String>, AllocError> {
-    match beginning_of(recording) {
-        Some(beginning) => told(voice, beginning),
+    if let Some(beginning) = beginning_of(recording) {
+        return told(voice, beginning);
+    }
+    match trace_by_lines(alloc, recording)? {
+        Some(kind) => told(voice, kind),
         None => told(voice, json_fault(alloc, recording)?),
     }
 }
@@ -112,14 +134,10 @@ fn why_shape(
     let Some(value) = value_of(alloc, recording)? else {
         return Ok(None);
     };
-    let is_trace = value.get("resourceSpans").is_some() || value.get("data").is_some();
-    if is_trace && value.get("stages").is_none() {
-        return told(
-            voice,
-            "it looks like a trace: whatif import makes a recording of it",
-        );
+    match trace_kind(&value) {
+        Some(kind) => told(voice, kind),
+        None => why_in(alloc, voice, recording, &value, 71, None, Some(member)),
     }
-    why_in(alloc, voice, &value, 71, None, Some(member))
 }
 
 /// The fault of a number, at a place.
@@ -131,7 +149,7 @@ fn why_at(
     place: usize,
 ) -> Result<Option<String>, AllocError> {
     match value_of(alloc, recording)? {
-        Some(value) => why_in(alloc, voice, &value, number, Some(place), None),
+        Some(value) => why_in(alloc, voice, recording, &value, number, Some(place), None),
         None => Ok(None),
     }
 }
@@ -140,19 +158,32 @@ fn why_at(
 fn why_in(
     alloc: Global,
     voice: Voice<'_>,
-    recording: &Value,
+    recording: &[u8],
+    value: &Value,
     number: u32,
     place: Option<usize>,
     member: Option<&str>,
 ) -> Result<Option<String>, AllocError> {
-    let findings = examine_recording(alloc, recording)?;
+    let findings = examine_recording(alloc, recording, value)?;
     match findings.explanation(number, place, member) {
-        Some(finding) => told(voice, finding),
+        Some(finding) => told(voice, with_line(alloc, recording, finding)?),
         None => Ok(None),
     }
 }
 
-/// The names of stages that wait for each other.
+/// The line of the first of several stages, where it is known.
+fn line_of_first(
+    alloc: Global,
+    recording: &[u8],
+    places: &[u32],
+) -> Result<Option<usize>, AllocError> {
+    match places.first() {
+        Some(place) => line_of_stage(alloc, recording, *place as usize),
+        None => Ok(None),
+    }
+}
+
+/// The names of stages that wait for each other, and the line of the first of them.
 fn why_circle(
     alloc: Global,
     voice: Voice<'_>,
@@ -162,9 +193,12 @@ fn why_circle(
     let Some(value) = value_of(alloc, recording)? else {
         return Ok(None);
     };
-    match circle_of(alloc, &value, places)? {
-        Some(circle) => told(voice, circle),
-        None => Ok(None),
+    let Some(circle) = circle_of(alloc, &value, places)? else {
+        return Ok(None);
+    };
+    match line_of_first(alloc, recording, places)? {
+        Some(line) => told(voice, format_args!("line {line}: {circle}")),
+        None => told(voice, circle),
     }
 }
 

@@ -1,4 +1,5 @@
 //! What ends the program early.
+use crate::reasons::reason_of;
 use command_help::ToldFault;
 use recording::Fault as ReadingFault;
 use std::alloc::{AllocError, Global};
@@ -64,6 +65,14 @@ impl Fault {
         }
     }
 
+    /// Why nothing was said in place of an answer.
+    pub fn of_told(alloc: Global, fault: ToldFault) -> Fault {
+        match fault {
+            ToldFault::Memory => Fault::Memory,
+            ToldFault::Write(error) => Fault::Write(reason_of(alloc, "standard output", error)),
+        }
+    }
+
     /// The same, of a recording that is about to be answered from a script.
     pub fn before_script(self, alloc: Global) -> Fault {
         match self {
@@ -109,14 +118,5 @@ impl fmt::Display for Fault {
 impl From<AllocError> for Fault {
     fn from(_: AllocError) -> Fault {
         Fault::Memory
-    }
-}
-
-impl From<ToldFault> for Fault {
-    fn from(fault: ToldFault) -> Fault {
-        match fault {
-            ToldFault::Memory => Fault::Memory,
-            ToldFault::Write => Fault::Write(None),
-        }
     }
 }

@@ -2,7 +2,7 @@
 use crate::explaining::{told, value_of};
 use crate::fault::Fault;
 use crate::voice::Voice;
-use diagnosis::{beginning_of, json_fault};
+use diagnosis::{TraceKind, beginning_of, json_fault, trace_kind};
 use std::alloc::{AllocError, Global};
 use std::str;
 use trace_family::FamilyFault;
@@ -152,15 +152,18 @@ fn why_no_trace(
     voice: Voice<'_>,
     trace: &[u8],
 ) -> Result<Option<String>, AllocError> {
-    let is_recording = match value_of(alloc, trace)? {
-        Some(value) => value.get("stages").is_some(),
-        None => false,
-    };
-    if is_recording {
+    let value = value_of(alloc, trace)?;
+    if value
+        .as_ref()
+        .is_some_and(|value| value.get("stages").is_some())
+    {
         return told(
             voice,
             "it looks like a recording: whatif report takes it as it is",
         );
+    }
+    if let Some(kind @ TraceKind::Zipkin) = value.as_ref().and_then(|value| trace_kind(value)) {
+        return told(voice, kind);
     }
     told(
         voice,

@@ -1,4 +1,4 @@
-//! The recording, whole, from a file or from standard input.
+//! The recording or the trace, whole, from a file or from standard input; and files that are opened by their names.
 ghost use Rattle.std.specs.Prelude.{IfOk};
 ghost use Rattle.stage_graph.specs.Walk.{IsRanked};
 
@@ -8,6 +8,7 @@ use crate::voice::Voice;
 use recording::read_recording;
 use stage_graph::{Graph, Representation};
 use std::alloc::Global;
+use std::fmt;
 use std::fs::File;
 use std::io::{self, Read};
 
@@ -16,6 +17,28 @@ const MOST_OF_RECORDING: u64 = 67_108_865;
 
 /// One byte more than the longest trace has.
 const MOST_OF_TRACE: u64 = 268_435_457;
+
+/// What is named by a path where `-` is no standard input, which is told where there is no file of that name.
+#[derive(Clone, Copy)]
+pub enum Named {
+    /// The recording, where standard input is the script.
+    RecordingOfInput,
+    /// The recording, where standard input is not read.
+    Recording,
+    /// A script, where standard input is not read.
+    Script,
+}
+
+impl fmt::Display for Named {
+    fn fmt<W: fmt::Write>(&self, f: &mut fmt::Formatter<W>) -> fmt::Result {
+        f.write_str(match self {
+            Named::RecordingOfInput =>
+                "the script is read from standard input, so FILE has to be a file",
+            Named::Recording => "standard input is not read here, so FILE has to be a file",
+            Named::Script => "standard input is not read here, so SCRIPT has to be a file",
+        })
+    }
+}
 
 /// The graph of a recording, or why it is refused.
 pub fn graph<R: Representation>(
@@ -36,46 +59,61 @@ pub fn graph<R: Representation>(
 
 /// The bytes of the recording in a file, or of standard input where there is none or it is `-`.
 pub fn recording(rt: &HostRuntime, voice: Voice<'_>, path: Option<&str>) -> Result<Vec<u8>, Fault> {
-    bytes(rt, voice, path, MOST_OF_RECORDING)
+    bytes(rt, voice, "recording", path, MOST_OF_RECORDING)
 }
 
 /// The bytes of the trace in a file, or of standard input where there is none or it is `-`.
 pub fn trace(rt: &HostRuntime, voice: Voice<'_>, path: Option<&str>) -> Result<Vec<u8>, Fault> {
-    bytes(rt, voice, path, MOST_OF_TRACE)
+    bytes(rt, voice, "trace", path, MOST_OF_TRACE)
 }
 
 /// The bytes of the recording in a file.
-pub fn file(rt: &HostRuntime, voice: Voice<'_>, path: &str) -> Result<Vec<u8>, Fault> {
-    bytes_of_file(rt, voice, path, MOST_OF_RECORDING)
+pub fn file(
+    rt: &HostRuntime,
+    voice: Voice<'_>,
+    path: &str,
+    named: Named,
+) -> Result<Vec<u8>, Fault> {
+    let file = opened(rt, voice, path, named)?;
+    bytes_of_file(rt.alloc(), voice, file, MOST_OF_RECORDING)
 }
 
+/// The file that a path names.
+pub fn opened(rt: &HostRuntime, voice: Voice<'_>, path: &str, named: Named) -> Result<File, Fault> {
+    match File::open(rt, path) {
+        Ok(file) => Ok(file),
+        Err(error) if path == "-" && error.kind() == io::ErrorKind::NotFound => {
+            Err(Fault::Read(voice.text_of(path, named)))
+        }
+        Err(error) => Err(Fault::Read(voice.reason(path, error))),
+    }
+}
+
+/// The bytes of a file, or of standard input, where a person at a terminal is told so.
 fn bytes(
     rt: &HostRuntime,
     voice: Voice<'_>,
+    what: &str,
     path: Option<&str>,
     most: u64,
 ) -> Result<Vec<u8>, Fault> {
     match path {
-        None | Some("-") => read_whole(rt.alloc(), voice, rt.stdin(), most, 0),
-        Some(path) => bytes_of_file(rt, voice, path, most),
+        None | Some("-") => {
+            voice.say_what_is_read(what);
+            read_whole(rt.alloc(), voice, rt.stdin(), most, 0)
+        }
+        Some(path) => {
+            let file = opened(rt, voice, path, Named::Recording)?;
+            bytes_of_file(rt.alloc(), voice, file, most)
+        }
     }
 }
 
-fn bytes_of_file(
-    rt: &HostRuntime,
-    voice: Voice<'_>,
-    path: &str,
-    most: u64,
-) -> Result<Vec<u8>, Fault> {
-    match File::open(rt, path) {
-        Ok(file) => {
-            // (with room for a byte more than the file has, its end is met without further room)
-            let length = file.metadata().map_or(0, |metadata| metadata.len());
-            let room = length.saturating_add(1).min(most) as usize;
-            read_whole(rt.alloc(), voice, file, most, room)
-        }
-        Err(error) => Err(Fault::Read(voice.reason(voice.file(), error))),
-    }
+fn bytes_of_file(alloc: Global, voice: Voice<'_>, file: File, most: u64) -> Result<Vec<u8>, Fault> {
+    // (with room for a byte more than the file has, its end is met without further room)
+    let length = file.metadata().map_or(0, |metadata| metadata.len());
+    let room = length.saturating_add(1).min(most) as usize;
+    read_whole(alloc, voice, file, most, room)
 }
 
 /// What is read, no more than so many bytes, with room for this many at first.
@@ -90,6 +128,6 @@ fn read_whole<R: Read + Drop>(
     match reader.take(most).read_to_end(&mut bytes) {
         Ok(_) => Ok(bytes),
         Err(error) if error.kind() == io::ErrorKind::OutOfMemory => Err(Fault::Memory),
-        Err(error) => Err(Fault::Read(voice.reason(voice.file(), error))),
+        Err(error) => Err(Fault::Read(voice.reason(voice.file().0, error))),
     }
 }

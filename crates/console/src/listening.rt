@@ -13,10 +13,10 @@ use std::io::Read;
 use text_io::{CountedReader, ReadFault, Sink, Source, WriteFault};
 
 /// How much of an answer is kept: its first line, where that is a refusal.
-const MOST_KEPT: usize = 256;
+pub(crate) const MOST_KEPT: usize = 256;
 
 /// How much of a line is kept: more than a step may have.
-const LONGEST_LINE: usize = 65_600;
+pub(crate) const LONGEST_LINE: usize = 65_600;
 
 /// Whether an answer is a refusal as JSON. Names have no quotes, so nothing else in an answer looks like it.
 pub(crate) fn is_json_refusal(answer: &[u8]) -> bool {

@@ -65,6 +65,19 @@ impl<'a> StepTeller<'a> {
         }
     }
 
+    /// Tells of the lines of the script of this name from here on.
+    pub(crate) fn begins(&mut self, script: &'a str) {
+        self.voice = self.voice.of_script(script);
+    }
+
+    /// Tells that from a line on no step is explained.
+    pub(crate) fn tell_end(&mut self, number: u64) {
+        self.voice.say_of_line(
+            number,
+            "from here on no step is explained, as no more of the script was kept",
+        );
+    }
+
     /// Whether a refused step has ended the script.
     pub fn is_stopped(&self) -> bool
         ensures { result ≡ has_stopped self.now }
@@ -166,11 +179,12 @@ impl<'a> StepTeller<'a> {
         let Ok(step) = Value::from_slice(self.alloc, line) else {
             self.told = self.told.saturating_add(1);
             let fault = json_fault(self.alloc, line)?;
-            let (column, expected) = (fault.column, fault.expected);
-            self.voice.say_of_line(number, format_args!("column {column}: expected {expected}"));
+            let (column, unmet) = (fault.column, fault.unmet);
+            self.voice
+                .say_of_line(number, format_args!("column {column}: {unmet}"));
             return Ok(());
         };
-        let findings = examine_step(self.alloc, &step)?;
+        let findings = examine_step(self.alloc, line, &step)?;
         if refusal.is_some() || !findings.warnings().is_empty() {
             self.told = self.told.saturating_add(1);
         }

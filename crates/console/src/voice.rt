@@ -1,4 +1,6 @@
 //! What is said to people, on standard error. A fault of writing there changes nothing.
+use crate::file_name::FileName;
+use crate::reasons::reason_of;
 use clap::ArgMatches;
 use std::alloc::AllocError;
 use std::fmt::Display;
@@ -9,27 +11,47 @@ use std::io::{self, IsTerminal};
 pub struct Voice<'a> {
     rt: &'a HostRuntime,
     file: &'a str,
+    /// The script whose lines are told of, where there are several.
+    script: Option<&'a str>,
     is_quiet: bool,
     is_strict: bool,
 }
 
 impl<'a> Voice<'a> {
+    /// Tells of the file that is named, or of standard input where none is, or `-`.
     pub fn new(rt: &'a HostRuntime, matches: &ArgMatches<'a>) -> Voice<'a> {
         let file = match matches.get_str("FILE") {
             None | Some("-") => "standard input",
             Some(path) => path,
         };
+        Voice::of_file(rt, matches, file)
+    }
+
+    /// Tells of the file of this name.
+    pub fn of_file(rt: &'a HostRuntime, matches: &ArgMatches<'a>, file: &'a str) -> Voice<'a> {
         Voice {
             rt,
             file,
+            script: None,
             is_quiet: matches.get_flag("quiet"),
             is_strict: matches.get_flag("strict"),
         }
     }
 
+    /// The same, where lines of the script of this name are told of.
+    pub fn of_script(self, script: &'a str) -> Voice<'a> {
+        Voice {
+            rt: self.rt,
+            file: self.file,
+            script: Some(script),
+            is_quiet: self.is_quiet,
+            is_strict: self.is_strict,
+        }
+    }
+
     /// The name of the file.
-    pub fn file(self) -> &'a str {
-        self.file
+    pub fn file(self) -> FileName<'a> {
+        FileName(self.file)
     }
 
     pub fn is_quiet(self) -> bool {
@@ -49,17 +71,18 @@ impl<'a> Voice<'a> {
 
     /// Says something of a line of the script.
     pub fn say_of_line<D: Display + Drop>(self, number: u64, what: D) {
-        if !self.is_quiet {
-            let _ = self
-                .rt
-                .eprintln(format_args!("whatif: line {number}: {what}"));
+        match self.script {
+            None => self.say(format_args!("line {number}: {what}")),
+            Some(script) => {
+                let script = FileName(script);
+                self.say(format_args!("{script}: line {number}: {what}"));
+            }
         }
     }
 
     /// What is to be said of the file where the program ends, unless nothing is; where memory is out nothing is.
     pub fn text<D: Display + Drop>(self, what: D) -> Option<String> {
-        let file = self.file;
-        self.text_of(file, what)
+        self.text_of(self.file, what)
     }
 
     /// The same of another file.
@@ -67,25 +90,22 @@ impl<'a> Voice<'a> {
         if self.is_quiet {
             return None;
         }
+        let file = FileName(file);
         let text: Result<String, AllocError> = format!(in self.rt.alloc(); "{file}: {what}");
         text.ok()
     }
 
-    /// The system's reason why a file can't be read or written.
+    /// The system's reason why a file can't be read or written, unless nothing is to be said.
     pub fn reason(self, file: &str, error: io::Error) -> Option<String> {
         if self.is_quiet {
             return None;
         }
-        let reason = error.to_string(self.rt.alloc()).ok()?;
-        match reason.as_str().split_once(" (os error ") {
-            Some((message, _)) => self.text_of(file, message),
-            None => self.text_of(file, reason.as_str()),
-        }
+        reason_of(self.rt.alloc(), file, error)
     }
 
     /// Says that standard input is read, where a person may wait for something else.
-    pub fn say_what_is_read(self, what: &str, is_given: bool) {
-        if !is_given && self.rt.stdin().is_terminal() {
+    pub fn say_what_is_read(self, what: &str) {
+        if self.rt.stdin().is_terminal() {
             self.say(format_args!("the {what} is read from standard input, to its end"));
         }
     }

@@ -66,7 +66,9 @@ fn operands_of<'a>(value: &'a Value, items: &'a [Value]) -> Result<&'a [Value], 
             let fits = matches!(position.as_u64(), Some(0 | 1));
             none_in(position, fits, Wanted::Position)
         }
-        (Operands::Name, [name]) => none_in(name, name.is_string(), Wanted::Exception),
+        (Operands::Name, [name]) => {
+            none_in(name, Wanted::Exception.is_met_by(name), Wanted::Exception)
+        }
         (Operands::Expressions(count), _) if count == operands.len() => Ok(operands),
         _ => Err((value, Wanted::Operands)),
     }

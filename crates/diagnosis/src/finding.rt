@@ -1,4 +1,5 @@
 //! What is wrong in a recording or in a step.
+use crate::exception::{class_meant, is_wrapper};
 use crate::quoted::Quoted;
 use crate::site::{Path, Site};
 use crate::wanted::Wanted;
@@ -164,9 +165,12 @@ impl fmt::Display for ShapeFault<'_> {
                 wanted,
                 near,
             } => {
-                let found = Shown(found);
-                write!(f, " is {found}")?;
+                let shown = Shown(found);
+                write!(f, " is {shown}")?;
                 write_near(near, f)?;
+                if let (Wanted::Exception, Some(text)) = (wanted, found.as_str()) {
+                    write_exception_meant(text, f)?;
+                }
                 write!(f, " ({wanted})")
             }
         }
@@ -178,6 +182,20 @@ fn write_near<W: fmt::Write>(near: Option<&str>, f: &mut fmt::Formatter<W>) -> f
         Some(near) => {
             let near = Quoted(near);
             write!(f, "; did you mean {near}?")
+        }
+        None => Ok(()),
+    }
+}
+
+/// Writes which exception is meant by a text that is not the name of one which a stage may hold.
+fn write_exception_meant<W: fmt::Write>(text: &str, f: &mut fmt::Formatter<W>) -> fmt::Result {
+    if is_wrapper(text) {
+        return f.write_str("; its cause is meant, which a stage holds wrapped");
+    }
+    match class_meant(text) {
+        Some(class) => {
+            let class = Quoted(class);
+            write!(f, "; the class alone is meant, {class}")
         }
         None => Ok(()),
     }

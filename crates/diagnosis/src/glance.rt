@@ -1,8 +1,9 @@
-//! A glance at a recording: whether any of its members could be one that nothing reads.
+//! A glance at a recording: whether any of its members could be one that nothing reads, or one that stands more than once.
 //!
 //! It reads no JSON, keeps nothing, and goes over the bytes once. Where it sees nothing, nothing is told of a recording
 //! that is taken; where it sees something, the recording is read to find what.
 use crate::members::{KINDS_WITH_DELAY, KINDS_WITH_EXCEPTION, KINDS_WITH_VALUE};
+use crate::met::{EndMet, OutcomeMet, StageMet, meet};
 use crate::passing::{Passing, all_pass, split_text};
 use json_names::{is_among, is_label};
 
@@ -36,50 +37,136 @@ fn next_digit(bytes: &[u8]) -> Option<u8> {
     byte.is_ascii_digit().then_some(byte)
 }
 
-/// What is seen of the members of a stage or of an end.
-#[derive(Clone, Copy)]
-struct Seen<'a> {
-    /// What comes after the quote that opens the text of the kind: a stage's operation, or what an end does.
-    from_kind: &'a [u8],
-    has_value: bool,
-    has_exception: bool,
-    has_delay: bool,
+/// The text whose opening quote stands before these bytes.
+fn text_of(from_text: &[u8]) -> &[u8] {
+    match split_text(from_text) {
+        Some((text, _)) => text,
+        None => b"",
+    }
 }
 
-impl<'a> Seen<'a> {
-    /// Nothing.
-    fn new() -> Seen<'a> {
-        Seen {
-            from_kind: b"",
-            has_value: false,
-            has_exception: false,
-            has_delay: false,
-        }
-    }
+/// What is seen of the members of a stage.
+#[derive(Clone, Copy)]
+struct SeenStage<'a> {
+    /// What comes after the quote that opens the text of the operation.
+    from_operation: &'a [u8],
+    met: StageMet,
+}
 
-    /// The text of the kind.
-    fn kind(self) -> &'a [u8] {
-        match split_text(self.from_kind) {
-            Some((kind, _)) => kind,
-            None => b"",
+impl<'a> SeenStage<'a> {
+    /// Nothing.
+    fn new() -> SeenStage<'a> {
+        SeenStage {
+            from_operation: b"",
+            met: StageMet::none(),
         }
     }
 
     /// Whether a stage of the operation reads all of them.
-    fn is_read_in_stage(self) -> bool {
-        (!self.has_value || matches!(self.kind(), b"completed"))
-            && (!self.has_exception || matches!(self.kind(), b"failed"))
+    fn is_read(self) -> bool {
+        let (operation, met) = (text_of(self.from_operation), self.met);
+        (!met.value || matches!(operation, b"completed"))
+            && (!met.throws || matches!(operation, b"failed"))
+    }
+
+    /// Takes the name of a member, whose value comes next. The answer is whether it is read, and was not met before.
+    #[inline(always)]
+    fn name(&mut self, name: &[u8], value: &'a [u8]) -> bool {
+        match name {
+            b"name" => meet(&mut self.met.name),
+            b"op" => {
+                self.from_operation = next_text(value).unwrap_or(self.from_operation);
+                meet(&mut self.met.op)
+            }
+            b"value" => meet(&mut self.met.value),
+            b"throws" => meet(&mut self.met.throws),
+            b"sources" => meet(&mut self.met.sources),
+            b"inner" => meet(&mut self.met.inner),
+            b"created" => meet(&mut self.met.created),
+            b"takes" => meet(&mut self.met.takes),
+            b"queued" => meet(&mut self.met.queued),
+            b"runs" => meet(&mut self.met.runs),
+            b"action" => meet(&mut self.met.action),
+            b"pinResult" => meet(&mut self.met.pin_result),
+            b"pinMoment" => meet(&mut self.met.pin_moment),
+            b"ends" => meet(&mut self.met.ends),
+            b"span" => true,
+            _ => is_label(name),
+        }
+    }
+}
+
+/// What is seen of the members of an end.
+#[derive(Clone, Copy)]
+struct SeenEnd<'a> {
+    /// What comes after the quote that opens the text of what it does.
+    from_kind: &'a [u8],
+    met: EndMet,
+}
+
+impl<'a> SeenEnd<'a> {
+    /// Nothing.
+    fn new() -> SeenEnd<'a> {
+        SeenEnd {
+            from_kind: b"",
+            met: EndMet::none(),
+        }
     }
 
     /// Whether an end of the kind reads all of them.
-    fn is_read_in_end(self) -> bool {
-        if !self.has_value && !self.has_exception && !self.has_delay {
+    fn is_read(self) -> bool {
+        let met = self.met;
+        if !met.value && !met.throws && !met.delay {
             return true;
         }
-        let kind = str::from_utf8(self.kind()).unwrap_or("");
-        (!self.has_value || is_among(kind, KINDS_WITH_VALUE))
-            && (!self.has_exception || is_among(kind, KINDS_WITH_EXCEPTION))
-            && (!self.has_delay || is_among(kind, KINDS_WITH_DELAY))
+        let kind = str::from_utf8(text_of(self.from_kind)).unwrap_or("");
+        (!met.value || is_among(kind, KINDS_WITH_VALUE))
+            && (!met.throws || is_among(kind, KINDS_WITH_EXCEPTION))
+            && (!met.delay || is_among(kind, KINDS_WITH_DELAY))
+    }
+
+    /// Takes the name of a member, as that of a stage.
+    #[inline(always)]
+    fn name(&mut self, name: &[u8], value: &'a [u8]) -> bool {
+        match name {
+            b"at" => meet(&mut self.met.at),
+            b"do" => {
+                self.from_kind = next_text(value).unwrap_or(self.from_kind);
+                meet(&mut self.met.kind)
+            }
+            b"delay" => meet(&mut self.met.delay),
+            b"value" => meet(&mut self.met.value),
+            b"throws" => meet(&mut self.met.throws),
+            _ => is_label(name),
+        }
+    }
+}
+
+/// What is seen of the members of the recording.
+#[derive(Clone, Copy)]
+struct SeenRecording {
+    has_form: bool,
+    has_wrap: bool,
+    has_stages: bool,
+    is_form_two: bool,
+}
+
+impl SeenRecording {
+    /// Takes the name of a member, as that of a stage.
+    fn name(&mut self, name: &[u8], value: &[u8]) -> bool {
+        match name {
+            b"form" => {
+                if let Some(digit) = next_digit(value) {
+                    self.is_form_two = digit == b'2';
+                }
+                meet(&mut self.has_form)
+            }
+            b"wrap" => meet(&mut self.has_wrap),
+            b"stages" => meet(&mut self.has_stages),
+            // (these are labels, which an imported recording has)
+            b"trace" | b"unit" | b"start" => true,
+            _ => is_label(name),
+        }
     }
 }
 
@@ -90,59 +177,12 @@ struct Glance<'a> {
     depth: usize,
     /// The last text.
     text: &'a [u8],
-    stage: Seen<'a>,
-    end: Seen<'a>,
-    is_form_two: bool,
+    recording: SeenRecording,
+    stage: SeenStage<'a>,
+    outcome: OutcomeMet,
+    end: SeenEnd<'a>,
+    /// Whether a stage has times of form 2.
     has_times_of_form_two: bool,
-}
-
-impl<'a> Glance<'a> {
-    fn name_of_recording(&mut self, value: &'a [u8]) -> bool {
-        match self.text {
-            b"form" => {
-                if let Some(digit) = next_digit(value) {
-                    self.is_form_two = digit == b'2';
-                }
-                true
-            }
-            // (the last three are labels, which an imported recording has)
-            b"wrap" | b"stages" | b"trace" | b"unit" | b"start" => true,
-            text => is_label(text),
-        }
-    }
-
-    fn name_of_stage(&mut self, value: &'a [u8]) -> bool {
-        match self.text {
-            b"op" => self.stage.from_kind = next_text(value).unwrap_or(self.stage.from_kind),
-            b"value" => self.stage.has_value = true,
-            b"throws" => self.stage.has_exception = true,
-            b"queued" | b"runs" => self.has_times_of_form_two = true,
-            b"name"
-            | b"sources"
-            | b"inner"
-            | b"created"
-            | b"takes"
-            | b"action"
-            | b"pinResult"
-            | b"pinMoment"
-            | b"ends"
-            | b"span" => {}
-            text => return is_label(text),
-        }
-        true
-    }
-
-    fn name_of_end(&mut self, value: &'a [u8]) -> bool {
-        match self.text {
-            b"do" => self.end.from_kind = next_text(value).unwrap_or(self.end.from_kind),
-            b"value" => self.end.has_value = true,
-            b"throws" => self.end.has_exception = true,
-            b"delay" => self.end.has_delay = true,
-            b"at" => {}
-            text => return is_label(text),
-        }
-        true
-    }
 }
 
 impl<'a> Passing<'a> for Glance<'a> {
@@ -159,14 +199,19 @@ impl<'a> Passing<'a> for Glance<'a> {
         self.depth = depth.saturating_sub(1);
         match depth {
             OF_STAGE => {
-                let is_read = self.stage.is_read_in_stage();
-                self.stage = Seen::new();
-                is_read
+                let stage = self.stage;
+                self.has_times_of_form_two |= stage.met.queued || stage.met.runs;
+                self.stage = SeenStage::new();
+                stage.is_read()
+            }
+            OF_OUTCOME => {
+                self.outcome = OutcomeMet::none();
+                true
             }
             OF_END => {
-                let is_read = self.end.is_read_in_end();
-                self.end = Seen::new();
-                is_read
+                let end = self.end;
+                self.end = SeenEnd::new();
+                end.is_read()
             }
             _ => true,
         }
@@ -174,25 +219,32 @@ impl<'a> Passing<'a> for Glance<'a> {
 
     fn name(&mut self, value: &'a [u8]) -> bool {
         match self.depth {
-            OF_RECORDING => self.name_of_recording(value),
-            OF_STAGE => self.name_of_stage(value),
-            OF_OUTCOME => matches!(self.text, b"value" | b"bare" | b"wrapped"),
-            OF_END => self.name_of_end(value),
+            OF_RECORDING => self.recording.name(self.text, value),
+            OF_STAGE => self.stage.name(self.text, value),
+            OF_OUTCOME => self.outcome.name(self.text),
+            OF_END => self.end.name(self.text, value),
             _ => false,
         }
     }
 }
 
-/// Whether a recording could have a member that nothing reads.
+/// Whether a recording could have a member that nothing reads, or one that stands more than once.
 #[inline(never)]
 pub fn may_be_unread(recording: &[u8]) -> bool {
     let mut glance = Glance {
         depth: 0,
         text: b"",
-        stage: Seen::new(),
-        end: Seen::new(),
-        is_form_two: false,
+        recording: SeenRecording {
+            has_form: false,
+            has_wrap: false,
+            has_stages: false,
+            is_form_two: false,
+        },
+        stage: SeenStage::new(),
+        outcome: OutcomeMet::none(),
+        end: SeenEnd::new(),
         has_times_of_form_two: false,
     };
-    !all_pass(recording, &mut glance) || glance.has_times_of_form_two && !glance.is_form_two
+    !all_pass(recording, &mut glance)
+        || glance.has_times_of_form_two && !glance.recording.is_form_two
 }

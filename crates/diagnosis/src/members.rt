@@ -44,17 +44,17 @@ impl Member {
 }
 
 /// The names of the members of an outcome.
-const OUTCOME_MEMBERS: &[&str] = &["value", "bare", "wrapped"];
+pub(crate) const OUTCOME_MEMBERS: &[&str] = &["value", "bare", "wrapped"];
 
 /// The members of an outcome, which has one of them.
-pub(crate) const PARTS_OF_OUTCOME: &[Member] = &[
+const PARTS_OF_OUTCOME: &[Member] = &[
     Member::Optional("value", Wanted::Value),
     Member::Optional("bare", Wanted::Exception),
     Member::Optional("wrapped", Wanted::Exception),
 ];
 
 /// The members of an end.
-const END_MEMBERS: &[&str] = &["at", "do", "delay", "value", "throws"];
+pub(crate) const END_MEMBERS: &[&str] = &["at", "do", "delay", "value", "throws"];
 
 /// The kinds of ends that have a delay.
 pub(crate) const KINDS_WITH_DELAY: &[&str] = &["orTimeout", "completeOnTimeout"];

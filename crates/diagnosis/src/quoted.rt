@@ -9,7 +9,7 @@ const MOST_SHOWN: usize = 72;
 pub struct Quoted<'a>(pub &'a str);
 
 /// Whether a character would not be seen, or would move what stands beside it.
-fn is_hidden(character: char) -> bool {
+pub fn is_hidden(character: char) -> bool {
     matches!(
         character as u32,
         0..=31 | 127..=159 | 173 | 0x200b..=0x200f | 0x2028..=0x202e | 0x2060..=0x206f | 0xfeff

@@ -2,9 +2,11 @@
 use crate::finding::StageFault;
 use crate::findings::Findings;
 use crate::members::{Member, look_at_all, look_at_member};
+use crate::repeated::{Holder, Kind, Repeated, repeated_in};
 use crate::site::{Path, Site};
 use crate::stage::{TimeForm, form_warning, look_at_members, time_of_form_two};
 use crate::stage_checks::{is_name, look_at_checks};
+use crate::unread::Warning;
 use crate::wanted::Wanted;
 use json_names::{items_of, name_of, nearest};
 use serde_json::Value;
@@ -18,7 +20,7 @@ const MOST_STAGES: usize = 65_536;
 const MOST_LOOKS: usize = 16;
 
 /// The names of the members of a recording.
-const RECORDING_MEMBERS: &[&str] = &["form", "wrap", "stages"];
+pub(crate) const RECORDING_MEMBERS: &[&str] = &["form", "wrap", "stages"];
 
 /// The members of a recording before its stages.
 const FIRST_MEMBERS: &[Member] = &[
@@ -207,6 +209,19 @@ fn look_at_unread_times<'a>(
     }
 }
 
+/// The warning of a member that stands more than once.
+fn repeated_warning<'a>(recording: &'a Value, repeated: Repeated) -> Warning<'a> {
+    let stages = items_of(recording, "stages");
+    let site = match repeated.spot.holder {
+        Holder::Stage(place) => match stages.get(place) {
+            Some(stage) => site_of(stages, place, stage),
+            None => Site::Recording,
+        },
+        _ => Site::Recording,
+    };
+    repeated.warning(site)
+}
+
 /// Looks at a recording.
 fn look_at_recording<'a>(
     findings: &mut Findings<'a>,
@@ -229,14 +244,19 @@ fn look_at_recording<'a>(
     }
 }
 
-/// Every fault of a recording, but for stages that wait for each other, and every member that nothing reads. It takes
-/// time by the number of bytes, and by that of the names for the first mistaken ones of these.
+/// Every fault of a recording, but for stages that wait for each other, every member that nothing reads, and every one that
+/// stands more than once; `text` are the bytes that were read. It takes time by the number of bytes, and by that of the
+/// names for the first mistaken ones of these.
 pub fn examine_recording<'a>(
     alloc: Global,
+    text: &[u8],
     recording: &'a Value,
 ) -> Result<Findings<'a>, AllocError> {
     let mut findings = Findings::new(alloc);
     look_at_recording(&mut findings, recording)?;
+    for repeated in repeated_in(alloc, Kind::Recording, text)?.as_slice() {
+        findings.warning(repeated_warning(recording, *repeated))?;
+    }
     Ok(findings)
 }
 

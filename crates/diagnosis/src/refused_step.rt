@@ -215,15 +215,18 @@ fn write_number<W: fmt::Write>(
     }
 }
 
-/// Writes that a session stands at another version than the base of a step.
+/// Writes that a session stands at another version than the base of a step, or than its script has seen where the step names none.
 fn write_base<W: fmt::Write>(
     head: Option<&str>,
     base: Option<u64>,
     f: &mut fmt::Formatter<W>,
 ) -> fmt::Result {
     let head = head.unwrap_or("another");
-    write!(f, " stands at version {head} by now, and the base is ")?;
-    write_number("version", base, f)
+    write!(f, " stands at version {head} by now")?;
+    match base {
+        Some(base) => write!(f, ", and the base is version {base}"),
+        None => f.write_str(", as another script has moved it"),
+    }
 }
 
 /// Writes what is told of a session.

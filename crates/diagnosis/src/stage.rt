@@ -7,8 +7,11 @@ use crate::wanted::Wanted;
 use serde_json::Value;
 use std::alloc::AllocError;
 
-/// The members of a stage; `span` is a label, by which an imported recording tells of which span the stage is.
-const STAGE_MEMBERS: &[&str] = &[
+/// The label of a stage by which an imported recording tells of which span the stage is.
+pub(crate) const SPAN: &str = "span";
+
+/// The members of a stage, and its label.
+pub(crate) const STAGE_MEMBERS: &[&str] = &[
     "name",
     "op",
     "value",
@@ -23,7 +26,7 @@ const STAGE_MEMBERS: &[&str] = &[
     "pinResult",
     "pinMoment",
     "ends",
-    "span",
+    SPAN,
 ];
 
 /// The members that each stage has.

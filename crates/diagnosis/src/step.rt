@@ -2,12 +2,13 @@
 use crate::finding::Finding;
 use crate::findings::Findings;
 use crate::members::{Member, look_at_all, look_at_member, name_in};
+use crate::repeated::{Holder, Kind, repeated_in};
 use crate::site::{Path, Site};
 use crate::stage::{TimeForm, look_at_members, time_of_form_two};
 use crate::stage_checks::{look_at_checks, look_at_numbers};
 use crate::step_members::{members_of, members_of_edit, members_of_report};
 use crate::wanted::{EDIT_NAMES, Wanted};
-use json_names::{is_among, name_of};
+use json_names::{is_among, items_of, name_of};
 use serde_json::Value;
 use std::alloc::{AllocError, Global};
 
@@ -164,9 +165,39 @@ fn look_at_step<'a>(findings: &mut Findings<'a>, step: &'a Value) -> Result<(), 
     }
 }
 
-/// Every fault of a step that its line alone shows, and every member that nothing reads.
-pub fn examine_step<'a>(alloc: Global, step: &'a Value) -> Result<Findings<'a>, AllocError> {
+/// Where a member of a step stands that stands more than once.
+fn site_of<'a>(step: &'a Value, holder: Holder) -> Site<'a> {
+    let edit_at = |index: usize| items_of(step, "edits").get(index);
+    match holder {
+        Holder::New => Site::New {
+            name: step.get("new").and_then(|new| name_of(new)),
+        },
+        Holder::Edit(index) => Site::Edit {
+            index,
+            stage: edit_at(index).and_then(|edit| stage_of(edit)),
+        },
+        Holder::NewOfEdit(index) => Site::NewOfEdit {
+            index,
+            name: edit_at(index).and_then(|edit| name_of(edit.get("new")?)),
+        },
+        _ => Site::Step {
+            stage: stage_of(step),
+        },
+    }
+}
+
+/// Every fault of a step that its line alone shows, every member that nothing reads, and every one that stands more than
+/// once; `line` are the bytes that were read.
+pub fn examine_step<'a>(
+    alloc: Global,
+    line: &[u8],
+    step: &'a Value,
+) -> Result<Findings<'a>, AllocError> {
     let mut findings = Findings::new(alloc);
     look_at_step(&mut findings, step)?;
+    for repeated in repeated_in(alloc, Kind::Step, line)?.as_slice() {
+        let site = site_of(step, repeated.spot.holder);
+        findings.warning(repeated.warning(site))?;
+    }
     Ok(findings)
 }

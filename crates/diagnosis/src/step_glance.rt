@@ -1,5 +1,6 @@
-//! A glance at a step: whether any of its members could be one that nothing reads.
-use crate::members::{Member, PARTS_OF_OUTCOME};
+//! A glance at a step: whether any of its members could be one that nothing reads, or one that stands more than once.
+use crate::members::Member;
+use crate::met::{OutcomeMet, meet};
 use crate::passing::{Passing, all_pass};
 use crate::step_members::{members_of, members_of_edit, members_of_report};
 use crate::wanted::{EDIT_NAMES, REPORTS, STEP_NAMES, Wanted};
@@ -43,13 +44,28 @@ struct StepGlance<'a> {
     first_of_edit: &'static [Member],
     /// The members that the edit is known to have further, by what stands before.
     edit_members: &'static [Member],
+    /// Which of the step's members, of the outcome's and of the edit's were met.
+    met: Met,
+    outcome_met: OutcomeMet,
+    edit_met: Met,
 }
 
-/// Whether a text is the name of one of the members.
-fn is_one_of(text: &[u8], members: &[Member]) -> bool {
-    members
-        .iter()
-        .any(|member| member.name().as_bytes() == text)
+/// The most members that a step or an edit is known to have further.
+const MOST_MEMBERS: usize = 8;
+
+/// Which of several members were met, by their order.
+type Met = [bool; MOST_MEMBERS];
+
+const NONE_MET: Met = [false; MOST_MEMBERS];
+
+/// Whether a text is the name of one of the members, and of one that was not met before.
+fn meets_one_of(text: &[u8], members: &[Member], met: &mut Met) -> bool {
+    for (member, is_met) in members.iter().zip(met.iter_mut()) {
+        if member.name().as_bytes() == text {
+            return meet(is_met);
+        }
+    }
+    false
 }
 
 /// Whether a step or an edit of a name has members of a stage or of ends in its members.
@@ -87,9 +103,16 @@ impl<'a> StepGlance<'a> {
     /// Takes what the step does.
     fn take_name(&mut self, name: &[u8]) {
         self.members = members_by_name(name);
+        self.met = NONE_MET;
         if matches!(name, b"edits") {
             self.first_of_edit = FIRST;
         }
+    }
+
+    /// Takes what an edit does.
+    fn take_edit_name(&mut self, name: &[u8]) {
+        self.edit_members = members_by_edit_name(name);
+        self.edit_met = NONE_MET;
     }
 
     /// What the text after a member's name decides.
@@ -109,7 +132,7 @@ impl<'a> Passing<'a> for StepGlance<'a> {
         match self.awaited {
             Awaited::Name => self.take_name(text),
             Awaited::Report => self.members = members_by_report(text),
-            Awaited::EditName => self.edit_members = members_by_edit_name(text),
+            Awaited::EditName => self.take_edit_name(text),
             Awaited::Nothing => {}
         }
         self.awaited = Awaited::Nothing;
@@ -117,8 +140,13 @@ impl<'a> Passing<'a> for StepGlance<'a> {
 
     fn enter(&mut self) {
         self.depth = self.depth.saturating_add(1);
-        if self.depth == OF_EDIT {
-            self.edit_members = self.first_of_edit;
+        match self.depth {
+            OF_EDIT => {
+                self.edit_members = self.first_of_edit;
+                self.edit_met = NONE_MET;
+            }
+            OF_OUTCOME | OF_OUTCOME_OF_EDIT => self.outcome_met = OutcomeMet::none(),
+            _ => {}
         }
     }
 
@@ -130,15 +158,15 @@ impl<'a> Passing<'a> for StepGlance<'a> {
     fn name(&mut self, _value: &'a [u8]) -> bool {
         self.awaited = self.awaited_after_name();
         match self.depth {
-            OF_STEP => is_one_of(self.text, self.members),
-            OF_EDIT => is_one_of(self.text, self.edit_members),
-            OF_OUTCOME | OF_OUTCOME_OF_EDIT => is_one_of(self.text, PARTS_OF_OUTCOME),
+            OF_STEP => meets_one_of(self.text, self.members, &mut self.met),
+            OF_EDIT => meets_one_of(self.text, self.edit_members, &mut self.edit_met),
+            OF_OUTCOME | OF_OUTCOME_OF_EDIT => self.outcome_met.name(self.text),
             _ => false,
         }
     }
 }
 
-/// Whether a step could have a member that nothing reads. What it does has to stand before its other members, what it reports
+/// Whether a step could have a member that nothing reads, or one that stands more than once. What it does has to stand before its other members, what it reports
 /// before those of the report, and what an edit does before those of the edit, or it could.
 pub fn may_step_be_unread(step: &[u8]) -> bool {
     let mut glance = StepGlance {
@@ -148,6 +176,9 @@ pub fn may_step_be_unread(step: &[u8]) -> bool {
         members: FIRST,
         first_of_edit: &[],
         edit_members: &[],
+        met: NONE_MET,
+        outcome_met: OutcomeMet::none(),
+        edit_met: NONE_MET,
     };
     !all_pass(step, &mut glance)
 }

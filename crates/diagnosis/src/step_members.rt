@@ -12,6 +12,12 @@ const STAGE: Member = Member::Needed("stage", Wanted::Text);
 
 const WHAT: Member = Member::Needed("what", Wanted::Report);
 
+/// The names of the members of steps and of edits, of whatever name these are.
+pub(crate) const STEP_MEMBERS: &[&str] = &[
+    "do", "session", "version", "base", "stage", "result", "at", "takes", "queued", "runs",
+    "action", "ends", "new", "sources", "inner", "edits", "what", "against",
+];
+
 /// The members of a step of a name, beside `do` and but for reports.
 pub(crate) fn members_of(name: &str) -> &'static [Member] {
     match name {

@@ -1,4 +1,5 @@
-//! Where bytes stop being JSON, and what was expected there.
+//! Where bytes stop being JSON, and why.
+use crate::foreign::{Foreign, foreign_at};
 use crate::scanner::{Scanned, Stop, after_blanks, after_token};
 use std::alloc::{AllocError, Global};
 use std::fmt;
@@ -27,16 +28,27 @@ pub enum Expected {
     Fitting,
 }
 
-/// Where bytes stop being JSON, and what was expected there.
+/// Why bytes are no JSON.
+#[derive(Clone, Copy)]
+pub enum Unmet {
+    /// Something else was expected.
+    Expected {
+        expected: Expected,
+        /// Whether the bytes end there.
+        at_end: bool,
+    },
+    /// It is written as in another language.
+    Foreign(Foreign),
+}
+
+/// Where bytes stop being JSON, and why.
 #[derive(Clone, Copy)]
 pub struct JsonFault {
     /// The line, from 1.
     pub line: usize,
     /// The character of the line, from 1.
     pub column: usize,
-    pub expected: Expected,
-    /// Whether the bytes end there.
-    pub at_end: bool,
+    pub unmet: Unmet,
 }
 
 impl Expected {
@@ -69,20 +81,29 @@ impl fmt::Display for Expected {
     }
 }
 
+impl fmt::Display for Unmet {
+    fn fmt<W: fmt::Write>(&self, f: &mut fmt::Formatter<W>) -> fmt::Result {
+        match *self {
+            Unmet::Expected {
+                expected,
+                at_end: true,
+            } => write!(f, "expected {expected}, and the text ends"),
+            Unmet::Expected { expected, .. } => write!(f, "expected {expected}"),
+            Unmet::Foreign(foreign) => write!(f, "{foreign}"),
+        }
+    }
+}
+
 impl fmt::Display for JsonFault {
     fn fmt<W: fmt::Write>(&self, f: &mut fmt::Formatter<W>) -> fmt::Result {
-        let (line, column, expected) = (self.line, self.column, self.expected);
-        write!(f, "line {line}, column {column}: expected {expected}")?;
-        if self.at_end {
-            f.write_str(", and the text ends")?;
-        }
-        Ok(())
+        let (line, column, unmet) = (self.line, self.column, self.unmet);
+        write!(f, "line {line}, column {column}: {unmet}")
     }
 }
 
 impl JsonFault {
     /// The fault that lies so many bytes behind the front.
-    fn at(bytes: &[u8], offset: usize, expected: Expected) -> JsonFault {
+    fn at(bytes: &[u8], offset: usize, unmet: Unmet) -> JsonFault {
         let (mut line, mut column) = (1usize, 1usize);
         for byte in bytes.iter().take(offset) {
             match *byte {
@@ -98,8 +119,29 @@ impl JsonFault {
         JsonFault {
             line,
             column,
-            expected,
-            at_end: offset >= bytes.len(),
+            unmet,
+        }
+    }
+
+    /// The same, where something else was expected.
+    fn expecting(bytes: &[u8], offset: usize, expected: Expected) -> JsonFault {
+        let at_end = offset >= bytes.len();
+        JsonFault::at(bytes, offset, Unmet::Expected { expected, at_end })
+    }
+
+    /// The same, by what stands there.
+    fn stopped_at(bytes: &[u8], stop: Stop<'_>) -> JsonFault {
+        let offset = bytes.len().saturating_sub(stop.rest.len());
+        // (what stands in a text is no other language's)
+        let is_between = !matches!(
+            stop.expected,
+            Expected::Quote | Expected::Escape | Expected::HexadecimalDigit | Expected::Printable
+        );
+        match foreign_at(bytes.get(..offset).unwrap_or(&[]), stop.rest) {
+            Some((foreign, offset)) if is_between => {
+                JsonFault::at(bytes, offset, Unmet::Foreign(foreign))
+            }
+            _ => JsonFault::expecting(bytes, offset, stop.expected),
         }
     }
 }
@@ -134,14 +176,11 @@ fn utf8_front(bytes: &[u8]) -> Option<usize> {
 /// Where bytes that are no JSON stop being it.
 pub fn json_fault(alloc: Global, bytes: &[u8]) -> Result<JsonFault, AllocError> {
     if let Some(front) = utf8_front(bytes) {
-        return Ok(JsonFault::at(bytes, front, Expected::Utf8));
+        return Ok(JsonFault::expecting(bytes, front, Expected::Utf8));
     }
     match first_stop(alloc, bytes) {
-        Ok(()) => Ok(JsonFault::at(bytes, 0, Expected::Fitting)),
-        Err(Scanned::Stop(stop)) => {
-            let offset = bytes.len().saturating_sub(stop.rest.len());
-            Ok(JsonFault::at(bytes, offset, stop.expected))
-        }
+        Ok(()) => Ok(JsonFault::expecting(bytes, 0, Expected::Fitting)),
+        Err(Scanned::Stop(stop)) => Ok(JsonFault::stopped_at(bytes, stop)),
         Err(Scanned::Memory) => Err(AllocError),
     }
 }

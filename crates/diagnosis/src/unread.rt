@@ -1,9 +1,9 @@
-//! Members that nothing reads.
+//! Members that nothing reads, and those that stand more than once.
 use crate::quoted::Quoted;
 use crate::site::{Path, Site};
 use std::fmt;
 
-/// Why nothing reads a member.
+/// Why nothing reads a member, or one of its values.
 #[derive(Clone, Copy)]
 pub enum Unread<'a> {
     /// The format has no such member there.
@@ -12,9 +12,11 @@ pub enum Unread<'a> {
     OfFormTwo,
     /// Only other operations, or other ends, have it.
     OfAnother { name: &'a str },
+    /// The object has it more than once, and the last one counts.
+    Repeated,
 }
 
-/// A member that nothing reads.
+/// A member that nothing reads, or one of whose values nothing reads.
 #[derive(Clone, Copy)]
 pub struct Warning<'a> {
     pub site: Site<'a>,
@@ -57,6 +59,7 @@ impl fmt::Display for Unread<'_> {
                 let name = Quoted(name);
                 write!(f, " beside {name}")
             }
+            Unread::Repeated => f.write_str(" stands more than once, and the last one counts"),
         }
     }
 }
@@ -96,6 +99,10 @@ impl fmt::Display for Warning<'_> {
         self.write_sites(f)?;
         self.write_within(f)?;
         let (member, why) = (Quoted(self.member), self.why);
-        write!(f, ": nothing reads {member}{why}")
+        f.write_str(match why {
+            Unread::Repeated => ": ",
+            _ => ": nothing reads ",
+        })?;
+        write!(f, "{member}{why}")
     }
 }

@@ -1,4 +1,5 @@
 //! What a member may be.
+use crate::exception::is_exception;
 use crate::operation::{OPERATIONS, operation_of};
 use json_names::is_among;
 use serde_json::Value;
@@ -114,23 +115,6 @@ pub(crate) const WORDS: &[&str] = &[
     "throw",
 ];
 
-fn is_exception_byte(byte: u8) -> bool {
-    byte.is_ascii_alphanumeric() || matches!(byte, b'.' | b'_' | b'$')
-}
-
-/// Whether it is the name of an exception that a stage may hold.
-fn is_exception(value: &Value) -> bool {
-    match value.as_str() {
-        Some("java.util.concurrent.CompletionException") | None => false,
-        Some(text) => {
-            let bytes = text.as_bytes();
-            !bytes.is_empty()
-                && bytes.len() <= 128
-                && bytes.iter().all(|byte| is_exception_byte(*byte))
-        }
-    }
-}
-
 /// Whether a value has exactly one of the members of an outcome.
 fn is_outcome(value: &Value) -> bool {
     matches!(
@@ -150,7 +134,7 @@ impl Wanted {
             Wanted::Form => matches!(value.as_i64(), Some(1 | 2)),
             Wanted::Text => value.is_string(),
             Wanted::Value => value.is_null() || value.is_i64(),
-            Wanted::Exception => is_exception(value),
+            Wanted::Exception => value.as_str().is_some_and(is_exception),
             Wanted::Ticks => value.is_u64(),
             Wanted::TicksOrNull => value.is_null() || value.is_u64(),
             Wanted::Count => matches!(value.as_u64(), Some(0..=4_294_967_295)),

@@ -1,5 +1,5 @@
 -- What nodes are: a value, the items of an array, the members of an object.
-use Rattle.std.proofs.Common.{◌≡◌, ℕ, zero, suc, ◌+◌, ◌*◌, ◌<◌, ◌≤◌, List, [], ◌∷◌, ◌++◌, length, map, take, drop, true, Option, Some, None, option_map, option_and_then, true≢false, refl, sym, ap, ap₂, ◌∙◌, subst, arith, length-append, add-one, drop-cons, drop-drop, length-drop, take_all, ◌-◌}
+use Rattle.std.proofs.Common.{◌≡◌, ℕ, zero, suc, ◌+◌, ◌*◌, ◌<◌, ◌≤◌, List, [], ◌∷◌, ◌++◌, length, map, take, drop, true, Option, Some, None, option_map, option_and_then, true≢false, refl, sym, ap, ap₂, ◌∙◌, subst, arith, length-append, add-one, drop-cons, drop-drop, length-drop, take_all, ◌-◌, get_or}
 use Rattle.std.specs.Prelude.{slice_index_or}
 use Rattle.std.proofs.lemmas.List.{length-map, take-map, drop-map}
 use Rattle.std.proofs.Math.Seq.{take-append_seam, drop-append_seam}
@@ -9,7 +9,7 @@ use Rattle.serde_json.specs.Data.{Num, Data, null, boolean, number, string, arra
 use Rattle.serde_json.specs.Read.{number_of, of_json, of_items, of_members}
 use Rattle.serde_json.specs.Find.{as_null, as_bool, as_number, as_str, as_array, as_object}
 use Rattle.json_trees.specs.declared.node.Node.{Node}
-use Rattle.json_trees.specs.Cells.{Cell, cell, span, first_cell, inner_cells, json_cells, items_cells, members_cells, key_cell, number_or_null, data_in, items_in, pairs_in, turns, data_at, items_at, members_at, AreOf, AreOfItems, AreOfMembers, HoldsData, HoldsItems, HoldsMembers}
+use Rattle.json_trees.specs.Cells.{Cell, cell, span, first_cell, inner_cells, json_cells, items_cells, members_cells, key_cell, number_or_null, data_in, items_in, pairs_in, turns, data_at, items_at, members_at, AreOf, AreOfItems, AreOfMembers, HoldsData, HoldsItems, HoldsMembers, Texts}
 use Rattle.json_trees.specs.First.{boolean_in, is_array_cell, is_null_cell, is_object_cell, key_in, number_in, string_in}
 use Rattle.json_trees.specs.Named.{put_all, of_pairs}
 use Rattle.json_trees.specs.Valued.{data_of, items_of, pairs_of, HasData, HasItems, HasPairs}
@@ -245,98 +245,106 @@ mutual
       (ap (pairs_in n) (the_others j (members_cells ms)) ∙ pairs_back n ms f.rest f.rest_is (omega (arith, all, enough)))
       ∙ sym f.all_is
 
-pub data_at_is : (nodes : List Node) (j : json.Json) → AreOf nodes j → data_at nodes ≡ data_of j
-data_at_is nodes j h = ap (λ cs. data_in (turns cs) cs) h.0 ∙ data_back (turns (json_cells j)) j (data_of j) (data_is j h.1) (omega arith)
+pub data_at_is : (ts : Texts) (nodes : List Node) (j : json.Json) → AreOf ts nodes j → data_at ts nodes ≡ data_of j
+data_at_is ts nodes j h = ap (λ cs. data_in (turns cs) cs) h.0 ∙ data_back (turns (json_cells j)) j (data_of j) (data_is j h.1) (omega arith)
 
-pub items_at_is : (nodes : List Node) (js : json.Items) → AreOfItems nodes js → items_at nodes ≡ items_of js
-items_at_is nodes js h = ap (λ cs. items_in (turns cs) cs) h.0 ∙ items_back (turns (items_cells js)) js (items_of js) (items_is js h.1) (omega arith)
+pub items_at_is : (ts : Texts) (nodes : List Node) (js : json.Items) → AreOfItems ts nodes js → items_at ts nodes ≡ items_of js
+items_at_is ts nodes js h = ap (λ cs. items_in (turns cs) cs) h.0 ∙ items_back (turns (items_cells js)) js (items_of js) (items_is js h.1) (omega arith)
 
-pub members_at_is : (nodes : List Node) (ms : json.Members) → AreOfMembers nodes ms → members_at nodes ≡ pairs_of ms
-members_at_is nodes ms h = ap (λ cs. pairs_in (turns cs) cs) h.0 ∙ pairs_back (turns (members_cells ms)) ms (pairs_of ms) (pairs_is ms h.1) (omega arith)
+pub members_at_is : (ts : Texts) (nodes : List Node) (ms : json.Members) → AreOfMembers ts nodes ms → members_at ts nodes ≡ pairs_of ms
+members_at_is ts nodes ms h = ap (λ cs. pairs_in (turns cs) cs) h.0 ∙ pairs_back (turns (members_cells ms)) ms (pairs_of ms) (pairs_is ms h.1) (omega arith)
+
+-- ---- a node that is read
+
+-- `get_or` names a node that is read by any other default too
+pub node_read : (nodes : List Node) (at : ℕ) (d : Node) → get_or nodes at d ≡ slice_index_or nodes at (get_or nodes at d)
+node_read [] at d = refl
+node_read (m ∷ nodes) zero d = refl
+node_read (m ∷ nodes) (suc at) d = node_read nodes at d
 
 -- ---- the first value
 
 -- a node n that comes first is that of the value that comes first
-pub first_of : (nodes : List Node) (n : Node) (j : json.Json) (more : List Cell) → n ≡ slice_index_or nodes 0 n → map cell nodes ≡ json_cells j ++ more → cell n ≡ first_cell j
-first_of [] n j more is e = absurd (cc)
-first_of (m ∷ nodes) n j more is e = ap cell is ∙ cc
+pub first_of : (ts : Texts) (nodes : List Node) (n : Node) (j : json.Json) (more : List Cell) → n ≡ slice_index_or nodes 0 n → map (cell ts) nodes ≡ json_cells j ++ more → cell ts n ≡ first_cell j
+first_of ts [] n j more is e = absurd (cc)
+first_of ts (m ∷ nodes) n j more is e = ap (cell ts) is ∙ cc
 
-pub reach : (nodes : List Node) (n : Node) (j : json.Json) (more : List Cell) → n ≡ slice_index_or nodes 0 n → map cell nodes ≡ json_cells j ++ more
-    → (span (cell n) ≡ length (json_cells j)) × (length nodes ≡ length (json_cells j) + length more)
-reach nodes n j more is e =
-    (ap span (first_of nodes n j more is e) ∙ span_first j, sym (length-map nodes cell) ∙ ap length e ∙ length-append (json_cells j) more)
+pub reach : (ts : Texts) (nodes : List Node) (n : Node) (j : json.Json) (more : List Cell) → n ≡ slice_index_or nodes 0 n → map (cell ts) nodes ≡ json_cells j ++ more
+    → (span (cell ts n) ≡ length (json_cells j)) × (length nodes ≡ length (json_cells j) + length more)
+reach ts nodes n j more is e =
+    (ap span (first_of ts nodes n j more is e) ∙ span_first j, sym (length-map nodes (cell ts)) ∙ ap length e ∙ length-append (json_cells j) more)
 
 -- the value that comes first, and what comes after it
-pub first_value : (nodes : List Node) (n : Node) (j : json.Json) (more : List Cell) → n ≡ slice_index_or nodes 0 n → map cell nodes ≡ json_cells j ++ more
-    → (map cell (take (span (cell n)) nodes) ≡ json_cells j) × (map cell (drop (span (cell n)) nodes) ≡ more)
-first_value nodes n j more is e =
-    let here = first_of nodes n j more is e in
-    (sym (take-map cell (span (cell n)) nodes) ∙ ap₂ (λ c cs. take (span c) cs) here e ∙ its_own j more, sym (drop-map cell (span (cell n)) nodes) ∙ ap₂ (λ c cs. drop (span c) cs) here e ∙ the_others j more)
+pub first_value : (ts : Texts) (nodes : List Node) (n : Node) (j : json.Json) (more : List Cell) → n ≡ slice_index_or nodes 0 n → map (cell ts) nodes ≡ json_cells j ++ more
+    → (map (cell ts) (take (span (cell ts n)) nodes) ≡ json_cells j) × (map (cell ts) (drop (span (cell ts n)) nodes) ≡ more)
+first_value ts nodes n j more is e =
+    let here = first_of ts nodes n j more is e in
+    (sym (take-map (cell ts) (span (cell ts n)) nodes) ∙ ap₂ (λ c cs. take (span c) cs) here e ∙ its_own j more, sym (drop-map (cell ts) (span (cell ts n)) nodes) ∙ ap₂ (λ c cs. drop (span c) cs) here e ∙ the_others j more)
 
 -- ---- a handle
 
-pub first_alone : (nodes : List Node) (n : Node) (j : json.Json) → n ≡ slice_index_or nodes 0 n → map cell nodes ≡ json_cells j → cell n ≡ first_cell j
-first_alone [] n j is e = absurd (cc)
-first_alone (m ∷ nodes) n j is e = ap cell is ∙ cc
+pub first_alone : (ts : Texts) (nodes : List Node) (n : Node) (j : json.Json) → n ≡ slice_index_or nodes 0 n → map (cell ts) nodes ≡ json_cells j → cell ts n ≡ first_cell j
+first_alone ts [] n j is e = absurd (cc)
+first_alone ts (m ∷ nodes) n j is e = ap (cell ts) is ∙ cc
 
-abbrev pub FirstTells : Node → Data → Type 0
-FirstTells n d = (j : json.Json) × (cell n ≡ first_cell j) × HasData j × (d ≡ data_of j)
+abbrev pub FirstTells : Texts → Node → Data → Type 0
+FirstTells ts n d = (j : json.Json) × (cell ts n ≡ first_cell j) × HasData j × (d ≡ data_of j)
 
-pub tells : (nodes : List Node) (n : Node) (d : Data) → HoldsData nodes → data_at nodes ≡ d → n ≡ slice_index_or nodes 0 n → FirstTells n d
-tells nodes n d h view is = (h.0, first_alone nodes n h.0 is h.1.0, h.1.1, sym view ∙ data_at_is nodes h.0 h.1)
+pub tells : (ts : Texts) (nodes : List Node) (n : Node) (d : Data) → HoldsData ts nodes → data_at ts nodes ≡ d → n ≡ slice_index_or nodes 0 n → FirstTells ts n d
+tells ts nodes n d h view is = (h.0, first_alone ts nodes n h.0 is h.1.0, h.1.1, sym view ∙ data_at_is ts nodes h.0 h.1)
 
-pub string_told : (n : Node) (d : Data) → FirstTells n d → string_in (cell n) ≡ as_str d
-string_told n d t = ap string_in t.1 ∙ string_is t.0 (data_of t.0) (form_of t.0 t.2) ∙ ap as_str (sym t.3)
+pub string_told : (ts : Texts) (n : Node) (d : Data) → FirstTells ts n d → string_in (cell ts n) ≡ as_str d
+string_told ts n d t = ap string_in t.1 ∙ string_is t.0 (data_of t.0) (form_of t.0 t.2) ∙ ap as_str (sym t.3)
 
-pub boolean_told : (n : Node) (d : Data) → FirstTells n d → boolean_in (cell n) ≡ as_bool d
-boolean_told n d t = ap boolean_in t.1 ∙ boolean_is t.0 (data_of t.0) (form_of t.0 t.2) ∙ ap as_bool (sym t.3)
+pub boolean_told : (ts : Texts) (n : Node) (d : Data) → FirstTells ts n d → boolean_in (cell ts n) ≡ as_bool d
+boolean_told ts n d t = ap boolean_in t.1 ∙ boolean_is t.0 (data_of t.0) (form_of t.0 t.2) ∙ ap as_bool (sym t.3)
 
-pub number_told : (n : Node) (d : Data) → FirstTells n d → number_in (cell n) ≡ as_number d
-number_told n d t = ap number_in t.1 ∙ number_is t.0 (data_of t.0) (form_of t.0 t.2) ∙ ap as_number (sym t.3)
+pub number_told : (ts : Texts) (n : Node) (d : Data) → FirstTells ts n d → number_in (cell ts n) ≡ as_number d
+number_told ts n d t = ap number_in t.1 ∙ number_is t.0 (data_of t.0) (form_of t.0 t.2) ∙ ap as_number (sym t.3)
 
-pub null_told : (n : Node) (d : Data) → FirstTells n d → is_null_cell (cell n) ≡ is_some (as_null d)
-null_told n d t = ap is_null_cell t.1 ∙ null_is t.0 (data_of t.0) (form_of t.0 t.2) ∙ ap (λ x. is_some (as_null x)) (sym t.3)
+pub null_told : (ts : Texts) (n : Node) (d : Data) → FirstTells ts n d → is_null_cell (cell ts n) ≡ is_some (as_null d)
+null_told ts n d t = ap is_null_cell t.1 ∙ null_is t.0 (data_of t.0) (form_of t.0 t.2) ∙ ap (λ x. is_some (as_null x)) (sym t.3)
 
-pub array_told : (n : Node) (d : Data) → FirstTells n d → is_array_cell (cell n) ≡ is_some (as_array d)
-array_told n d t = ap is_array_cell t.1 ∙ array_is t.0 (data_of t.0) (form_of t.0 t.2) ∙ ap (λ x. is_some (as_array x)) (sym t.3)
+pub array_told : (ts : Texts) (n : Node) (d : Data) → FirstTells ts n d → is_array_cell (cell ts n) ≡ is_some (as_array d)
+array_told ts n d t = ap is_array_cell t.1 ∙ array_is t.0 (data_of t.0) (form_of t.0 t.2) ∙ ap (λ x. is_some (as_array x)) (sym t.3)
 
-pub object_told : (n : Node) (d : Data) → FirstTells n d → is_object_cell (cell n) ≡ is_some (as_object d)
-object_told n d t = ap is_object_cell t.1 ∙ object_is t.0 (data_of t.0) (form_of t.0 t.2) ∙ ap (λ x. is_some (as_object x)) (sym t.3)
+pub object_told : (ts : Texts) (n : Node) (d : Data) → FirstTells ts n d → is_object_cell (cell ts n) ≡ is_some (as_object d)
+object_told ts n d t = ap is_object_cell t.1 ∙ object_is t.0 (data_of t.0) (form_of t.0 t.2) ∙ ap (λ x. is_some (as_object x)) (sym t.3)
 
 -- ---- what an array and an object have
 
-past_first : (nodes : List Node) (j : json.Json) → map cell nodes ≡ json_cells j → map cell (drop 1 nodes) ≡ inner_cells j
-past_first nodes j e = sym (drop-map cell 1 nodes) ∙ ap (drop 1) e
+past_first : (ts : Texts) (nodes : List Node) (j : json.Json) → map (cell ts) nodes ≡ json_cells j → map (cell ts) (drop 1 nodes) ≡ inner_cells j
+past_first ts nodes j e = sym (drop-map (cell ts) 1 nodes) ∙ ap (drop 1) e
 
-pub record HasArray (nodes : List Node) (d : Data) : Type 0 where
+pub record HasArray (ts : Texts) (nodes : List Node) (d : Data) : Type 0 where
   pub «items» : json.Items
-  pub are : AreOfItems (drop 1 nodes) «items»
+  pub are : AreOfItems ts (drop 1 nodes) «items»
   pub is : as_array d ≡ Some (items_of «items»)
 
-pub array_there : (nodes : List Node) (d : Data) → HoldsData nodes → data_at nodes ≡ d → is_some (as_array d) ≡ true → HasArray nodes d
-array_there nodes d h view some =
+pub array_there : (ts : Texts) (nodes : List Node) (d : Data) → HoldsData ts nodes → data_at ts nodes ≡ d → is_some (as_array d) ≡ true → HasArray ts nodes d
+array_there ts nodes d h view some =
     let j = h.0 in
-    let same : d ≡ data_of j = sym view ∙ data_at_is nodes j h.1 in
+    let same : d ≡ data_of j = sym view ∙ data_at_is ts nodes j h.1 in
     let a = array_form j (array_is j (data_of j) (form_of j h.1.1) ∙ ap (λ x. is_some (as_array x)) (sym same) ∙ some) in
     let f : Form (json.array a.0) (data_of j) = subst (λ x. Form x (data_of j)) a.1 (form_of j h.1.1) in
     record {
       «items» = a.0;
-      are = (past_first nodes j h.1.0 ∙ ap inner_cells a.1, has_items j a.0 a.1 h.1.1);
+      are = (past_first ts nodes j h.1.0 ∙ ap inner_cells a.1, has_items j a.0 a.1 h.1.1);
       is = ap as_array (same ∙ f.2) ∙ ap (λ (ds : Items). Some ds) (sym (ap (λ o. unwrap_or o no_items) f.1));
     }
 
-pub record HasObject (nodes : List Node) (d : Data) : Type 0 where
+pub record HasObject (ts : Texts) (nodes : List Node) (d : Data) : Type 0 where
   pub «members» : json.Members
-  pub are : AreOfMembers (drop 1 nodes) «members»
+  pub are : AreOfMembers ts (drop 1 nodes) «members»
   pub is : d ≡ object (put_all (pairs_of «members») no_members)
 
-pub object_there : (nodes : List Node) (d : Data) → HoldsData nodes → data_at nodes ≡ d → is_some (as_object d) ≡ true → HasObject nodes d
-object_there nodes d h view some =
+pub object_there : (ts : Texts) (nodes : List Node) (d : Data) → HoldsData ts nodes → data_at ts nodes ≡ d → is_some (as_object d) ≡ true → HasObject ts nodes d
+object_there ts nodes d h view some =
     let j = h.0 in
-    let same : d ≡ data_of j = sym view ∙ data_at_is nodes j h.1 in
+    let same : d ≡ data_of j = sym view ∙ data_at_is ts nodes j h.1 in
     let a = object_form j (object_is j (data_of j) (form_of j h.1.1) ∙ ap (λ x. is_some (as_object x)) (sym same) ∙ some) in
     let all = has_pairs j a.0 a.1 h.1.1 in
-    record { «members» = a.0; are = (past_first nodes j h.1.0 ∙ ap inner_cells a.1, all.0); is = same ∙ all.1 }
+    record { «members» = a.0; are = (past_first ts nodes j h.1.0 ∙ ap inner_cells a.1, all.0); is = same ∙ all.1 }
 
 -- ---- the next item, the next member
 
@@ -347,128 +355,128 @@ tail_is : (nodes : List Node) (at : ℕ) → take (length nodes - at) (drop at n
 tail_is nodes at = take_all (length nodes - at) (drop at nodes) (omega (arith, length-drop at nodes))
 
 -- a value is taken that stands first in a part
-abbrev pub TakesFirst : List Node → List Node → Type 0
-TakesFirst part value = (j : json.Json) → (more : List Cell) → map cell part ≡ json_cells j ++ more → (map cell value ≡ json_cells j) × (map cell (drop (length value) part) ≡ more)
+abbrev pub TakesFirst : Texts → List Node → List Node → Type 0
+TakesFirst ts part value = (j : json.Json) → (more : List Cell) → map (cell ts) part ≡ json_cells j ++ more → (map (cell ts) value ≡ json_cells j) × (map (cell ts) (drop (length value) part) ≡ more)
 
 -- a value is taken that stands at a place, and what comes after it is left
-taken : (nodes value : List Node) (at : ℕ) (j : json.Json) (more : List Cell) → map cell (drop at nodes) ≡ json_cells j ++ more → TakesFirst (take (length nodes - at) (drop at nodes)) value
-    → (map cell value ≡ json_cells j) × (map cell (drop (at + length value) nodes) ≡ more)
-taken nodes value at j more e f =
-    let v = f j more (ap (map cell) (tail_is nodes at) ∙ e) in
-    (v.0, ap (map cell) (sym (drop-drop (length value) at nodes)) ∙ ap (λ part. map cell (drop (length value) part)) (sym (tail_is nodes at)) ∙ v.1)
+taken : (ts : Texts) (nodes value : List Node) (at : ℕ) (j : json.Json) (more : List Cell) → map (cell ts) (drop at nodes) ≡ json_cells j ++ more → TakesFirst ts (take (length nodes - at) (drop at nodes)) value
+    → (map (cell ts) value ≡ json_cells j) × (map (cell ts) (drop (at + length value) nodes) ≡ more)
+taken ts nodes value at j more e f =
+    let v = f j more (ap (map (cell ts)) (tail_is nodes at) ∙ e) in
+    (v.0, ap (map (cell ts)) (sym (drop-drop (length value) at nodes)) ∙ ap (λ part. map (cell ts) (drop (length value) part)) (sym (tail_is nodes at)) ∙ v.1)
 
-abbrev pub BeginsWithValue : List Node → Type 0
-BeginsWithValue part = (j : json.Json) × (more : List Cell) × (map cell part ≡ json_cells j ++ more)
+abbrev pub BeginsWithValue : Texts → List Node → Type 0
+BeginsWithValue ts part = (j : json.Json) × (more : List Cell) × (map (cell ts) part ≡ json_cells j ++ more)
 
-pub record NextItem (nodes : List Node) : Type 0 where
+pub record NextItem (ts : Texts) (nodes : List Node) : Type 0 where
   pub value : json.Json
   pub others : json.Items
-  pub begins : map cell nodes ≡ json_cells value ++ items_cells others
+  pub begins : map (cell ts) nodes ≡ json_cells value ++ items_cells others
   pub has_value : HasData value
   pub has_others : HasItems others
-  pub is : items_at nodes ≡ item (data_of value) (items_of others)
+  pub is : items_at ts nodes ≡ item (data_of value) (items_of others)
 
-item_next : (nodes : List Node) (js : json.Items) → AreOfItems nodes js → 0 < length nodes → NextItem nodes
-item_next nodes json.no_items h some = let none : length nodes ≡ 0 = sym (length-map nodes cell) ∙ ap length h.0 in absurd (omega (arith, none, some))
-item_next nodes (json.item j js) h some =
+item_next : (ts : Texts) (nodes : List Node) (js : json.Items) → AreOfItems ts nodes js → 0 < length nodes → NextItem ts nodes
+item_next ts nodes json.no_items h some = let none : length nodes ≡ 0 = sym (length-map nodes (cell ts)) ∙ ap length h.0 in absurd (omega (arith, none, some))
+item_next ts nodes (json.item j js) h some =
     let f = first_of_items (json.item j js) js j refl h.1 in
-    record { value = j; others = js; begins = h.0; has_value = f.0; has_others = f.1.0; is = items_at_is nodes (json.item j js) h ∙ f.1.1 }
+    record { value = j; others = js; begins = h.0; has_value = f.0; has_others = f.1.0; is = items_at_is ts nodes (json.item j js) h ∙ f.1.1 }
 
-pub next_item : (nodes : List Node) → HoldsItems nodes → 0 < length nodes → NextItem nodes
-next_item nodes h some = item_next nodes h.0 h.1 some
+pub next_item : (ts : Texts) (nodes : List Node) → HoldsItems ts nodes → 0 < length nodes → NextItem ts nodes
+next_item ts nodes h some = item_next ts nodes h.0 h.1 some
 
-pub record NextMember (nodes : List Node) : Type 0 where
+pub record NextMember (ts : Texts) (nodes : List Node) : Type 0 where
   pub key : List ℕ
   pub value : json.Json
   pub others : json.Members
-  pub begins : map cell nodes ≡ key_cell key ∷ (json_cells value ++ members_cells others)
+  pub begins : map (cell ts) nodes ≡ key_cell key ∷ (json_cells value ++ members_cells others)
   pub has_value : HasData value
   pub has_others : HasPairs others
-  pub is : members_at nodes ≡ (key, data_of value) ∷ pairs_of others
+  pub is : members_at ts nodes ≡ (key, data_of value) ∷ pairs_of others
 
-member_next : (nodes : List Node) (ms : json.Members) → AreOfMembers nodes ms → 0 < length nodes → NextMember nodes
-member_next nodes json.no_members h some = let none : length nodes ≡ 0 = sym (length-map nodes cell) ∙ ap length h.0 in absurd (omega (arith, none, some))
-member_next nodes (json.member k j ms) h some =
+member_next : (ts : Texts) (nodes : List Node) (ms : json.Members) → AreOfMembers ts nodes ms → 0 < length nodes → NextMember ts nodes
+member_next ts nodes json.no_members h some = let none : length nodes ≡ 0 = sym (length-map nodes (cell ts)) ∙ ap length h.0 in absurd (omega (arith, none, some))
+member_next ts nodes (json.member k j ms) h some =
     let f = first_of_members (json.member k j ms) ms k j refl h.1 in
-    record { key = k; value = j; others = ms; begins = h.0; has_value = f.0; has_others = f.1.0; is = members_at_is nodes (json.member k j ms) h ∙ f.1.1 }
+    record { key = k; value = j; others = ms; begins = h.0; has_value = f.0; has_others = f.1.0; is = members_at_is ts nodes (json.member k j ms) h ∙ f.1.1 }
 
-pub next_member : (nodes : List Node) → HoldsMembers nodes → 0 < length nodes → NextMember nodes
-next_member nodes h some = member_next nodes h.0 h.1 some
+pub next_member : (ts : Texts) (nodes : List Node) → HoldsMembers ts nodes → 0 < length nodes → NextMember ts nodes
+next_member ts nodes h some = member_next ts nodes h.0 h.1 some
 
-pub item_begins : (nodes : List Node) (at : ℕ) → HoldsItems (drop at nodes) → at < length nodes → BeginsWithValue (take (length nodes - at) (drop at nodes))
-item_begins nodes at h within =
-    let n = next_item (drop at nodes) h (omega (arith, length-drop at nodes, within)) in
-    (n.value, items_cells n.others, ap (map cell) (tail_is nodes at) ∙ n.begins)
+pub item_begins : (ts : Texts) (nodes : List Node) (at : ℕ) → HoldsItems ts (drop at nodes) → at < length nodes → BeginsWithValue ts (take (length nodes - at) (drop at nodes))
+item_begins ts nodes at h within =
+    let n = next_item ts (drop at nodes) h (omega (arith, length-drop at nodes, within)) in
+    (n.value, items_cells n.others, ap (map (cell ts)) (tail_is nodes at) ∙ n.begins)
 
-pub record ItemTaken (nodes value : List Node) (at : ℕ) : Type 0 where
-  pub holds_value : HoldsData value
-  pub holds_others : HoldsItems (drop (at + length value) nodes)
-  pub is : items_at (drop at nodes) ≡ item (data_at value) (items_at (drop (at + length value) nodes))
+pub record ItemTaken (ts : Texts) (nodes value : List Node) (at : ℕ) : Type 0 where
+  pub holds_value : HoldsData ts value
+  pub holds_others : HoldsItems ts (drop (at + length value) nodes)
+  pub is : items_at ts (drop at nodes) ≡ item (data_at ts value) (items_at ts (drop (at + length value) nodes))
 
-pub item_taken : (nodes value : List Node) (at : ℕ) → HoldsItems (drop at nodes) → at < length nodes → TakesFirst (take (length nodes - at) (drop at nodes)) value → ItemTaken nodes value at
-item_taken nodes value at h within f =
-    let n = next_item (drop at nodes) h (omega (arith, length-drop at nodes, within)) in
-    let v = taken nodes value at n.value (items_cells n.others) n.begins f in
+pub item_taken : (ts : Texts) (nodes value : List Node) (at : ℕ) → HoldsItems ts (drop at nodes) → at < length nodes → TakesFirst ts (take (length nodes - at) (drop at nodes)) value → ItemTaken ts nodes value at
+item_taken ts nodes value at h within f =
+    let n = next_item ts (drop at nodes) h (omega (arith, length-drop at nodes, within)) in
+    let v = taken ts nodes value at n.value (items_cells n.others) n.begins f in
     record {
       holds_value = (n.value, (v.0, n.has_value));
       holds_others = (n.others, (v.1, n.has_others));
-      is = n.is ∙ ap₂ item (sym (data_at_is value n.value (v.0, n.has_value))) (sym (items_at_is (drop (at + length value) nodes) n.others (v.1, n.has_others)));
+      is = n.is ∙ ap₂ item (sym (data_at_is ts value n.value (v.0, n.has_value))) (sym (items_at_is ts (drop (at + length value) nodes) n.others (v.1, n.has_others)));
     }
 
 -- the member at a place: its name, and its value at the next one
-pub record MemberThere (nodes : List Node) (at : ℕ) (n : Node) : Type 0 where
-  pub next : NextMember (drop at nodes)
-  pub key : cell n ≡ key_cell next.key
-  pub begins : map cell (drop (at + 1) nodes) ≡ json_cells next.value ++ members_cells next.others
+pub record MemberThere (ts : Texts) (nodes : List Node) (at : ℕ) (n : Node) : Type 0 where
+  pub next : NextMember ts (drop at nodes)
+  pub key : cell ts n ≡ key_cell next.key
+  pub begins : map (cell ts) (drop (at + 1) nodes) ≡ json_cells next.value ++ members_cells next.others
 
-pub member_there : (nodes : List Node) (at : ℕ) (n : Node) → HoldsMembers (drop at nodes) → at < length nodes → n ≡ slice_index_or nodes at n → MemberThere nodes at n
-member_there nodes at n h within is =
-    let m = next_member (drop at nodes) h (omega (arith, length-drop at nodes, within)) in
-    let both : cell n ∷ map cell (drop (at + 1) nodes) ≡ key_cell m.key ∷ (json_cells m.value ++ members_cells m.others) = sym (ap (map cell) (front nodes at n within is)) ∙ m.begins in
+pub member_there : (ts : Texts) (nodes : List Node) (at : ℕ) (n : Node) → HoldsMembers ts (drop at nodes) → at < length nodes → n ≡ slice_index_or nodes at n → MemberThere ts nodes at n
+member_there ts nodes at n h within is =
+    let m = next_member ts (drop at nodes) h (omega (arith, length-drop at nodes, within)) in
+    let both : cell ts n ∷ map (cell ts) (drop (at + 1) nodes) ≡ key_cell m.key ∷ (json_cells m.value ++ members_cells m.others) = sym (ap (map (cell ts)) (front nodes at n within is)) ∙ m.begins in
     record { next = m; key = cc; begins = cc }
 
-pub member_begins : (nodes : List Node) (at : ℕ) (n : Node) → MemberThere nodes at n → BeginsWithValue (take (length nodes - (at + 1)) (drop (at + 1) nodes))
-member_begins nodes at n t = (t.next.value, members_cells t.next.others, ap (map cell) (tail_is nodes (at + 1)) ∙ t.begins)
+pub member_begins : (ts : Texts) (nodes : List Node) (at : ℕ) (n : Node) → MemberThere ts nodes at n → BeginsWithValue ts (take (length nodes - (at + 1)) (drop (at + 1) nodes))
+member_begins ts nodes at n t = (t.next.value, members_cells t.next.others, ap (map (cell ts)) (tail_is nodes (at + 1)) ∙ t.begins)
 
-pub record MemberTaken (nodes value : List Node) (at : ℕ) (key : List ℕ) : Type 0 where
-  pub holds_value : HoldsData value
-  pub holds_others : HoldsMembers (drop (at + 1 + length value) nodes)
-  pub is : members_at (drop at nodes) ≡ (key, data_at value) ∷ members_at (drop (at + 1 + length value) nodes)
+pub record MemberTaken (ts : Texts) (nodes value : List Node) (at : ℕ) (key : List ℕ) : Type 0 where
+  pub holds_value : HoldsData ts value
+  pub holds_others : HoldsMembers ts (drop (at + 1 + length value) nodes)
+  pub is : members_at ts (drop at nodes) ≡ (key, data_at ts value) ∷ members_at ts (drop (at + 1 + length value) nodes)
 
-pub member_taken : (nodes value : List Node) (at : ℕ) (n : Node) (key : List ℕ) (t : MemberThere nodes at n) → key ≡ t.next.key → TakesFirst (take (length nodes - (at + 1)) (drop (at + 1) nodes)) value → MemberTaken nodes value at key
-member_taken nodes value at n key t named f =
+pub member_taken : (ts : Texts) (nodes value : List Node) (at : ℕ) (n : Node) (key : List ℕ) (t : MemberThere ts nodes at n) → key ≡ t.next.key → TakesFirst ts (take (length nodes - (at + 1)) (drop (at + 1) nodes)) value → MemberTaken ts nodes value at key
+member_taken ts nodes value at n key t named f =
     let m = t.next in
-    let v = taken nodes value (at + 1) m.value (members_cells m.others) t.begins f in
+    let v = taken ts nodes value (at + 1) m.value (members_cells m.others) t.begins f in
     let past = drop (at + 1 + length value) nodes in
     record {
       holds_value = (m.value, (v.0, m.has_value));
       holds_others = (m.others, (v.1, m.has_others));
-      is = m.is ∙ ap₂ (λ d ps. (m.key, d) ∷ ps) (sym (data_at_is value m.value (v.0, m.has_value))) (sym (members_at_is past m.others (v.1, m.has_others))) ∙ ap (λ k. (k, data_at value) ∷ members_at past) (sym named);
+      is = m.is ∙ ap₂ (λ d ps. (m.key, d) ∷ ps) (sym (data_at_is ts value m.value (v.0, m.has_value))) (sym (members_at_is ts past m.others (v.1, m.has_others))) ∙ ap (λ k. (k, data_at ts value) ∷ members_at ts past) (sym named);
     }
 
-pub array_tail : (nodes : List Node) (d : Data) → HoldsData nodes → data_at nodes ≡ d → is_some (as_array d) ≡ true
-    → HoldsItems (take (length nodes - 1) (drop 1 nodes)) × (Some (items_at (take (length nodes - 1) (drop 1 nodes))) ≡ as_array d)
-array_tail nodes d h view some =
-    let a = array_there nodes d h view some in
-    let all : (js : json.Items) × AreOfItems (take (length nodes - 1) (drop 1 nodes)) js = (a.«items», (ap (map cell) (tail_is nodes 1) ∙ a.are.0, a.are.1)) in
-    (all, ap (λ (ds : Items). Some ds) (items_at_is (take (length nodes - 1) (drop 1 nodes)) a.«items» all.1) ∙ sym a.is)
+pub array_tail : (ts : Texts) (nodes : List Node) (d : Data) → HoldsData ts nodes → data_at ts nodes ≡ d → is_some (as_array d) ≡ true
+    → HoldsItems ts (take (length nodes - 1) (drop 1 nodes)) × (Some (items_at ts (take (length nodes - 1) (drop 1 nodes))) ≡ as_array d)
+array_tail ts nodes d h view some =
+    let a = array_there ts nodes d h view some in
+    let all : (js : json.Items) × AreOfItems ts (take (length nodes - 1) (drop 1 nodes)) js = (a.«items», (ap (map (cell ts)) (tail_is nodes 1) ∙ a.are.0, a.are.1)) in
+    (all, ap (λ (ds : Items). Some ds) (items_at_is ts (take (length nodes - 1) (drop 1 nodes)) a.«items» all.1) ∙ sym a.is)
 
-pub object_tail : (nodes : List Node) (d : Data) → HoldsData nodes → data_at nodes ≡ d → is_some (as_object d) ≡ true
-    → HoldsMembers (take (length nodes - 1) (drop 1 nodes)) × (d ≡ object (put_all (members_at (take (length nodes - 1) (drop 1 nodes))) no_members))
-object_tail nodes d h view some =
-    let a = object_there nodes d h view some in
-    let all : (ms : json.Members) × AreOfMembers (take (length nodes - 1) (drop 1 nodes)) ms = (a.«members», (ap (map cell) (tail_is nodes 1) ∙ a.are.0, a.are.1)) in
-    (all, a.is ∙ ap (λ ps. object (put_all ps no_members)) (sym (members_at_is (take (length nodes - 1) (drop 1 nodes)) a.«members» all.1)))
+pub object_tail : (ts : Texts) (nodes : List Node) (d : Data) → HoldsData ts nodes → data_at ts nodes ≡ d → is_some (as_object d) ≡ true
+    → HoldsMembers ts (take (length nodes - 1) (drop 1 nodes)) × (d ≡ object (put_all (members_at ts (take (length nodes - 1) (drop 1 nodes))) no_members))
+object_tail ts nodes d h view some =
+    let a = object_there ts nodes d h view some in
+    let all : (ms : json.Members) × AreOfMembers ts (take (length nodes - 1) (drop 1 nodes)) ms = (a.«members», (ap (map (cell ts)) (tail_is nodes 1) ∙ a.are.0, a.are.1)) in
+    (all, a.is ∙ ap (λ ps. object (put_all ps no_members)) (sym (members_at_is ts (take (length nodes - 1) (drop 1 nodes)) a.«members» all.1)))
 
-pub no_key : (nodes : List Node) (at : ℕ) (n : Node) → HoldsMembers (drop at nodes) → at < length nodes → n ≡ slice_index_or nodes at n → key_in (cell n) ≡ None → ⊥
-no_key nodes at n h within is none = let t = member_there nodes at n h within is in cc
+pub no_key : (ts : Texts) (nodes : List Node) (at : ℕ) (n : Node) → HoldsMembers ts (drop at nodes) → at < length nodes → n ≡ slice_index_or nodes at n → key_in (cell ts n) ≡ None → ⊥
+no_key ts nodes at n h within is none = let t = member_there ts nodes at n h within is in cc
 
-pub its_key : (nodes : List Node) (at : ℕ) (n : Node) (name : List ℕ) (t : MemberThere nodes at n) → Some name ≡ key_in (cell n) → name ≡ t.next.key
-its_key nodes at n name t e = cc
+pub its_key : (ts : Texts) (nodes : List Node) (at : ℕ) (n : Node) (name : List ℕ) (t : MemberThere ts nodes at n) → Some name ≡ key_in (cell ts n) → name ≡ t.next.key
+its_key ts nodes at n name t e = cc
 
-pub member_at : (nodes value : List Node) (at : ℕ) (n : Node) (name : List ℕ) → HoldsMembers (drop at nodes) → at < length nodes → n ≡ slice_index_or nodes at n → Some name ≡ key_in (cell n)
-    → TakesFirst (take (length nodes - (at + 1)) (drop (at + 1) nodes)) value → MemberTaken nodes value at name
-member_at nodes value at n name h within is named f = let t = member_there nodes at n h within is in member_taken nodes value at n name t (its_key nodes at n name t named) f
+pub member_at : (ts : Texts) (nodes value : List Node) (at : ℕ) (n : Node) (name : List ℕ) → HoldsMembers ts (drop at nodes) → at < length nodes → n ≡ slice_index_or nodes at n → Some name ≡ key_in (cell ts n)
+    → TakesFirst ts (take (length nodes - (at + 1)) (drop (at + 1) nodes)) value → MemberTaken ts nodes value at name
+member_at ts nodes value at n name h within is named f = let t = member_there ts nodes at n h within is in member_taken ts nodes value at n name t (its_key ts nodes at n name t named) f
 
-pub none_left : HoldsItems []
-none_left = (json.no_items, (refl, (no_items, refl)))
+pub none_left : (ts : Texts) → HoldsItems ts []
+none_left ts = (json.no_items, (refl, (no_items, refl)))

@@ -3,3 +3,4 @@ pub mod Holding
 pub mod Put
 pub mod Plain
 pub mod Building
+mod Texts

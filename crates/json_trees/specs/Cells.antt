@@ -1,9 +1,10 @@
 -- The nodes of a value, one after the other, and the value that they are.
-use Rattle.std.specs.Prelude.{◌≡◌, ℕ, zero, suc, ◌+◌, ◌*◌, Bool, List, [], ◌∷◌, ◌++◌, length, map, take, drop, Option, Some, None}
+use Rattle.std.specs.Prelude.{◌≡◌, ℕ, zero, suc, ◌+◌, ◌*◌, Bool, List, [], ◌∷◌, ◌++◌, length, map, take, drop, codes, Option, Some, None}
+use Rattle.std.specs.Borrow.{Bor}
 use Rattle.json.specs.Json as json
-use Rattle.serde_json.specs.Data.{Num, Data, null, boolean, number, string, array, object, Items, no_items, item, no_members}
+use Rattle.serde_json.specs.Data.{Num, unsigned, Data, null, boolean, number, string, array, object, Items, no_items, item, no_members}
+use Rattle.serde_json.specs.Find.{of_integer}
 use Rattle.serde_json.specs.Read.{number_of}
-use Rattle.serde_json.specs.View.{number_view}
 use Rattle.json_trees.specs.Named.{put_all}
 use Rattle.json_trees.specs.Valued.{HasData, HasItems, HasPairs}
 use Rattle.json_trees.specs.declared.node.Node.{Node}
@@ -21,14 +22,28 @@ pub data Cell : Type 0 where
   -- the same of an object
   object_cell : ℕ → Cell
 
-abbrev pub cell : Node → Cell
-cell node.Null = null_cell
-cell (node.Bool b) = boolean_cell b
-cell (node.Number n) = number_cell (Some (number_view n))
-cell (node.String s) = string_cell s.now
-cell (node.Key s) = key_cell s.now
-cell (node.Array n) = array_cell n
-cell (node.Object n) = object_cell n
+-- the texts that nodes have the places of
+abbrev pub Texts : Type 0
+Texts = List (Bor (List ℕ))
+
+-- past the last place the empty text
+abbrev pub text_at : Texts → ℕ → List ℕ
+text_at [] n = []
+text_at (t ∷ ts) zero = t.now
+text_at (t ∷ ts) (suc n) = text_at ts n
+
+abbrev pub cell : Texts → Node → Cell
+cell ts node.Null = null_cell
+cell ts (node.Bool b) = boolean_cell b
+cell ts (node.Whole n) = number_cell (Some (unsigned n))
+cell ts (node.BelowZero z) = number_cell (Some (of_integer z))
+cell ts node.MinusZero = number_cell (number_of (codes "-0"))
+cell ts (node.Number place) = number_cell (number_of (text_at ts place))
+cell ts node.Empty = string_cell []
+cell ts (node.String place) = string_cell (text_at ts place)
+cell ts (node.Key place) = key_cell (text_at ts place)
+cell ts (node.Array n) = array_cell n
+cell ts (node.Object n) = object_cell n
 
 -- how many nodes the value takes that begins with this one
 abbrev pub span : Cell → ℕ
@@ -113,31 +128,31 @@ abbrev mutual
 abbrev pub turns : List Cell → ℕ
 turns cs = 2 * length cs + 1
 
-abbrev pub data_at : List Node → Data
-data_at nodes = data_in (turns (map cell nodes)) (map cell nodes)
+abbrev pub data_at : Texts → List Node → Data
+data_at ts nodes = data_in (turns (map (cell ts) nodes)) (map (cell ts) nodes)
 
-abbrev pub items_at : List Node → Items
-items_at nodes = items_in (turns (map cell nodes)) (map cell nodes)
+abbrev pub items_at : Texts → List Node → Items
+items_at ts nodes = items_in (turns (map (cell ts) nodes)) (map (cell ts) nodes)
 
-abbrev pub members_at : List Node → List (List ℕ × Data)
-members_at nodes = pairs_in (turns (map cell nodes)) (map cell nodes)
+abbrev pub members_at : Texts → List Node → List (List ℕ × Data)
+members_at ts nodes = pairs_in (turns (map (cell ts) nodes)) (map (cell ts) nodes)
 
 -- ---- these nodes, and no more, are those of a value, of items, of members
 
-abbrev pub AreOf : List Node → json.Json → Type 0
-AreOf nodes j = (map cell nodes ≡ json_cells j) × HasData j
+abbrev pub AreOf : Texts → List Node → json.Json → Type 0
+AreOf ts nodes j = (map (cell ts) nodes ≡ json_cells j) × HasData j
 
-abbrev pub AreOfItems : List Node → json.Items → Type 0
-AreOfItems nodes js = (map cell nodes ≡ items_cells js) × HasItems js
+abbrev pub AreOfItems : Texts → List Node → json.Items → Type 0
+AreOfItems ts nodes js = (map (cell ts) nodes ≡ items_cells js) × HasItems js
 
-abbrev pub AreOfMembers : List Node → json.Members → Type 0
-AreOfMembers nodes ms = (map cell nodes ≡ members_cells ms) × HasPairs ms
+abbrev pub AreOfMembers : Texts → List Node → json.Members → Type 0
+AreOfMembers ts nodes ms = (map (cell ts) nodes ≡ members_cells ms) × HasPairs ms
 
-abbrev pub HoldsData : List Node → Type 0
-HoldsData nodes = (j : json.Json) × AreOf nodes j
+abbrev pub HoldsData : Texts → List Node → Type 0
+HoldsData ts nodes = (j : json.Json) × AreOf ts nodes j
 
-abbrev pub HoldsItems : List Node → Type 0
-HoldsItems nodes = (js : json.Items) × AreOfItems nodes js
+abbrev pub HoldsItems : Texts → List Node → Type 0
+HoldsItems ts nodes = (js : json.Items) × AreOfItems ts nodes js
 
-abbrev pub HoldsMembers : List Node → Type 0
-HoldsMembers nodes = (ms : json.Members) × AreOfMembers nodes ms
+abbrev pub HoldsMembers : Texts → List Node → Type 0
+HoldsMembers ts nodes = (ms : json.Members) × AreOfMembers ts nodes ms

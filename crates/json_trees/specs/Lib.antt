@@ -3,3 +3,4 @@ pub mod Named
 pub mod Valued
 pub mod Cells
 pub mod First
+pub mod Added

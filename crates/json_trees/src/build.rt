@@ -1,27 +1,16 @@
 //! The nodes of a text, made in one pass over its tokens.
-ghost use Rattle.std.specs.Prelude.{suc, ◌≡◌, ◌≢◌, ◌<◌, ◌∷◌, ◌++◌, [], length, map, Some, None, Err, IfOk, OnOk, OnErr};
+ghost use Rattle.std.specs.Prelude.{suc, ◌≡◌, ◌<◌, ◌∷◌, length, Some, None, Err, OnOk};
 ghost use Rattle.json.specs.Json.{Json, Items, Members, value, items, members};
 ghost use Rattle.serde_json.specs.Data.{no_members};
 ghost use Rattle.serde_json.specs.Read.{of_json, of_items, of_members, converted};
-ghost use Rattle.json_trees.specs.Cells.{array_cell, cell, items_cells, json_cells, members_cells, object_cell};
+ghost use Rattle.json_trees.specs.Added.{Added};
+ghost use Rattle.json_trees.specs.Cells.{array_cell, items_cells, json_cells, members_cells, object_cell};
 ghost use Rattle.json_trees.specs.Valued.{HasData, HasItems, HasPairs};
 
 use crate::node::Node;
-use crate::numbers::number_of;
+use crate::nodes::Nodes;
 use crate::unread::Unread;
 use json::{Reader, Token};
-
-/// Adds a node.
-#[inline(always)]
-fn push<'a>(nodes: &mut Vec<Node<'a>>, node: Node<'a>) -> Result<(), Unread>
-    ensures ok { OnOk result (nodes.new.items ≡ nodes.old.items ++ node.entry ∷ []) }
-    ensures never_refused { result ≢ Err Unread.NotJson }
-{
-    match nodes.push(node) {
-        Ok(()) => Ok(()),
-        Err(_) => Err(Unread::Memory),
-    }
-}
 
 /// Adds the nodes of the next value. Arrays and objects may nest `depth` deep.
 #[cycle(build)]
@@ -29,10 +18,10 @@ fn push<'a>(nodes: &mut Vec<Node<'a>>, node: Node<'a>) -> Result<(), Unread>
 pub(crate) fn add_value<'a>(
     reader: &mut Reader<'a>,
     depth: usize,
-    nodes: &mut Vec<Node<'a>>,
+    nodes: &mut Nodes<'a>,
 ) -> Result<(), Unread>
     ensures ok { OnOk result ((j : Json) × (value depth reader.old ≡ Some (j, reader.new)) × HasData j
-        × (map cell nodes.new.items ≡ map cell nodes.old.items ++ json_cells j)) }
+        × Added nodes.old nodes.new (json_cells j)) }
     ensures shorter { OnOk result (length reader.new < length reader.old) }
     ensures not_json { result ≡ Err Unread.NotJson → converted of_json (value depth reader.old) ≡ None }
 {
@@ -40,13 +29,10 @@ pub(crate) fn add_value<'a>(
         return Err(Unread::NotJson);
     };
     match token {
-        Token::String(text) => push(nodes, Node::String(text)),
-        Token::Number(text) => match number_of(text) {
-            Some(number) => push(nodes, Node::Number(number)),
-            None => Err(Unread::NotJson),
-        },
-        Token::Bool(flag) => push(nodes, Node::Bool(flag)),
-        Token::Null => push(nodes, Node::Null),
+        Token::String(text) => nodes.add_string(text),
+        Token::Number(text) => nodes.add_number(text),
+        Token::Bool(flag) => nodes.push(Node::Bool(flag)),
+        Token::Null => nodes.push(Node::Null),
         Token::EndObject | Token::EndArray | Token::Key(_) | Token::Bad => Err(Unread::NotJson),
         Token::BeginArray => {
             if depth == 0 {
@@ -66,22 +52,18 @@ pub(crate) fn add_value<'a>(
 /// Adds the nodes of an array whose bracket is passed.
 #[cycle(build)]
 #[inline(never)]
-fn add_array<'a>(
-    reader: &mut Reader<'a>,
-    depth: usize,
-    nodes: &mut Vec<Node<'a>>,
-) -> Result<(), Unread>
+fn add_array<'a>(reader: &mut Reader<'a>, depth: usize, nodes: &mut Nodes<'a>) -> Result<(), Unread>
     ensures ok { OnOk result ((js : Items) × (items (value depth) (length reader.old) reader.old ≡ Some (js, reader.new)) × HasItems js
-        × (map cell nodes.new.items ≡ map cell nodes.old.items ++ array_cell (suc (length (items_cells js))) ∷ items_cells js)) }
+        × Added nodes.old nodes.new (array_cell (suc (length (items_cells js))) ∷ items_cells js)) }
     ensures shorter { OnOk result (length reader.new < length reader.old) }
     ensures not_json { result ≡ Err Unread.NotJson → converted of_items (items (value depth) (length reader.old) reader.old) ≡ None }
 {
-    let at = nodes.len();
-    push(nodes, Node::Array(0))?;
+    let at = nodes.list.len();
+    nodes.push(Node::Array(0))?;
     'items: while !reader.take_end_array() {
         add_value(reader, depth, nodes)?;
     }
-    nodes[at] = Node::Array(nodes.len() - at);
+    nodes.list[at] = Node::Array(nodes.span_from(at));
     Ok(())
 }
 
@@ -91,15 +73,15 @@ fn add_array<'a>(
 fn add_object<'a>(
     reader: &mut Reader<'a>,
     depth: usize,
-    nodes: &mut Vec<Node<'a>>,
+    nodes: &mut Nodes<'a>,
 ) -> Result<(), Unread>
     ensures ok { OnOk result ((ms : Members) × (members (value depth) (length reader.old) reader.old ≡ Some (ms, reader.new)) × HasPairs ms
-        × (map cell nodes.new.items ≡ map cell nodes.old.items ++ object_cell (suc (length (members_cells ms))) ∷ members_cells ms)) }
+        × Added nodes.old nodes.new (object_cell (suc (length (members_cells ms))) ∷ members_cells ms)) }
     ensures shorter { OnOk result (length reader.new < length reader.old) }
     ensures not_json { result ≡ Err Unread.NotJson → converted (λ ms. of_members ms no_members) (members (value depth) (length reader.old) reader.old) ≡ None }
 {
-    let at = nodes.len();
-    push(nodes, Node::Object(0))?;
+    let at = nodes.list.len();
+    nodes.push(Node::Object(0))?;
     'members: loop {
         let Ok(key) = reader.next_key() else {
             return Err(Unread::NotJson);
@@ -107,9 +89,9 @@ fn add_object<'a>(
         let Some(name) = key else {
             break;
         };
-        push(nodes, Node::Key(name))?;
+        nodes.add_key(name)?;
         add_value(reader, depth, nodes)?;
     }
-    nodes[at] = Node::Object(nodes.len() - at);
+    nodes.list[at] = Node::Object(nodes.span_from(at));
     Ok(())
 }

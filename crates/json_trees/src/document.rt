@@ -4,6 +4,7 @@ ghost use Rattle.serde_json.specs.Read.{read};
 
 use crate::build::add_value;
 use crate::node::Node;
+use crate::nodes::Nodes;
 use crate::tokens::pass_value;
 use crate::tree::Tree;
 use crate::unread::Unread;
@@ -14,14 +15,11 @@ use std::marker::Model;
 /// How deep arrays and objects may nest.
 const MAX_DEPTH: usize = 127;
 
-/// A list of nodes has room at first for one of so many bytes of its text: of most texts it is as much as they need, and what isn't
-/// written of it takes no memory.
-const BYTES_FOR_A_NODE: usize = 4;
-
 /// A JSON text that was read. A clause sees its value, as `serde_json` reads it.
 #[derive(Drop)]
 pub struct Document<'a> {
-    nodes: Vec<Node<'a>>,
+    nodes: Vec<Node>,
+    texts: Vec<&'a str>,
 }
 
 impl<'a> Model for Document<'a> {
@@ -34,9 +32,9 @@ impl<'a> Model for Document<'a> {
 
     ghost use Rattle.json_trees.specs.Cells.{data_at, HoldsData};
 
-    ghost view = { λ a. data_at a.nodes.items };
+    ghost view = { λ a. data_at a.texts.items a.nodes.items };
 
-    ghost invariant = { λ a. HoldsData a.nodes.items };
+    ghost invariant = { λ a. HoldsData a.texts.items a.nodes.items };
 }
 
 /// Goes over a text once, and makes nothing: whether it is one value.
@@ -82,9 +80,7 @@ impl<'a> Document<'a> {
         let Ok(mut reader) = Reader::new(text, room) else {
             return Err(without_nodes(alloc, text));
         };
-        let mut nodes = Vec::new(alloc);
-        // Where that much is refused, less may still do.
-        let _ = nodes.reserve(text.len() / BYTES_FOR_A_NODE + 1);
+        let mut nodes = Nodes::for_text(alloc, text.len());
         match add_value(&mut reader, MAX_DEPTH, &mut nodes) {
             Ok(()) => {}
             Err(Unread::Memory) => {
@@ -96,7 +92,8 @@ impl<'a> Document<'a> {
         if let Some(_) = reader.next() {
             return Err(Unread::NotJson);
         }
-        Ok(Document { nodes })
+        let (nodes, texts) = nodes.into_lists();
+        Ok(Document { nodes, texts })
     }
 
     /// The value that the text is.
@@ -104,6 +101,6 @@ impl<'a> Document<'a> {
     pub fn root(&self) -> Tree<'_, 'a>
         ensures { result ≡ self.now }
     {
-        Tree::of_nodes(self.nodes.as_slice())
+        Tree::of_nodes(self.nodes.as_slice(), self.texts.as_slice())
     }
 }

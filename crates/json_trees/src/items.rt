@@ -13,7 +13,8 @@ use std::marker::Model;
 #[derive(Drop)]
 pub struct Items<'t, 'a> {
     /// Those of the array's items, and no more.
-    nodes: &'t [Node<'a>],
+    nodes: &'t [Node],
+    texts: &'t [&'a str],
     /// Where the next item begins.
     at: usize,
 }
@@ -29,19 +30,23 @@ impl<'t, 'a> Model for Items<'t, 'a> {
     ghost use Rattle.std.specs.Prelude.{drop};
     ghost use Rattle.json_trees.specs.Cells.{items_at, HoldsItems};
 
-    ghost view = { λ a. items_at (drop a.at a.nodes.now) };
+    ghost view = { λ a. items_at a.texts.now (drop a.at a.nodes.now) };
 
-    ghost invariant = { λ a. HoldsItems (drop a.at a.nodes.now) };
+    ghost invariant = { λ a. HoldsItems a.texts.now (drop a.at a.nodes.now) };
 }
 
 impl<'t, 'a> Items<'t, 'a> {
     /// The items of these nodes.
     #[inline(always)]
-    pub(crate) fn of_nodes(nodes: &'t [Node<'a>]) -> Items<'t, 'a>
-        requires { HoldsItems nodes.now }
-        ensures { result ≡ items_at nodes.now }
+    pub(crate) fn of_nodes(nodes: &'t [Node], texts: &'t [&'a str]) -> Items<'t, 'a>
+        requires { HoldsItems texts.now nodes.now }
+        ensures { result ≡ items_at texts.now nodes.now }
     {
-        Items { nodes, at: 0 }
+        Items {
+            nodes,
+            texts,
+            at: 0,
+        }
     }
 
     /// No items.
@@ -49,7 +54,11 @@ impl<'t, 'a> Items<'t, 'a> {
     pub fn none() -> Items<'t, 'a>
         ensures { result ≡ no_items }
     {
-        Items { nodes: &[], at: 0 }
+        Items {
+            nodes: &[],
+            texts: &[],
+            at: 0,
+        }
     }
 
     /// The next item, and none at the end.
@@ -64,6 +73,6 @@ impl<'t, 'a> Items<'t, 'a> {
         }
         let value = first_value(&nodes[at..]);
         self.at = at + value.len();
-        Some(Tree::of_nodes(value))
+        Some(Tree::of_nodes(value, self.texts))
     }
 }

@@ -11,7 +11,8 @@ use std::marker::Model;
 #[derive(Drop)]
 pub struct Members<'t, 'a> {
     /// Those of the object's members, and no more.
-    nodes: &'t [Node<'a>],
+    nodes: &'t [Node],
+    texts: &'t [&'a str],
     /// Where the next member begins.
     at: usize,
 }
@@ -27,19 +28,23 @@ impl<'t, 'a> Model for Members<'t, 'a> {
 
     ghost use Rattle.json_trees.specs.Cells.{members_at, HoldsMembers};
 
-    ghost view = { λ a. members_at (drop a.at a.nodes.now) };
+    ghost view = { λ a. members_at a.texts.now (drop a.at a.nodes.now) };
 
-    ghost invariant = { λ a. HoldsMembers (drop a.at a.nodes.now) };
+    ghost invariant = { λ a. HoldsMembers a.texts.now (drop a.at a.nodes.now) };
 }
 
 impl<'t, 'a> Members<'t, 'a> {
     /// The members of these nodes.
     #[inline(always)]
-    pub(crate) fn of_nodes(nodes: &'t [Node<'a>]) -> Members<'t, 'a>
-        requires { HoldsMembers nodes.now }
-        ensures { result ≡ members_at nodes.now }
+    pub(crate) fn of_nodes(nodes: &'t [Node], texts: &'t [&'a str]) -> Members<'t, 'a>
+        requires { HoldsMembers texts.now nodes.now }
+        ensures { result ≡ members_at texts.now nodes.now }
     {
-        Members { nodes, at: 0 }
+        Members {
+            nodes,
+            texts,
+            at: 0,
+        }
     }
 
     /// The next member, and none at the end.
@@ -52,11 +57,11 @@ impl<'t, 'a> Members<'t, 'a> {
         if at >= nodes.len() {
             return None;
         }
-        let Some(name) = nodes[at].as_key() else {
+        let Some(name) = nodes[at].as_key(self.texts) else {
             unreachable!()
         };
         let value = first_value(&nodes[at + 1..]);
         self.at = at + 1 + value.len();
-        Some((name, Tree::of_nodes(value)))
+        Some((name, Tree::of_nodes(value, self.texts)))
     }
 }

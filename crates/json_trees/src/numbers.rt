@@ -9,18 +9,47 @@ ghost use Rattle.serde_json.specs.View.{number_view};
 use fast_float::{Numeral, parse_u64};
 use serde_json::Number;
 
-/// The integer that digits alone write, with no point and no exponent, if it is one of 64 bits.
+/// So many digits are below 2^64, whichever they are.
+const SURE_DIGITS: usize = 19;
+
+/// What writes a minus zero in the fewest bytes.
+pub(crate) const MINUS_ZERO: &str = "-0";
+
+/// So many digits are below 2^32, whichever they are.
+const FEW_DIGITS: usize = 9;
+
+/// The integer that so few digits alone write that it has 64 bits, with no point and no exponent.
 ///
-/// Most numbers are of this kind, and need no look for the parts of a numeral.
+/// Most numbers are of this kind, and need no look for the parts of a numeral. A longer text is seldom one, and is not gone over
+/// for it.
 #[inline(always)]
 fn plain_integer(digits: &[u8]) -> Option<u64>
     ensures { IfSome result (λ integer. number_from false (scan digits.now) ≡ Some (unsigned integer)) }
 {
     // (`parse_u64` takes a plus too)
-    if digits.is_empty() || digits[0] == b'+' {
+    if digits.is_empty() || digits.len() > SURE_DIGITS || digits[0] == b'+' {
         return None;
     }
     parse_u64(digits).ok()
+}
+
+/// The integer that a few digits alone write, as most numbers are written.
+#[inline(always)]
+pub(crate) fn short_integer(text: &str) -> Option<u32>
+    ensures { IfSome result (λ integer. number_of text.now ≡ Some (unsigned integer)) }
+{
+    let digits = text.as_bytes();
+    if digits.is_empty() || digits.len() > FEW_DIGITS {
+        return None;
+    }
+    let mut integer = 0u32;
+    'digits: for digit in digits {
+        if *digit < b'0' || *digit > b'9' {
+            return None;
+        }
+        integer = integer * 10 + (*digit - b'0') as u32;
+    }
+    Some(integer)
 }
 
 /// The number of these digits: an integer where they are one of 64 bits, and else the nearest float, if it is finite.

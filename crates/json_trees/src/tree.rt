@@ -18,7 +18,8 @@ use std::marker::Model;
 #[derive(Drop)]
 pub struct Tree<'t, 'a> {
     /// Those of the value, and no more.
-    nodes: &'t [Node<'a>],
+    nodes: &'t [Node],
+    texts: &'t [&'a str],
 }
 
 impl<'t, 'a> Model for Tree<'t, 'a> {
@@ -31,27 +32,27 @@ impl<'t, 'a> Model for Tree<'t, 'a> {
 
     ghost use Rattle.json_trees.specs.Cells.{data_at, HoldsData};
 
-    ghost view = { λ a. data_at a.nodes.now };
+    ghost view = { λ a. data_at a.texts.now a.nodes.now };
 
-    ghost invariant = { λ a. HoldsData a.nodes.now };
+    ghost invariant = { λ a. HoldsData a.texts.now a.nodes.now };
 }
 
 impl<'t, 'a> Tree<'t, 'a> {
     /// The value of these nodes.
     #[inline(always)]
-    pub(crate) fn of_nodes(nodes: &'t [Node<'a>]) -> Tree<'t, 'a>
-        requires { HoldsData nodes.now }
-        ensures { result ≡ data_at nodes.now }
+    pub(crate) fn of_nodes(nodes: &'t [Node], texts: &'t [&'a str]) -> Tree<'t, 'a>
+        requires { HoldsData texts.now nodes.now }
+        ensures { result ≡ data_at texts.now nodes.now }
     {
-        Tree { nodes }
+        Tree { nodes, texts }
     }
 
     /// The first node.
     #[inline(always)]
-    fn first(&self) -> &'t Node<'a>
-        ensures { (j : Json) × (cell result.now ≡ first_cell j) × HasData j × (self.now ≡ data_of j) }
+    fn first(&self) -> (&'t Node, &'t [&'a str])
+        ensures { (j : Json) × (cell result.1.now result.0.now ≡ first_cell j) × HasData j × (self.now ≡ data_of j) }
     {
-        &self.nodes[0]
+        (&self.nodes[0], self.texts)
     }
 
     /// The member of that name, where this is an object. Of those that have one name it is the last. It walks all
@@ -74,7 +75,8 @@ impl<'t, 'a> Tree<'t, 'a> {
     pub fn as_str(&self) -> Option<&'a str>
         ensures { option_map (λ t. t.now) result ≡ as_str self.now }
     {
-        self.first().as_str()
+        let (node, texts) = self.first();
+        node.as_str(texts)
     }
 
     /// The number, where this is one.
@@ -82,7 +84,8 @@ impl<'t, 'a> Tree<'t, 'a> {
     pub fn as_number(&self) -> Option<Number>
         ensures { option_map number_view result ≡ as_number self.now }
     {
-        self.first().as_number()
+        let (node, texts) = self.first();
+        node.as_number(texts)
     }
 
     /// The whole number from 0 to 2^64 - 1, where this is one with no point and no exponent.
@@ -104,7 +107,8 @@ impl<'t, 'a> Tree<'t, 'a> {
     pub fn as_bool(&self) -> Option<bool>
         ensures { result ≡ as_bool self.now }
     {
-        self.first().as_bool()
+        let (node, _) = self.first();
+        node.as_bool()
     }
 
     /// Whether this is null.
@@ -112,7 +116,8 @@ impl<'t, 'a> Tree<'t, 'a> {
     pub fn is_null(&self) -> bool
         ensures { result ≡ is_some (as_null self.now) }
     {
-        self.first().is_null()
+        let (node, _) = self.first();
+        node.is_null()
     }
 
     /// Whether this is a number.
@@ -128,7 +133,8 @@ impl<'t, 'a> Tree<'t, 'a> {
     pub fn is_array(&self) -> bool
         ensures { result ≡ is_some (as_array self.now) }
     {
-        self.first().is_array()
+        let (node, _) = self.first();
+        node.is_array()
     }
 
     /// Whether this is an object.
@@ -136,7 +142,8 @@ impl<'t, 'a> Tree<'t, 'a> {
     pub fn is_object(&self) -> bool
         ensures { result ≡ is_some (as_object self.now) }
     {
-        self.first().is_object()
+        let (node, _) = self.first();
+        node.is_object()
     }
 
     /// The items, where this is an array.
@@ -145,7 +152,7 @@ impl<'t, 'a> Tree<'t, 'a> {
         ensures { result ≡ as_array self.now }
     {
         if self.is_array() {
-            Some(Items::of_nodes(&self.nodes[1..]))
+            Some(Items::of_nodes(&self.nodes[1..], self.texts))
         } else {
             None
         }
@@ -157,7 +164,7 @@ impl<'t, 'a> Tree<'t, 'a> {
         ensures { MatchOption result (as_object self.now ≡ None) (λ members. self.now ≡ object (put_all members no_members)) }
     {
         if self.is_object() {
-            Some(Members::of_nodes(&self.nodes[1..]))
+            Some(Members::of_nodes(&self.nodes[1..], self.texts))
         } else {
             None
         }

@@ -3,7 +3,7 @@ use crate::refusals::{Refused, Window};
 use crate::scene::{Scene, step_count};
 use crate::sweep::Sweep;
 use crate::turn::Turn;
-use crate::{desks, drafts, graphs, lists, makers, orders, planted, runs, tables, writers};
+use crate::{desks, drafts, graphs, lists, makers, marks, orders, planted, runs, tables, writers};
 use anyhow::Result;
 use level_pool::{OneThread, Runner};
 use share_tree::Keeps;
@@ -37,6 +37,7 @@ fn show<F: Keeps<u32>, R: StateRepresentation, H: Threads + Wait + Sync>(
     match scene.group {
         "flat" => lists::show::<F>(window, scene, turn),
         "shared" => lists::show::<R::Ranks>(window, scene, turn),
+        "marks" => marks::show(window, scene, turn),
         "make" => makers::show::<R>(window, scene, turn),
         "graph" => graphs::show::<R>(window, scene, turn),
         "order" => orders::show::<R>(window, scene, turn),

@@ -16,6 +16,7 @@ mod drafts;
 mod graphs;
 mod lists;
 mod makers;
+mod marks;
 mod orders;
 mod planted;
 mod refusals;

@@ -122,7 +122,7 @@ impl Sweep {
         self.case_as::<F, R, H>(rt, scene, &ordinary)
     }
 
-    /// The tests of a case, by what it shows with memory.
+    /// The tests of a case, by what it shows with memory. One that is out of memory then is wrong, as a planted call has to be.
     fn case_as<F: Keeps<u32>, R: StateRepresentation, H: Print + Threads + Wait + Sync>(
         &mut self,
         rt: &H,
@@ -130,14 +130,17 @@ impl Sweep {
         ordinary: &Turn,
     ) -> Result<()> {
         self.cases = self.cases.saturating_add(1);
+        let is_planted = scene.group == "wrong";
+        // This is found where no request can be refused, too.
+        if ordinary.first.out_of_memory {
+            let wrong = (!is_planted).then_some("out of memory, with memory");
+            return self.count(rt, scene.name, 0, wrong);
+        }
         if !self.can_refuse {
             return Ok(());
         }
-        if scene.group == "wrong" {
+        if is_planted {
             return self.wrong::<F, R, H>(rt, scene, ordinary);
-        }
-        if ordinary.first.out_of_memory {
-            return self.count(rt, scene.name, 0, Some("out of memory, with memory"));
         }
         self.each::<F, R, H>(rt, scene, ordinary, false)?;
         self.each::<F, R, H>(rt, scene, ordinary, true)

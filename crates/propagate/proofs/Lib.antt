@@ -14,5 +14,4 @@ pub mod Outcomes
 pub mod Turns
 pub mod Naming
 pub mod FirstDependents
-pub mod Remembered
 pub mod Writes

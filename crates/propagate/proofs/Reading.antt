@@ -8,7 +8,7 @@ use Rattle.std.proofs.lemmas.List.Folds.{list_any_more}
 use Rattle.stage_graph.specs.declared.stage.Stage.{Stage}
 use Rattle.stage_graph.specs.Plain.{stage_at, feeds_of_place, feeds_at, uses}
 use Rattle.stage_ops.specs.declared.state.State.{State}
-use Rattle.stage_ops.specs.States.{seen_at, state_at}
+use Rattle.stage_ops.specs.States.{seen_at}
 use Rattle.rank_order.specs.Lists.{is_among}
 use Rattle.rank_order.specs.Orders.{at_live}
 use Rattle.stage_graph.specs.Plain.{all_places, dependents}
@@ -37,6 +37,15 @@ mark_live false was same e = absurd (false≢true e)
 pub mark_empty : (live was same : Bool) → live ≡ false → was ≡ (was || (live && same))
 mark_empty true was same e = absurd (true≢false e)
 mark_empty false was same e = sym (or_nothing was)
+
+-- a place that is marked already need not be marked again
+pub marked_already : (marked : ℕ → Bool) (reads_it : Bool) (place other : ℕ) → marked place ≡ true → marked other ≡ (marked other || (reads_it && other == place))
+marked_already marked reads_it place other here = by (marked other) reads_it (other == place) (λ same. ap marked (eqb-true other place same) ∙ here) where
+  by : (was reads_it same : Bool) → (same ≡ true → was ≡ true) → was ≡ (was || (reads_it && same))
+  by true reads_it same h = refl
+  by false true true h = h refl
+  by false true false h = refl
+  by false false same h = refl
 
 -- one more of the edited places
 pub first_next : (live : ℕ → Bool) (edited : List ℕ) (i s : ℕ) → i < length edited

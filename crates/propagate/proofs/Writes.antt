@@ -1,5 +1,5 @@
 -- What it is to write other items at many places: what is written first.
-use Rattle.std.proofs.Common.{◌≡◌, ℕ, suc, zero, ◌<◌, ◌≤◌, ◌+◌, List, [], ◌∷◌, length, set, drop, get_or, drop-cons, Option, Some, None, refl, sym, ap, ◌∙◌, add-one, arith}
+use Rattle.std.proofs.Common.{◌≡◌, ℕ, suc, zero, ◌<◌, ◌≤◌, ◌+◌, List, [], ◌∷◌, length, set, drop, get_or, drop-cons, Option, Some, None, refl, sym, ap, ◌∙◌, add-one}
 use Rattle.std.proofs.lemmas.List.{drop_all}
 use Rattle.propagate.specs.Written.{written}
 

@@ -2,6 +2,5 @@ pub mod Completions
 pub mod Reach
 pub mod Patched
 pub mod KeptStates
-pub mod Recent
 pub mod Telling
 pub mod Written

@@ -7,7 +7,6 @@ mod levels;
 mod patched;
 mod readers;
 mod reads;
-mod recent;
 mod representation;
 mod spread;
 mod states;

@@ -1,19 +1,17 @@
 //! Marks of the places that have to be computed: the edited stages, and those that read a stage which changed.
-ghost use Rattle.std.specs.Prelude.{◌≡◌, ◌<◌, ◌&&◌, ◌||◌, ◌==◌, ℕ, List, IfOk, OnOk, All, is_some, length, map, slice_index, Some, true, false};
+ghost use Rattle.std.specs.Prelude.{◌≡◌, ◌<◌, ◌&&◌, ◌||◌, ◌==◌, ℕ, List, IfOk, OnOk, All, is_some, length, map, Some, true, false};
 ghost use Rattle.std.specs.List.{list_any};
 ghost use Rattle.stage_graph.specs.Plain.{stage_at, feeds_at, IsLive};
-ghost use Rattle.stage_graph.specs.Walk.{rank, IsRanked};
+ghost use Rattle.stage_graph.specs.Walk.{rank};
 ghost use Rattle.stage_ops.specs.declared.state.State.{State};
 ghost use Rattle.stage_ops.specs.States.{state_at};
 ghost use Rattle.rank_order.specs.Lists.{is_among};
-ghost use Rattle.rank_order.specs.Marks.{is_marked, AreMarks};
+ghost use Rattle.rank_order.specs.Marks.{has_place, is_marked, AreMarks};
 ghost use Rattle.stage_graph.specs.Plain.{dependents};
 ghost use Rattle.propagate.specs.Reach.{has_read, is_told};
-ghost use Rattle.propagate.specs.Recent.{AllPass, is_met};
 
 use crate::kept::KeptState;
 use crate::reads::has_read;
-use crate::recent::Recent;
 use crate::representation::StateRepresentation;
 use crate::states::States;
 use crate::telling::Telling;
@@ -47,6 +45,24 @@ fn mark<R: OrderRepresentation>(
 {
     match order.rank(place) {
         Ok(rank) => marks.insert(rank, place),
+        Err(_) => Ok(()),
+    }
+}
+
+/// Marks a place that is not marked, if a stage stands there.
+#[inline(always)]
+fn mark_new<R: OrderRepresentation>(
+    marks: &mut Marks,
+    order: &Order<R>,
+    place: u32,
+) -> Result<(), AllocError>
+    requires { has_place marks.old place ≡ false }
+    ensures marked { OnOk result ((other : ℕ) → is_marked (rank order.now.graph.places) marks.new other
+        ≡ (is_marked (rank order.now.graph.places) marks.old other || (is_some (stage_at order.now.graph.places place) && other == place))) }
+    ensures marks { OnOk result (AreMarks (rank order.now.graph.places) marks.old → AreMarks (rank order.now.graph.places) marks.new) }
+{
+    match order.rank(place) {
+        Ok(rank) => marks.add(rank, place),
         Err(_) => Ok(()),
     }
 }
@@ -85,11 +101,11 @@ fn is_reader<R: StateRepresentation>(
     }
 }
 
-/// Marks the stage at a place if it has read one of its feeds, and remembers it. A stage that is remembered is marked already.
+/// Marks the stage at a place if it has read one of its feeds. One that reads several places which changed is looked up at the first
+/// of them alone: it is computed after all of them, so at the others it is marked.
 #[inline(always)]
 fn mark_reader<R: StateRepresentation>(
     marks: &mut Marks,
-    recent: &mut Recent,
     graph: &Graph<R>,
     order: &Order<R>,
     states: &States<R>,
@@ -99,19 +115,16 @@ fn mark_reader<R: StateRepresentation>(
     requires order { order.now.graph ≡ graph.now }
     requires count { length states.now ≡ length graph.now.places }
     requires feed { is_among feed (feeds_at graph.now.places place) ≡ true }
-    requires ranked { IsRanked graph.now.places }
-    requires recent { AllPass (is_met (rank graph.now.places) marks.old (rank graph.now.places feed)) recent.old }
+    requires marks { AreMarks (rank graph.now.places) marks.old }
     ensures marked { OnOk result ((other : ℕ) → is_marked (rank graph.now.places) marks.new other
         ≡ (is_marked (rank graph.now.places) marks.old other || (has_read graph.now.places (state_at states.now) feed place && other == place))) }
     ensures marks { OnOk result (AreMarks (rank graph.now.places) marks.old → AreMarks (rank graph.now.places) marks.new) }
-    ensures recent { OnOk result (AllPass (is_met (rank graph.now.places) marks.new (rank graph.now.places feed)) recent.new) }
 {
-    if recent.has(place) {
+    if marks.has(place) {
         return Ok(());
     }
     if is_reader(graph, states, feed, place) {
-        mark(marks, order, place)?;
-        recent.note(place);
+        return mark_new(marks, order, place);
     }
     Ok(())
 }
@@ -119,7 +132,6 @@ fn mark_reader<R: StateRepresentation>(
 /// Marks the stages that have read a feed, which are among its dependents.
 fn mark_readers<R: StateRepresentation>(
     marks: &mut Marks,
-    recent: &mut Recent,
     graph: &Graph<R>,
     order: &Order<R>,
     states: &States<R>,
@@ -129,16 +141,14 @@ fn mark_readers<R: StateRepresentation>(
     requires order { order.now.graph ≡ graph.now }
     requires count { length states.now ≡ length graph.now.places }
     requires listed { listed.now ≡ dependents graph.now.places feed }
-    requires ranked { IsRanked graph.now.places }
-    requires recent { AllPass (is_met (rank graph.now.places) marks.old (rank graph.now.places feed)) recent.old }
+    requires marks { AreMarks (rank graph.now.places) marks.old }
     ensures marked { OnOk result ((place : ℕ) → is_marked (rank graph.now.places) marks.new place
         ≡ (is_marked (rank graph.now.places) marks.old place
         || (is_among feed (feeds_at graph.now.places place) && has_read graph.now.places (state_at states.now) feed place))) }
     ensures marks { OnOk result (AreMarks (rank graph.now.places) marks.old → AreMarks (rank graph.now.places) marks.new) }
-    ensures recent { OnOk result (AllPass (is_met (rank graph.now.places) marks.new (rank graph.now.places feed)) recent.new) }
 {
     for dependent in listed {
-        mark_reader(marks, recent, graph, order, states, feed, *dependent)?;
+        mark_reader(marks, graph, order, states, feed, *dependent)?;
     }
     Ok(())
 }
@@ -146,7 +156,6 @@ fn mark_readers<R: StateRepresentation>(
 /// Marks the stages that have read a place of the level whose state has changed.
 pub(crate) fn mark_level<'a, R: StateRepresentation>(
     marks: &mut Marks,
-    recent: &mut Recent,
     telling: &mut Telling<'a>,
     graph: &Graph<R>,
     order: &'a Order<R>,
@@ -159,28 +168,16 @@ pub(crate) fn mark_level<'a, R: StateRepresentation>(
     requires live { All (IsLive graph.now.places) level.now }
     requires within { All (λ place. place < length states.now) level.now }
     requires each { length results.now ≡ length level.now }
-    requires ranked { IsRanked graph.now.places }
-    requires level { All (λ place. rank graph.now.places place ≡ rank graph.now.places (slice_index level.now 0)) level.now }
-    requires recent { AllPass (is_met (rank graph.now.places) marks.old (rank graph.now.places (slice_index level.now 0))) recent.old }
+    requires marks { AreMarks (rank graph.now.places) marks.old }
     ensures marked { OnOk result ((state : ℕ → State) → results.now ≡ map (λ place. Some (state place)) level.now → (place : ℕ)
         → is_marked (rank graph.now.places) marks.new place
         ≡ (is_marked (rank graph.now.places) marks.old place || list_any (is_told graph.now.places (state_at states.now) state place) level.now)) }
     ensures marks { OnOk result (AreMarks (rank graph.now.places) marks.old → AreMarks (rank graph.now.places) marks.new) }
-    ensures recent { OnOk result (AllPass (is_met (rank graph.now.places) marks.new (rank graph.now.places (slice_index level.now 0))) recent.new) }
 {
-    recent.grow(level.len())?;
     telling.find(order, states, level, results)?;
     for at in 0..level.len() {
         if let Some(told) = telling.told[at] {
-            mark_readers(
-                marks,
-                recent,
-                graph,
-                order,
-                states,
-                level[at],
-                told.dependents,
-            )?;
+            mark_readers(marks, graph, order, states, level[at], told.dependents)?;
         }
     }
     Ok(())

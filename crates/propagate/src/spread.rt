@@ -10,7 +10,6 @@ ghost use Rattle.propagate.specs.Reach.{IsChange, AreStates, StaysUntouched, tou
 
 use crate::levels::compute_level;
 use crate::readers::{first_marks, mark_level};
-use crate::recent::Recent;
 use crate::representation::StateRepresentation;
 use crate::states::States;
 use crate::telling::Telling;
@@ -76,7 +75,6 @@ pub(crate) fn propagate_change<R: StateRepresentation, N: Sync, O: StageOps<N> +
     let mut touched = Vec::new(alloc);
     let mut taken = Vec::new(alloc);
     let mut passes = Vec::new(alloc);
-    let mut recent = Recent::new(alloc);
     let mut telling = Telling::new(alloc);
     while !marks.is_empty() {
         marks.take_level(&mut taken)?;
@@ -93,7 +91,6 @@ pub(crate) fn propagate_change<R: StateRepresentation, N: Sync, O: StageOps<N> +
         )?;
         mark_level(
             &mut marks,
-            &mut recent,
             &mut telling,
             graph,
             order,

@@ -5,8 +5,10 @@ pub mod Above
 pub mod DependentSteps
 pub mod Building
 pub mod DependentMoves
-pub mod MarkHeaps
+pub mod PlaceSets
+pub mod Places
 pub mod Marking
+pub mod MarkHeaps
 pub mod Falling
 pub mod Settling
 pub mod PutBack

@@ -1,79 +1,73 @@
--- Marks as they are stored: in a heap, by rank and then by place. A mark may stand there several times.
-use Rattle.std.proofs.Common.{◌≡◌, ℕ, ◌+◌, ◌<◌, ◌≤◌, ◌⊎◌, Bool, true, false, List, [], ◌∷◌, map, length, get_or, Option, None, Some, refl, ap, sym, ◌∙◌, subst, inl, inr, arith}
-use Rattle.std.specs.Prelude.{not, ◌==◌, ◌&&◌, ◌||◌, nat_eq, IfSome, IfNone, OnSome, IsPermutation, AllPairs}
+-- Marks as they are stored: in a heap, by rank and then by place, in which no place stands twice.
+use Rattle.std.proofs.Common.{◌≡◌, ℕ, zero, suc, ◌+◌, ◌<◌, ◌≤◌, ◌⊎◌, Bool, true, false, List, [], ◌∷◌, map, length, take, drop, set, get_or, refl, ap, sym, ◌∙◌, subst, inl, inr, arith, drop-cons}
+use Rattle.std.specs.Prelude.{not, ◌==◌, ◌&&◌, ◌||◌, nat_eq, IsPermutation, AllPairs, Option, Some, None, IfSome}
 use Rattle.std.specs.Ordering.{is_lt}
 use Rattle.std.specs.declared.cmp.Reverse.{Reverse}
-use Rattle.std.specs.List.{list_any, list_all, dedup, dedup_from}
-use Rattle.std.specs.BinaryHeap.{IsHeap, IsUpperBound, PopsGreatest}
-use Rattle.std.proofs.lemmas.Bool.{eqb-true, eq-eqb, or_cases, or_left, or_right, and_parts, and_from, cases_Bool, cond-true, cond-false, false≢true}
+use Rattle.std.specs.List.{list_any, list_all, IsDistinct}
+use Rattle.std.specs.BinaryHeap.{IsHeap, IsUpperBound}
+use Rattle.std.proofs.lemmas.Bool.{eqb-true, eq-eqb, ne_eqb, or_cases, or_from, or_left, or_right, and_parts, and_from, and_right, not-true, false≢true, true≢false}
 use Rattle.std.proofs.lemmas.Bool.Decides.{nat_tests}
-use Rattle.std.proofs.lemmas.List.Sorted.{length_permutation, list_any-IsPermutation}
+use Rattle.std.proofs.lemmas.List.{get_or_default, get_or-map, length-map, map-set}
+use Rattle.std.proofs.lemmas.List.Sorted.{length_permutation, list_any-IsPermutation, IsPermutation-map}
+use Rattle.std.proofs.Math.Bool.{or-false}
+use Rattle.std.proofs.Math.Seq.{map-set_same}
 use Rattle.rank_order.specs.declared.marks.Mark.{Mark}
 use Rattle.rank_order.specs.Lists.{is_among}
-use Rattle.rank_order.specs.Marks.{has_mark, is_marked, AreMarks, IsLeastRank, IsLevel, IsPopped}
-use Rattle.rank_order.specs.MarkHeaps.{mark_cmp, heap_cmp, marks_in, place_of, has_rank, HaveSameMarks, HaveRank, IsBottom, IsTop}
-use Rattle.rank_order.proofs.Members.{same_tests}
+use Rattle.rank_order.specs.Marks.{has_mark, has_place, is_marked, place_of, AreMarks, IsLeastRank, IsLevel, IsPopped}
+use Rattle.rank_order.specs.MarkHeaps.{mark_cmp, heap_cmp, marks_in, pair_of, places_in, has_rank, AreStored, HaveRank, IsBottom, IsMarkedAs, IsSetOf, IsSetWith, IsSetWithout}
+use Rattle.rank_order.proofs.Members.{same_tests, false_unless, among_more}
+use Rattle.rank_order.proofs.Places.{among_moved, distinct_head, distinct_tail, distinct_none, distinct_moved, distinct_more, distinct_less, gone_less}
 
 abbrev pub is_mark : ℕ → ℕ → Reverse Mark → Bool
 is_mark rank place mark = mark.0.rank == rank && mark.0.place == place
 
 -- the marks that contracts see are those of the heap
-has_in : (rank place : ℕ) (items : List (Reverse Mark)) → has_mark (marks_in items) rank place ≡ list_any (is_mark rank place) items
+pub has_in : (rank place : ℕ) (items : List (Reverse Mark)) → has_mark (marks_in items) rank place ≡ list_any (is_mark rank place) items
 has_in rank place [] = refl
 has_in rank place (mark ∷ items) = ap (λ b. is_mark rank place mark || b) (has_in rank place items)
 
-pub same_permuted : (xs ys : List (Reverse Mark)) → IsPermutation xs ys → HaveSameMarks (marks_in xs) (marks_in ys)
+same_permuted : (xs ys : List (Reverse Mark)) → IsPermutation xs ys → (rank place : ℕ) → has_mark (marks_in ys) rank place ≡ has_mark (marks_in xs) rank place
 same_permuted xs ys moved rank place = has_in rank place ys ∙ sym (list_any-IsPermutation (is_mark rank place) xs ys moved) ∙ sym (has_in rank place xs)
 
--- ---- repeats
+-- and so are their places
+pub place_in : (place : ℕ) (items : List (Reverse Mark)) → list_any (λ (mark : Reverse Mark). place == mark.0.place) items ≡ is_among place (places_in items)
+place_in place [] = refl
+place_in place (mark ∷ items) = ap (λ b. place == mark.0.place || b) (place_in place items)
 
-or_again : (a b : Bool) → (a || b) ≡ (a || (a || b))
-or_again true b = refl
-or_again false b = refl
+pub places_moved : (xs ys : List (Reverse Mark)) → IsPermutation xs ys → IsPermutation (places_in xs) (places_in ys)
+places_moved xs ys moved = IsPermutation-map place_of (marks_in xs) (marks_in ys) (IsPermutation-map pair_of xs ys moved)
 
--- where a test cannot tell repeats apart, it finds the same once they are taken out
-module _ {X : Type 0} (same : X → X → Bool) (test : X → Bool) (is : (x y : X) → same x y ≡ true → test x ≡ test y) where
-  any_from : (last : X) (xs : List X) → list_any test (dedup_from same last xs) ≡ (test last || list_any test xs)
-  any_from last [] = refl
-  any_from last (x ∷ xs) = elim (cases_Bool (same x last)) [
-    | inl repeats ↦
-        ap (list_any test) (cond-true (same x last) (dedup_from same last xs) (last ∷ dedup_from same x xs) repeats)
-        ∙ any_from last xs
-        ∙ or_again (test last) (list_any test xs)
-        ∙ ap (λ b. test last || (b || list_any test xs)) (sym (is x last repeats))
-    | inr differs ↦
-        ap (list_any test) (cond-false (same x last) (dedup_from same last xs) (last ∷ dedup_from same x xs) differs)
-        ∙ ap (λ b. test last || b) (any_from x xs)
+-- the place of a mark is marked
+pub mark_place : (marks : List (ℕ × ℕ)) (rank place : ℕ) → has_mark marks rank place ≡ true → has_place marks place ≡ true
+mark_place [] rank place has = absurd (false≢true has)
+mark_place (mark ∷ marks) rank place has = elim (or_cases (mark.0 == rank && mark.1 == place) (has_mark marks rank place) has) [
+  | inl same ↦ or_left (place == mark.1) (has_place marks place) (eq-eqb place mark.1 (sym (eqb-true mark.1 place (and_parts (mark.0 == rank) (mark.1 == place) same).1)))
+  | inr later ↦ or_right (place == mark.1) (has_place marks place) (mark_place marks rank place later)
+]
+
+-- ---- where no place stands twice, it has one rank
+
+not_twice : (mark : Reverse Mark) (items : List (Reverse Mark)) → IsDistinct nat_eq (places_in (mark ∷ items))
+    → (rank other_rank place : ℕ) → is_mark rank place mark ≡ true → has_mark (marks_in items) other_rank place ≡ true → true ≡ false
+not_twice mark items once rank other_rank place here later =
+    let spot : mark.0.place ≡ place = eqb-true (mark.0.place) place (and_parts (mark.0.rank == rank) (mark.0.place == place) here).1 in
+    sym (mark_place (marks_in items) other_rank place later) ∙ ap (λ x. is_among x (places_in items)) (sym spot) ∙ distinct_head (mark.0.place) (places_in items) once
+
+pub one_rank : (items : List (Reverse Mark)) → IsDistinct nat_eq (places_in items) → (rank other_rank place : ℕ)
+    → has_mark (marks_in items) rank place ≡ true → has_mark (marks_in items) other_rank place ≡ true → other_rank ≡ rank
+one_rank [] once rank other_rank place has also = absurd (false≢true has)
+one_rank (mark ∷ items) once rank other_rank place has also = elim (or_cases (is_mark rank place mark) (has_mark (marks_in items) rank place) has) [
+  | inl here ↦ elim (or_cases (is_mark other_rank place mark) (has_mark (marks_in items) other_rank place) also) [
+    | inl same ↦
+        sym (eqb-true (mark.0.rank) other_rank (and_parts (mark.0.rank == other_rank) (mark.0.place == place) same).0)
+        ∙ eqb-true (mark.0.rank) rank (and_parts (mark.0.rank == rank) (mark.0.place == place) here).0
+    | inr later ↦ absurd (true≢false (not_twice mark items once rank other_rank place here later))
   ]
-
-  pub any_dedup : (xs : List X) → list_any test (dedup same xs) ≡ list_any test xs
-  any_dedup [] = refl
-  any_dedup (x ∷ xs) = any_from x xs
-
-abbrev pub same_mark : Reverse Mark → Reverse Mark → Bool
-same_mark one other = one.0.rank == other.0.rank && one.0.place == other.0.place
-
-abbrev mark_of : ℕ → ℕ → Mark
-mark_of rank place = record { rank = rank; place = place }
-
-same_is : (one other : Mark) → (one.rank == other.rank && one.place == other.place) ≡ true → one ≡ other
-same_is one other both =
-    let (same_rank, same_place) = and_parts (one.rank == other.rank) (one.place == other.place) both in
-    ap (λ rank. mark_of rank one.place) (eqb-true one.rank other.rank same_rank) ∙ ap (λ place. mark_of other.rank place) (eqb-true one.place other.place same_place)
-
-same_test : (rank place : ℕ) (one other : Reverse Mark) → same_mark one other ≡ true → is_mark rank place one ≡ is_mark rank place other
-same_test rank place one other both = ap (λ (it : Mark). it.rank == rank && it.place == place) (same_is (one.0) (other.0) both)
-
-pub without_repeats : (xs sorted once back heap : List (Reverse Mark)) → IsPermutation xs sorted → once ≡ dedup same_mark sorted → IsPermutation once back → IsPermutation back heap
-    → HaveSameMarks (marks_in xs) (marks_in heap)
-without_repeats xs sorted once back heap first is second third rank place =
-    same_permuted back heap third rank place
-    ∙ same_permuted once back second rank place
-    ∙ has_in rank place once
-    ∙ ap (list_any (is_mark rank place)) is
-    ∙ any_dedup same_mark (is_mark rank place) (same_test rank place) sorted
-    ∙ sym (has_in rank place sorted)
-    ∙ same_permuted xs sorted first rank place
+  | inr later ↦ elim (or_cases (is_mark other_rank place mark) (has_mark (marks_in items) other_rank place) also) [
+    | inl same ↦ absurd (true≢false (not_twice mark items once other_rank rank place same later))
+    | inr both ↦ one_rank items (distinct_tail (mark.0.place) (places_in items) once) rank other_rank place later both
+  ]
+]
 
 -- ---- one mark more, one less
 
@@ -135,99 +129,220 @@ least_is items first some is low = (
   λ rank place has. elim (bottom first items low rank place has) [ inl lower ↦ omega arith | inr (same, le) ↦ omega arith ],
 )
 
--- ---- the first mark and its repeats
-
--- it stands first where the top is equal to it
-pub is_top : (items : List (Reverse Mark)) (first : Reverse Mark) (mark : Mark) → 0 < length items → first ≡ get_or items 0 first → (first.0.rank == mark.rank && first.0.place == mark.place) ≡ true → IsTop items mark
-is_top [] first mark some is same = absurd (omega arith)
-is_top (top ∷ items) first mark some is same = (some, λ other. ap (λ (it : Reverse Mark). it.0) (sym is) ∙ same_is (first.0) mark same)
-
--- no mark that comes before it stands there, and its own has another first
-pub not_top : (items : List (Reverse Mark)) (first : Reverse Mark) (mark : Mark) → 0 < length items → first ≡ get_or items 0 first → IsUpperBound heap_cmp first items → IsBottom (marks_in items) mark.rank mark.place
-    → (first.0.rank == mark.rank && first.0.place == mark.place) ≡ false → has_mark (marks_in items) mark.rank mark.place ≡ false
-not_top items first mark some is low least other = elim (cases_Bool (has_mark (marks_in items) mark.rank mark.place)) [
-  | inl has ↦
-      let over = bottom first items low mark.rank mark.place has in
-      let under = least (first.0.rank) (first.0.place) (has_first items first some is) in
-      absurd (false≢true (sym other ∙ and_from (first.0.rank == mark.rank) (first.0.place == mark.place)
-      (eq-eqb (first.0.rank) mark.rank (ranks over under)) (eq-eqb (first.0.place) mark.place (places over under))))
-  | inr none ↦ none
-] where
-  ranks : (first.0.rank < mark.rank) ⊎ ((first.0.rank ≡ mark.rank) × (first.0.place ≤ mark.place)) → (mark.rank < first.0.rank) ⊎ ((mark.rank ≡ first.0.rank) × (mark.place ≤ first.0.place)) → first.0.rank ≡ mark.rank
-  ranks over under = grind arith
-
-  places : (first.0.rank < mark.rank) ⊎ ((first.0.rank ≡ mark.rank) × (first.0.place ≤ mark.place)) → (mark.rank < first.0.rank) ⊎ ((mark.rank ≡ first.0.rank) × (mark.place ≤ first.0.place)) → first.0.place ≡ mark.place
-  places over under = grind arith
-
--- Some of the repeats are removed, and nothing else.
-abbrev pub IsWithout : Mark → List (Reverse Mark) → List (Reverse Mark) → Type 0
-IsWithout mark was now = (rank place : ℕ) → (has_mark (marks_in was) rank place && not (rank == mark.rank && place == mark.place)) ≡ (has_mark (marks_in now) rank place && not (rank == mark.rank && place == mark.place))
-
 or_apart : (a b : Bool) → ((a || b) && not a) ≡ (b && not a)
 or_apart true true = refl
 or_apart true false = refl
 or_apart false true = refl
 or_apart false false = refl
 
--- one more is
-pub popped_repeat : (old new : List (Reverse Mark)) (mark : Mark) (len : ℕ) (result : Option (Reverse Mark)) → IsTop old mark → 0 < len → IfNone result (len ≡ 0) → IfSome result (λ top. top ≡ get_or old 0 top) → IfSome result (λ top. IsPermutation old (top ∷ new))
-    → IsWithout mark old new
-popped_repeat old new mark len None top some none is moved rank place = absurd (omega arith)
-popped_repeat old new mark len (Some first) top some none is moved rank place =
-    let own : first.0 ≡ mark = ap (λ (it : Reverse Mark). it.0) is ∙ top.1 first in
-    ap (λ b. b && not (rank == mark.rank && place == mark.place)) (has_one old new first moved rank place ∙ ap (λ (it : Mark). (rank == it.rank && place == it.place) || has_mark (marks_in new) rank place) own)
-    ∙ or_apart (rank == mark.rank && place == mark.place) (has_mark (marks_in new) rank place)
+alone : (a b : Bool) → (b ≡ true → a ≡ false) → a ≡ (a && not b)
+alone a true none = none refl ∙ sym (and_right a false refl)
+alone true false none = refl
+alone false false none = refl
 
--- the rest of the heap has the same bottom
-pub bottom_left : (old new : List (Reverse Mark)) (mark : Mark) → IsBottom (marks_in old) mark.rank mark.place → ((rank place : ℕ) → has_mark (marks_in new) rank place ≡ true → has_mark (marks_in old) rank place ≡ true) → IsBottom (marks_in new) mark.rank mark.place
-bottom_left old new mark least left rank place has = least rank place (left rank place has)
+-- ---- another mark
 
-pub popped_left : (old new : List (Reverse Mark)) (len : ℕ) (result : Option (Reverse Mark)) → 0 < len → IfNone result (len ≡ 0) → IfSome result (λ top. IsPermutation old (top ∷ new)) → (rank place : ℕ) → has_mark (marks_in new) rank place ≡ true → has_mark (marks_in old) rank place ≡ true
-popped_left old new len None some none moved rank place has = absurd (omega arith)
-popped_left old new len (Some first) some none moved rank place has =
-    has_one old new first moved rank place ∙ or_right (rank == first.0.rank && place == first.0.place) (has_mark (marks_in new) rank place) has
-
-pub order_left : (old new : List (Reverse Mark)) (len : ℕ) (result : Option (Reverse Mark)) → 0 < len → IfNone result (len ≡ 0) → IfSome result (λ top. PopsGreatest heap_cmp old top new) → IsHeap heap_cmp old → IsHeap heap_cmp new
-order_left old new len None some none order heap = absurd (omega arith)
-order_left old new len (Some first) some none order heap = (order heap).0
-
-pub fewer_left : (len left : ℕ) (result : Option (Reverse Mark)) → 0 < len → IfNone result (len ≡ 0) → OnSome result (left + 1 ≡ len) → left < len
-fewer_left len left None some none less = absurd (omega arith)
-fewer_left len left (Some first) some none less = omega arith
-
--- once the mark is gone, all of them are removed
-pub all_gone : (was now : List (Reverse Mark)) (mark : Mark) → IsWithout mark was now → has_mark (marks_in now) mark.rank mark.place ≡ false
-    → (rank place : ℕ) → has_mark (marks_in now) rank place ≡ (has_mark (marks_in was) rank place && not (rank == mark.rank && place == mark.place))
-all_gone was now mark without gone rank place =
-    alone (has_mark (marks_in now) rank place) (rank == mark.rank && place == mark.place)
-    (λ same.
-    let (same_rank, same_place) = and_parts (rank == mark.rank) (place == mark.place) same in
-    subst (λ p. has_mark (marks_in now) rank p ≡ false) (sym (eqb-true place mark.place same_place))
-    (subst (λ r. has_mark (marks_in now) r mark.place ≡ false) (sym (eqb-true rank mark.rank same_rank)) gone))
-    ∙ sym (without rank place) where
-      alone : (a b : Bool) → (b ≡ true → a ≡ false) → a ≡ (a && not b)
-      alone a true none = none refl ∙ at a where
-        at : (c : Bool) → false ≡ (c && false)
-        at true = refl
-        at false = refl
-      alone true false none = refl
-      alone false false none = refl
-
-pub popped : (old mid new : List (Reverse Mark)) (mark : Reverse Mark) → IsPermutation old (mark ∷ mid) → IsUpperBound heap_cmp mark old → length new ≤ length mid
-    → ((rank place : ℕ) → has_mark (marks_in new) rank place ≡ (has_mark (marks_in mid) rank place && not (rank == mark.0.rank && place == mark.0.place)))
-    → IsPopped (marks_in old) (marks_in new) (mark.0.rank) (mark.0.place)
-popped old mid new mark moved low less rest = record {
-  here = has_one old mid mark moved (mark.0.rank) (mark.0.place) ∙ or_left (mark.0.rank == mark.0.rank && mark.0.place == mark.0.place) (has_mark (marks_in mid) (mark.0.rank) (mark.0.place)) (own_mark mark);
-  least = bottom mark old low;
-  rest = λ rank place.
-      rest rank place
-      ∙ sym (or_apart (rank == mark.0.rank && place == mark.0.place) (has_mark (marks_in mid) rank place))
-      ∙ ap (λ b. b && not (rank == mark.0.rank && place == mark.0.place)) (sym (has_one old mid mark moved rank place));
-  fewer = let before : length (marks_in old) ≡ length old = many old in let after : length (marks_in new) ≡ length new = many new in let one : length (mark ∷ mid) ≡ length old = length_permutation old (mark ∷ mid) moved in omega arith;
+-- the mark is put in
+pub pushed : (old new : List (Reverse Mark)) (mark : Reverse Mark) → IsPermutation (mark ∷ old) new → IsMarkedAs (marks_in old) (marks_in new) (mark.0.rank) (mark.0.place)
+pushed old new mark moved = record {
+  here = more rank place ∙ or_right (has_mark (marks_in old) rank place) (rank == rank && place == place) (own_mark mark);
+  others = λ other_rank other apart.
+      more other_rank other
+      ∙ ap (λ b. has_mark (marks_in old) other_rank other || b) (and_right (other_rank == rank) (other == place) apart)
+      ∙ or-false (has_mark (marks_in old) other_rank other);
+  ranks = λ other_rank has. elim (or_cases (has_mark (marks_in old) other_rank place) (other_rank == rank && place == place) (sym (more other_rank place) ∙ has)) [
+    | inl was ↦ inr was
+    | inr same ↦ inl (eqb-true other_rank rank (and_parts (other_rank == rank) (place == place) same).0)
+  ];
 } where
-  many : (items : List (Reverse Mark)) → length (marks_in items) ≡ length items
-  many [] = refl
-  many (item ∷ items) = let rest = many items in omega arith
+  rank : ℕ
+  rank = mark.0.rank
+
+  place : ℕ
+  place = mark.0.place
+
+  more : (other_rank other : ℕ) → has_mark (marks_in new) other_rank other ≡ (has_mark (marks_in old) other_rank other || (other_rank == rank && other == place))
+  more other_rank other = has_more old new mark moved other_rank other
+
+-- its place had none
+pub pushed_once : (old new : List (Reverse Mark)) (mark : Reverse Mark) → IsPermutation (mark ∷ old) new → is_among (mark.0.place) (places_in old) ≡ false → IsDistinct nat_eq (places_in old) → IsDistinct nat_eq (places_in new)
+pushed_once old new mark moved fresh once = distinct_more (mark.0.place) (places_in old) (places_in new) (places_moved (mark ∷ old) new moved) fresh once
+
+pub pushed_places : (old new : List (Reverse Mark)) (mark : Reverse Mark) → IsPermutation (mark ∷ old) new → (place : ℕ) → is_among place (places_in new) ≡ (is_among place (places_in old) || place == mark.0.place)
+pushed_places old new mark moved place = among_moved (places_in (mark ∷ old)) (places_in new) (places_moved (mark ∷ old) new moved) place ∙ or_turned (place == mark.0.place) (is_among place (places_in old))
+
+-- ---- another rank of a place
+
+-- a mark takes the place of one that the test cannot tell from it
+any_set : (test : Reverse Mark → Bool) (items : List (Reverse Mark)) (at : ℕ) (mark : Reverse Mark) → at < length items → ((d : Reverse Mark) → test mark ≡ test (get_or items at d)) → list_any test (set items at mark) ≡ list_any test items
+any_set test [] at mark within same = absurd (omega arith)
+any_set test (first ∷ items) zero mark within same = ap (λ b. b || list_any test items) (same first)
+any_set test (first ∷ items) (suc at) mark within same = ap (λ b. test first || b) (any_set test items at mark (omega arith) same)
+
+-- one that passes the test is put in, or was there, or it passed before
+any_put : (test : Reverse Mark → Bool) (items : List (Reverse Mark)) (at : ℕ) (mark : Reverse Mark) → at < length items → test mark ≡ true → list_any test (set items at mark) ≡ true
+any_put test [] at mark within passes = absurd (omega arith)
+any_put test (first ∷ items) zero mark within passes = or_left (test mark) (list_any test items) passes
+any_put test (first ∷ items) (suc at) mark within passes = or_right (test first) (list_any test (set items at mark)) (any_put test items at mark (omega arith) passes)
+
+any_either : (test : Reverse Mark → Bool) (items : List (Reverse Mark)) (at : ℕ) (mark : Reverse Mark) → list_any test (set items at mark) ≡ true → (test mark ≡ true) ⊎ (list_any test items ≡ true)
+any_either test [] at mark any = inr any
+any_either test (first ∷ items) zero mark any = elim (or_cases (test mark) (list_any test items) any) [ inl here ↦ inl here | inr later ↦ inr (or_right (test first) (list_any test items) later) ]
+any_either test (first ∷ items) (suc at) mark any = elim (or_cases (test first) (list_any test (set items at mark)) any) [
+  | inl here ↦ inr (or_left (test first) (list_any test items) here)
+  | inr later ↦ elim (any_either test items at mark later) [ inl put ↦ inl put | inr was ↦ inr (or_right (test first) (list_any test items) was) ]
+]
+
+module _ (items new : List (Reverse Mark)) (at : ℕ) (mark held : Reverse Mark) (within : at < length items) (is : held ≡ get_or items at held) (same : held.0.place ≡ mark.0.place) (moved : IsPermutation (set items at mark) new) where
+  its_place : (d : Reverse Mark) → (get_or items at d).0.place ≡ mark.0.place
+  its_place d = ap (λ (it : Reverse Mark). it.0.place) (get_or_default items at d held within ∙ sym is) ∙ same
+
+  now : (rank place : ℕ) → has_mark (marks_in new) rank place ≡ list_any (is_mark rank place) (set items at mark)
+  now rank place = same_permuted (set items at mark) new moved rank place ∙ has_in rank place (set items at mark)
+
+  elsewhere : (place spot : ℕ) → (place == mark.0.place) ≡ false → spot ≡ mark.0.place → (spot == place) ≡ false
+  elsewhere place spot apart own = false_unless (spot == place) (λ equal. true≢false (sym (eq-eqb place (mark.0.place) (sym (eqb-true spot place equal) ∙ own)) ∙ apart))
+
+  pub ranked : IsMarkedAs (marks_in items) (marks_in new) (mark.0.rank) (mark.0.place)
+  ranked = record {
+    here = now (mark.0.rank) (mark.0.place) ∙ any_put (is_mark (mark.0.rank) (mark.0.place)) items at mark within (own_mark mark);
+    others = λ rank place apart.
+        now rank place
+        ∙ any_set (is_mark rank place) items at mark within (λ d.
+        and_right (mark.0.rank == rank) (mark.0.place == place) (elsewhere place (mark.0.place) apart refl)
+        ∙ sym (and_right ((get_or items at d).0.rank == rank) ((get_or items at d).0.place == place) (elsewhere place ((get_or items at d).0.place) apart (its_place d))))
+        ∙ sym (has_in rank place items);
+    ranks = λ rank has. elim (any_either (is_mark rank (mark.0.place)) items at mark (sym (now rank (mark.0.place)) ∙ has)) [
+      | inl put ↦ inl (sym (eqb-true (mark.0.rank) rank (and_parts (mark.0.rank == rank) (mark.0.place == mark.0.place) put).0))
+      | inr was ↦ inr (has_in rank (mark.0.place) items ∙ was)
+    ];
+  }
+
+  pub ranked_places : IsPermutation (places_in items) (places_in new)
+  ranked_places =
+      subst (λ places. IsPermutation places (places_in new))
+      (ap (map place_of) (map-set pair_of items at mark) ∙ map-set_same place_of (marks_in items) at (pair_of mark) (pair_of mark) (sym (ap place_of (get_or-map pair_of items at mark (pair_of mark) within) ∙ its_place mark)))
+      (places_moved (set items at mark) new moved)
+
+-- the mark is there
+pub unchanged : (marks : List (ℕ × ℕ)) (rank place : ℕ) → has_mark marks rank place ≡ true → IsMarkedAs marks marks rank place
+unchanged marks rank place has = record { here = has; others = λ other_rank other apart. refl; ranks = λ other_rank was. inr was }
+
+-- ---- the places of the marks, one by one
+
+module _ (slice items : List (Reverse Mark)) (same : slice ≡ items) (at : ℕ) (d : Reverse Mark) (inside : at < length slice) where
+  within : at < length items
+  within = subst (λ (xs : List (Reverse Mark)). at < length xs) same inside
+
+  long : at < length (places_in items)
+  long = let first : length (marks_in items) ≡ length items = length-map items pair_of in let second : length (places_in items) ≡ length (marks_in items) = length-map (marks_in items) place_of in let inside = within in omega arith
+
+  place_at : get_or (places_in items) at 0 ≡ (get_or slice at d).0.place
+  place_at =
+      get_or-map place_of (marks_in items) at (pair_of d) 0 (let first : length (marks_in items) ≡ length items = length-map items pair_of in let inside = within in omega arith)
+      ∙ ap place_of (get_or-map pair_of items at d (pair_of d) within)
+      ∙ ap (λ (xs : List (Reverse Mark)). (get_or xs at d).0.place) (sym same)
+
+  pub inserted_next : (was mid more : ℕ → Bool) → ((place : ℕ) → was place ≡ is_among place (take at (places_in items))) → ((place : ℕ) → mid place ≡ was place)
+      → ((place : ℕ) → more place ≡ (mid place || place == (get_or slice at d).0.place)) → (place : ℕ) → more place ≡ is_among place (take (at + 1) (places_in items))
+  inserted_next was mid more before kept added place =
+      added place
+      ∙ ap (λ b. b || place == (get_or slice at d).0.place) (kept place ∙ before place)
+      ∙ ap (λ x. is_among place (take at (places_in items)) || place == x) (sym place_at)
+      ∙ sym (among_more place at (places_in items) long)
+
+  -- a mark of another place
+  pub apart_next : (place : ℕ) → is_among place (take at (places_in items)) ≡ false → ((get_or slice at d).0.place ≡ place → ⊥) → is_among place (take (at + 1) (places_in items)) ≡ false
+  apart_next place before differs =
+      among_more place at (places_in items) long
+      ∙ or_from (is_among place (take at (places_in items))) (place == get_or (places_in items) at 0) before (ne_eqb place (get_or (places_in items) at 0) (λ same. differs (sym place_at ∙ sym same)))
+
+  pub removed_next : (was less : ℕ → Bool) → ((place : ℕ) → was place ≡ true → is_among place (drop at (places_in items)) ≡ true)
+      → ((place : ℕ) → less place ≡ (was place && not (place == (get_or slice at d).0.place))) → (place : ℕ) → less place ≡ true → is_among place (drop (at + 1) (places_in items)) ≡ true
+  removed_next was less before taken place yet =
+      let (here, apart) = and_parts (was place) (not (place == (get_or slice at d).0.place)) (sym (taken place) ∙ yet) in
+      let among : is_among place (get_or (places_in items) at 0 ∷ drop (suc at) (places_in items)) ≡ true = ap (is_among place) (sym (drop-cons (places_in items) at 0 long)) ∙ before place here in
+      elim (or_cases (place == get_or (places_in items) at 0) (is_among place (drop (suc at) (places_in items))) among) [
+        | inl equal ↦ absurd (true≢false (sym (ap (λ x. place == x) (sym place_at) ∙ equal) ∙ not-true (place == (get_or slice at d).0.place) apart))
+        | inr later ↦ let next : suc at ≡ at + 1 = omega arith in subst (λ i. is_among place (drop i (places_in items)) ≡ true) next later
+      ]
+
+-- ---- the first mark is removed
+
+module _ (old new : List (Reverse Mark)) (mark : Reverse Mark) (moved : IsPermutation old (mark ∷ new)) (once : IsDistinct nat_eq (places_in old)) where
+  pub popped_once : IsDistinct nat_eq (places_in new)
+  popped_once = distinct_less (mark.0.place) (places_in old) (places_in new) (places_moved old (mark ∷ new) moved) once
+
+  gone : is_among (mark.0.place) (places_in new) ≡ false
+  gone = gone_less (mark.0.place) (places_in old) (places_in new) (places_moved old (mark ∷ new) moved) once
+
+  pub popped_places : (place : ℕ) → is_among place (places_in new) ≡ (is_among place (places_in old) && not (place == mark.0.place))
+  popped_places place =
+      alone (is_among place (places_in new)) (place == mark.0.place) (λ same. ap (λ x. is_among x (places_in new)) (eqb-true place (mark.0.place) same) ∙ gone)
+      ∙ sym (or_apart (place == mark.0.place) (is_among place (places_in new)))
+      ∙ ap (λ b. b && not (place == mark.0.place)) (among_moved (places_in old) (places_in (mark ∷ new)) (places_moved old (mark ∷ new) moved) place)
+
+  pub popped : IsUpperBound heap_cmp mark old → IsPopped (marks_in old) (marks_in new) (mark.0.rank) (mark.0.place)
+  popped low = record {
+    here = has_one old new mark moved (mark.0.rank) (mark.0.place) ∙ or_left (mark.0.rank == mark.0.rank && mark.0.place == mark.0.place) (has_mark (marks_in new) (mark.0.rank) (mark.0.place)) (own_mark mark);
+    least = bottom mark old low;
+    rest = λ rank place.
+        alone (has_mark (marks_in new) rank place) (rank == mark.0.rank && place == mark.0.place)
+        (λ same. false_unless (has_mark (marks_in new) rank place) (λ has.
+        false≢true (sym gone ∙ ap (λ x. is_among x (places_in new)) (sym (eqb-true place (mark.0.place) (and_parts (rank == mark.0.rank) (place == mark.0.place) same).1)) ∙ mark_place (marks_in new) rank place has)))
+        ∙ sym (or_apart (rank == mark.0.rank && place == mark.0.place) (has_mark (marks_in new) rank place))
+        ∙ ap (λ b. b && not (rank == mark.0.rank && place == mark.0.place)) (sym (has_one old new mark moved rank place));
+    fewer = let before : length (marks_in old) ≡ length old = many old in let after : length (marks_in new) ≡ length new = many new in let one : length (mark ∷ new) ≡ length old = length_permutation old (mark ∷ new) moved in omega arith;
+  } where
+    many : (items : List (Reverse Mark)) → length (marks_in items) ≡ length items
+    many [] = refl
+    many (item ∷ items) = let rest = many items in omega arith
+
+-- ---- what is stored
+
+-- no marks
+pub none_stored : (items : List (Reverse Mark)) (set : Option (List ℕ)) → items ≡ [] → IsHeap heap_cmp items → IfSome set (IsSetOf []) → AreStored items set
+none_stored items set none order places = record {
+  order = order;
+  once = subst (λ (xs : List (Reverse Mark)). IsDistinct nat_eq (places_in xs)) (sym none) distinct_none;
+  places = subst (λ (xs : List (Reverse Mark)). IfSome set (IsSetOf xs)) (sym none) places;
+}
+
+set_moved : (old new : List (Reverse Mark)) → ((place : ℕ) → is_among place (places_in new) ≡ is_among place (places_in old)) → (set : Option (List ℕ)) → IfSome set (IsSetOf old) → IfSome set (IsSetOf new)
+set_moved old new same None places = tt
+set_moved old new same (Some words) places = λ place. places place ∙ sym (same place)
+
+-- other ranks of the same places
+pub stored_moved : (old new : List (Reverse Mark)) (set : Option (List ℕ)) → AreStored old set → IsHeap heap_cmp new → IsPermutation (places_in old) (places_in new) → AreStored new set
+stored_moved old new set stored order moved = record {
+  order = order;
+  once = distinct_moved (places_in old) (places_in new) moved stored.once;
+  places = set_moved old new (among_moved (places_in old) (places_in new) moved) set stored.places;
+}
+
+set_with : (old new : List (Reverse Mark)) (mark : Reverse Mark) → IsPermutation (mark ∷ old) new → (set : Option (List ℕ)) → IfSome set (IsSetWith old (mark.0.place)) → IfSome set (IsSetOf new)
+set_with old new mark moved None places = tt
+set_with old new mark moved (Some words) places = λ place. places place ∙ sym (pushed_places old new mark moved place)
+
+pub stored_more : (old new : List (Reverse Mark)) (mark : Reverse Mark) (before set : Option (List ℕ)) → AreStored old before → is_among (mark.0.place) (places_in old) ≡ false → IsPermutation (mark ∷ old) new → IsHeap heap_cmp new
+    → (IfSome before (IsSetOf old) → IfSome set (IsSetWith old (mark.0.place))) → AreStored new set
+stored_more old new mark before set stored fresh moved order told = record {
+  order = order;
+  once = pushed_once old new mark moved fresh stored.once;
+  places = set_with old new mark moved set (told stored.places);
+}
+
+set_without : (old new : List (Reverse Mark)) (mark : Reverse Mark) → IsPermutation old (mark ∷ new) → IsDistinct nat_eq (places_in old) → (set : Option (List ℕ)) → IfSome set (IsSetWithout old (mark.0.place)) → IfSome set (IsSetOf new)
+set_without old new mark moved once None places = tt
+set_without old new mark moved once (Some words) places = λ place. places place ∙ sym (popped_places old new mark moved once place)
+
+pub stored_less : (old new : List (Reverse Mark)) (mark : Reverse Mark) (before set : Option (List ℕ)) → AreStored old before → IsPermutation old (mark ∷ new) → IsHeap heap_cmp new
+    → (IfSome before (IsSetOf old) → IfSome set (IsSetWithout old (mark.0.place))) → AreStored new set
+stored_less old new mark before set stored moved order told = record {
+  order = order;
+  once = popped_once old new mark moved stored.once;
+  places = set_without old new mark moved stored.once set (told stored.places);
+}
 
 -- ---- a whole level
 
@@ -250,14 +365,10 @@ among_places (mark ∷ marks) rank place have =
     (λ both. eq-eqb place mark.1 (sym (eqb-true mark.1 place (and_parts (mark.0 == rank) (mark.1 == place) both).1))))
     ∙ ap (λ b. (mark.0 == rank && mark.1 == place) || b) (among_places marks rank place (λ other_rank other has. have other_rank other (or_right (mark.0 == other_rank && mark.1 == other) (has_mark marks other_rank other) has)))
 
-module _ (marks : List (ℕ × ℕ)) (rank : ℕ) (sorted level : List ℕ) (have : HaveRank marks rank) (moved : IsPermutation (map place_of marks) sorted) (is : level ≡ dedup nat_eq sorted) where
-  -- as places of the level, each once
-  pub among_level : (place : ℕ) → is_among place level ≡ has_mark marks rank place
-  among_level place =
-      ap (list_any (nat_eq place)) is
-      ∙ any_dedup nat_eq (nat_eq place) (λ x y same. ap (nat_eq place) (eqb-true x y same)) sorted
-      ∙ sym (list_any-IsPermutation (nat_eq place) (map place_of marks) sorted moved)
-      ∙ among_places marks rank place have
+module _ (marks : List (ℕ × ℕ)) (rank : ℕ) (level : List ℕ) (have : HaveRank marks rank) (moved : IsPermutation (map place_of marks) level) where
+  -- as places of the level
+  among_level : (place : ℕ) → is_among place level ≡ has_mark marks rank place
+  among_level place = among_moved (map place_of marks) level moved place ∙ among_places marks rank place have
 
   pub whole_level : AllPairs (λ one other. one < other) level → (ranks : ℕ → ℕ) → AreMarks ranks marks → IsLevel ranks (is_marked ranks marks) level (is_marked ranks [])
   whole_level ascends ranks are = record {

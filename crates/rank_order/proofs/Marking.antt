@@ -1,11 +1,13 @@
 -- Marks by any ranks: one more, one less, and those of the least rank removed.
 use Rattle.std.proofs.Common.{◌≡◌, ℕ, ◌<◌, ◌≤◌, ◌≢◌, ◌⊎◌, Bool, true, false, List, [], ◌∷◌, ◌++◌, length, get_or, refl, ap, sym, ◌∙◌, subst, inl, inr, arith}
 use Rattle.std.specs.Prelude.{not, ◌==◌, ◌&&◌, ◌||◌, AllPairs}
-use Rattle.std.proofs.lemmas.Bool.{eqb-true, eq-eqb, eqb-false, cases_order, or_cases, and_parts, and_from, not-true, false≢true}
+use Rattle.std.proofs.lemmas.Bool.{eqb-true, eq-eqb, eqb-false, cases_Bool, cases_order, or_cases, or_left, or_right, and_parts, and_from, not-true, false≢true}
+use Rattle.std.proofs.Math.Bool.{or-false}
 use Rattle.std.proofs.lemmas.List.Elements.{Contains-get_or}
 use Rattle.std.proofs.lemmas.List.Quantifiers.{all_pairs_push}
 use Rattle.rank_order.specs.Lists.{is_among}
-use Rattle.rank_order.specs.Marks.{has_mark, is_marked, AreMarks, AreLeft, ComesBefore, IsFirst, IsPopped}
+use Rattle.rank_order.specs.Marks.{has_mark, has_place, is_marked, AreMarks, AreLeft, ComesBefore, IsFirst, IsPopped}
+use Rattle.rank_order.specs.MarkHeaps.{IsMarkedAs}
 use Rattle.rank_order.proofs.Members.{same_tests, contains_among, among_append, among_push_cases}
 
 -- by its own rank a place is marked where it is that place
@@ -26,26 +28,50 @@ no_marks marks none ranks rank place has = absurd (false≢true (sym (none_marke
 pub marks_left : (marks left : List (ℕ × ℕ)) → AreLeft marks left → (ranks : ℕ → ℕ) → AreMarks ranks marks → AreMarks ranks left
 marks_left marks left yet ranks are rank place has = are rank place (yet rank place has)
 
+-- a place that is marked with any rank is marked with its own
+pub marked_by : (ranks : ℕ → ℕ) (marks : List (ℕ × ℕ)) → AreMarks ranks marks → (place : ℕ) → has_place marks place ≡ true → is_marked ranks marks place ≡ true
+marked_by ranks marks are place has = let (rank, here) = some_rank marks place has in subst (λ r. has_mark marks r place ≡ true) (are rank place here) here where
+  some_rank : (marks : List (ℕ × ℕ)) (place : ℕ) → has_place marks place ≡ true → (rank : ℕ) × (has_mark marks rank place ≡ true)
+  some_rank [] place has = absurd (false≢true has)
+  some_rank (mark ∷ marks) place has = elim (or_cases (place == mark.1) (has_place marks place) has) [
+    | inl same ↦ (mark.0, or_left (mark.0 == mark.0 && mark.1 == place) (has_mark marks mark.0 place) (and_from (mark.0 == mark.0) (mark.1 == place) (eq-eqb mark.0 mark.0 refl) (eq-eqb mark.1 place (sym (eqb-true place mark.1 same)))))
+    | inr later ↦ let (rank, here) = some_rank marks place later in (rank, or_right (mark.0 == rank && mark.1 == place) (has_mark marks rank place) here)
+  ]
+
+-- to mark it again changes nothing
+pub marked_again : (marked : ℕ → Bool) (place other : ℕ) → marked place ≡ true → marked other ≡ (marked other || other == place)
+marked_again marked place other here = by (marked other) (other == place) (λ same. ap marked (eqb-true other place same) ∙ here) where
+  by : (was same : Bool) → (same ≡ true → was ≡ true) → was ≡ (was || same)
+  by true same h = refl
+  by false true h = h refl
+  by false false h = refl
+
 pub stays : (old new : List (ℕ × ℕ)) (rank place : ℕ) → IsPopped old new rank place → AreLeft old new
 stays old new rank place popped other_rank other has =
     (and_parts (has_mark old other_rank other) (not (other_rank == rank && other == place)) (sym (popped.rest other_rank other) ∙ has)).0
 
--- the place is marked with the rank too
-abbrev pub IsMore : List (ℕ × ℕ) → List (ℕ × ℕ) → ℕ → ℕ → Type 0
-IsMore marks more rank place = (other_rank other : ℕ) → has_mark more other_rank other ≡ (has_mark marks other_rank other || (other_rank == rank && other == place))
-
 module _ (ranks : ℕ → ℕ) (old new : List (ℕ × ℕ)) (rank place : ℕ) where
-  module _ (told : IsMore old new rank place) (own : rank ≡ ranks place) where
+  module _ (told : IsMarkedAs old new rank place) (own : rank ≡ ranks place) where
     -- one more mark
     pub marked_more : (other : ℕ) → is_marked ranks new other ≡ (is_marked ranks old other || other == place)
-    marked_more other = told (ranks other) other ∙ ap (λ b. is_marked ranks old other || b) (own_mark ranks rank place other own)
+    marked_more other = elim (cases_Bool (other == place)) [
+      | inl same ↦
+          ap (λ x. has_mark new (ranks x) x) (eqb-true other place same)
+          ∙ ap (λ r. has_mark new r place) (sym own)
+          ∙ told.here
+          ∙ sym (or_right (is_marked ranks old other) (other == place) same)
+      | inr apart ↦ told.others (ranks other) other apart ∙ sym (ap (λ b. is_marked ranks old other || b) apart ∙ or-false (is_marked ranks old other))
+    ]
 
     pub marks_more : AreMarks ranks old → AreMarks ranks new
-    marks_more are other_rank other has = elim (or_cases (has_mark old other_rank other) (other_rank == rank && other == place) (sym (told other_rank other) ∙ has)) [
-      | inl was ↦ are other_rank other was
-      | inr same ↦
-          let (same_rank, same_place) = and_parts (other_rank == rank) (other == place) same in
-          eqb-true other_rank rank same_rank ∙ own ∙ ap ranks (sym (eqb-true other place same_place))
+    marks_more are other_rank other has = elim (cases_Bool (other == place)) [
+      | inl same ↦
+          let here : other ≡ place = eqb-true other place same in
+          elim (told.ranks other_rank (ap (has_mark new other_rank) (sym here) ∙ has)) [
+            | inl given ↦ given ∙ own ∙ ap ranks (sym here)
+            | inr was ↦ are other_rank place was ∙ ap ranks (sym here)
+          ]
+      | inr apart ↦ are other_rank other (sym (told.others other_rank other apart) ∙ has)
     ]
 
   module _ (popped : IsPopped old new rank place) (are : AreMarks ranks old) where

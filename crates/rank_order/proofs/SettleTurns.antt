@@ -39,6 +39,13 @@ mark_joined false true false false told = refl
 mark_joined false false true kept told = sym (told refl)
 mark_joined false false false kept told = refl
 
+-- one more of the places is marked already
+pub mark_kept : (was among same kept : Bool) → (same ≡ true → (was || (among && kept)) ≡ true) → (was || (among && kept)) ≡ (was || ((among || same) && kept))
+mark_kept true among same kept told = refl
+mark_kept false true same kept told = refl
+mark_kept false false true kept told = absurd (false≢true (told refl))
+mark_kept false false false kept told = refl
+
 -- exactly this place was removed from the marks
 gone : (marked left same : Bool) → left ≡ (marked && not same) → left ≡ false → (marked ≡ false) ⊎ (same ≡ true)
 gone true left true is none = inr refl

@@ -3,6 +3,7 @@ pub mod Orders
 pub mod DependentLists
 pub mod Ranking
 pub mod Marks
+pub mod PlaceSets
 pub mod MarkHeaps
 pub mod Faults
 pub mod Moved

@@ -1,11 +1,18 @@
 -- Marks: places, each with a rank. Contracts see them as a list of ranks with places.
-use Rattle.std.specs.Prelude.{ℕ, ◌<◌, ◌≤◌, ◌≡◌, ◌⊎◌, ◌&&◌, ◌||◌, ◌==◌, Bool, true, not, List, length, AllPairs}
+use Rattle.std.specs.Prelude.{ℕ, ◌<◌, ◌≤◌, ◌≡◌, ◌⊎◌, ◌&&◌, ◌||◌, ◌==◌, Bool, true, false, not, List, length, map, AllPairs}
 use Rattle.std.specs.List.{list_any}
 use Rattle.rank_order.specs.Lists.{is_among}
 
 -- whether the place is marked with the rank
 abbrev pub has_mark : List (ℕ × ℕ) → ℕ → ℕ → Bool
 has_mark marks rank place = list_any (λ mark. mark.0 == rank && mark.1 == place) marks
+
+abbrev pub place_of : ℕ × ℕ → ℕ
+place_of mark = mark.1
+
+-- whether the place is marked, with any rank
+abbrev pub has_place : List (ℕ × ℕ) → ℕ → Bool
+has_place marks place = is_among place (map place_of marks)
 
 -- whether the place is marked, by these ranks
 abbrev pub is_marked : (ℕ → ℕ) → List (ℕ × ℕ) → ℕ → Bool
@@ -14,6 +21,14 @@ is_marked ranks marks place = has_mark marks (ranks place) place
 -- each mark has the rank of its place
 abbrev pub AreMarks : (ℕ → ℕ) → List (ℕ × ℕ) → Type 0
 AreMarks ranks marks = (rank place : ℕ) → has_mark marks rank place ≡ true → rank ≡ ranks place
+
+-- the place is marked with this rank alone
+abbrev pub HasRankAlone : List (ℕ × ℕ) → ℕ → ℕ → Type 0
+HasRankAlone marks rank place = (other_rank : ℕ) → has_mark marks other_rank place ≡ true → other_rank ≡ rank
+
+-- each other place is marked as before
+abbrev pub IsSameBut : ℕ → List (ℕ × ℕ) → List (ℕ × ℕ) → Type 0
+IsSameBut place old new = (other_rank other : ℕ) → (other == place) ≡ false → has_mark new other_rank other ≡ has_mark old other_rank other
 
 -- each mark that is left was one before
 abbrev pub AreLeft : List (ℕ × ℕ) → List (ℕ × ℕ) → Type 0

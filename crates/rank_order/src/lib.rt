@@ -18,6 +18,7 @@ mod lists;
 mod marks;
 mod order;
 mod patch;
+mod place_set;
 mod ranks;
 mod representation;
 mod rewire;

@@ -1,18 +1,22 @@
 //! Marks: places that have still to be processed, by rank and then by place.
-ghost use Rattle.std.specs.Prelude.{◌≡◌, ◌<◌, ◌≤◌, ◌+◌, ◌++◌, ◌↔◌, ℕ, List, [], map, true, false, ◌||◌, ◌&&◌, not, ◌==◌, length, vec_len, vec_capacity, IsTrue, IfNone, IfSome, OnOk, OnErr};
-ghost use Rattle.std.specs.List.{list_all};
+ghost use Rattle.std.specs.Prelude.{◌≡◌, ◌<◌, ◌≤◌, ◌+◌, ◌/◌, ◌++◌, ◌↔◌, ℕ, List, [], map, true, false, ◌||◌, ◌==◌, length, nat_eq, vec_len, vec_capacity, IsTrue, IfNone, IfOk, IfSome, IsOk, IsPermutation, OnOk, OnErr};
+ghost use Rattle.std.specs.List.{list_all, list_any, IsDistinct};
 ghost use Rattle.std.specs.BinaryHeap.{heap_items, heap_len, IsHeap};
-ghost use Rattle.rank_order.specs.Marks.{has_mark, is_marked, AreMarks, AreLeft, AreFrom, AreAbove, IsFirst, IsLeastRank, IsLevel, IsPopped};
-ghost use Rattle.rank_order.specs.MarkHeaps.{heap_cmp, marks_in, place_of, has_rank, HaveRank, HaveSameMarks, IsBottom, IsTop};
+ghost use Rattle.std.specs.declared.cmp.Reverse.{Reverse};
+ghost use Rattle.rank_order.specs.declared.marks.Mark.{Mark};
+ghost use Rattle.rank_order.specs.Lists.{is_among};
+ghost use Rattle.rank_order.specs.Marks.{has_mark, has_place, is_marked, place_of, AreMarks, AreLeft, AreFrom, AreAbove, HasRankAlone, IsFirst, IsLeastRank, IsLevel, IsPopped, IsSameBut};
+ghost use Rattle.rank_order.specs.MarkHeaps.{has_rank, heap_cmp, is_of, marks_in, places_in, AreStored, HaveRank, IsMarkedAs, IsSetOf, IsSetWith, IsSetWithout};
 
+use crate::place_set::PlaceSet;
 use std::alloc::{AllocError, Global};
 use std::cmp::Reverse;
 use std::collections::BinaryHeap;
 use std::marker::Model;
 use std::mem;
 
-/// Among fewer marks than this, repeats are left.
-const MANY: usize = 256;
+/// While no more places than this were marked at once, a place is looked for among the marks.
+const FEW: usize = 16;
 
 /// A place with its rank.
 #[derive(Clone, Copy, Debug, PartialEq, Eq, PartialOrd, Ord)]
@@ -21,30 +25,28 @@ struct Mark {
     place: u32,
 }
 
-/// Places, each marked with a rank. Contracts see the list of ranks with places.
+/// Places, each marked with a rank. Contracts see the list of ranks with places, in which no place stands twice.
 ///
-/// A mark may stand in the heap several times: to look for it at each insertion, as a set does, costs more than to
-/// take the repeats out now and then. Where the heap comes to the limit they are taken out, and the limit becomes twice
-/// of what is left. Where nothing is left, it is low again, and the memory of many marks is given back. So the heap holds
-/// at most twice the most marks that differed since it was last empty, or 256 where those are fewer. An insertion or a
-/// removal alone may take longer than a set's, but many together do not.
+/// Most changes mark few places, which are found among the marks; a set of all places would take longer to make. Where more are
+/// marked, each is found by its bit: then the set is paid for by its marks, and is cleared by their removal.
 #[derive(Drop)]
 pub struct Marks {
     heap: BinaryHeap<Reverse<Mark>>,
-    limit: usize,
+    /// The marked places, once there have been many.
+    places: Option<PlaceSet>,
     alloc: Global,
 }
 
 impl Model for Marks {
     ghost use Rattle.std.specs.Prelude.{ℕ, List};
-    ghost use Rattle.std.specs.BinaryHeap.{heap_items, IsHeap};
-    ghost use Rattle.rank_order.specs.MarkHeaps.{heap_cmp, marks_in};
+    ghost use Rattle.std.specs.BinaryHeap.{heap_items};
+    ghost use Rattle.rank_order.specs.MarkHeaps.{marks_in, AreStored};
 
     ghost Value = { List (ℕ × ℕ) };
 
     ghost view = { λ marks. marks_in (heap_items marks.heap) };
 
-    ghost invariant = { λ marks. IsHeap heap_cmp (heap_items marks.heap) };
+    ghost invariant = { λ marks. AreStored (heap_items marks.heap) marks.places };
 }
 
 impl Marks {
@@ -54,7 +56,7 @@ impl Marks {
     {
         Marks {
             heap: BinaryHeap::new(alloc),
-            limit: MANY,
+            places: None,
             alloc,
         }
     }
@@ -66,36 +68,98 @@ impl Marks {
         self.heap.is_empty()
     }
 
-    /// Marks a place, which has this rank. If out of memory, the marks stay as they are.
+    /// Whether a place is marked, with any rank. Allocates nothing.
     #[inline(always)]
+    pub fn has(&self, place: u32) -> bool
+        ensures { result ≡ has_place self.now place }
+    {
+        match &self.places {
+            Some(places) => places.has(place),
+            None => has_place(&self.heap, place),
+        }
+    }
+
+    /// Marks a place, which has this rank. A place that is marked with another rank gets this one in its place. A place that is
+    /// marked is looked for among all marks, so where places are marked often [`Marks::has`] is to be asked before. If out of memory,
+    /// which a place that is marked needs none of, the marks stay as they are.
     pub fn insert(&mut self, rank: u32, place: u32) -> Result<(), AllocError>
         ensures marked { OnOk result ((ranks : ℕ → ℕ) (other : ℕ) → rank ≡ ranks place
             → is_marked ranks self.new other ≡ (is_marked ranks self.old other || other == place)) }
         ensures marks { OnOk result ((ranks : ℕ → ℕ) → rank ≡ ranks place → AreMarks ranks self.old → AreMarks ranks self.new) }
+        ensures alone { OnOk result (HasRankAlone self.new rank place) }
+        ensures others { OnOk result (IsSameBut place self.old self.new) }
+        ensures there { has_place self.old place ≡ true → IsOk result }
+        ensures same { has_mark self.old rank place ≡ true → self.new ≡ self.old }
         ensures refused { OnErr result (self.new ≡ self.old) }
     {
-        self.heap.push(Reverse(Mark { rank, place }))?;
-        self.keep_limit();
+        if self.has(place) {
+            self.set_rank(Mark { rank, place });
+            return Ok(());
+        }
+        self.add(rank, place)
+    }
+
+    /// Marks a place that is not marked, and has this rank. If out of memory, the marks stay as they are.
+    #[inline(always)]
+    pub fn add(&mut self, rank: u32, place: u32) -> Result<(), AllocError>
+        requires { has_place self.old place ≡ false }
+        ensures marked { OnOk result ((ranks : ℕ → ℕ) (other : ℕ) → rank ≡ ranks place
+            → is_marked ranks self.new other ≡ (is_marked ranks self.old other || other == place)) }
+        ensures marks { OnOk result ((ranks : ℕ → ℕ) → rank ≡ ranks place → AreMarks ranks self.old → AreMarks ranks self.new) }
+        ensures alone { OnOk result (HasRankAlone self.new rank place) }
+        ensures others { OnOk result (IsSameBut place self.old self.new) }
+        ensures refused { OnErr result (self.new ≡ self.old) }
+    {
+        self.push(Mark { rank, place })
+    }
+
+    /// Gives a place that is marked this rank.
+    fn set_rank(&mut self, mark: Mark)
+        requires { has_place self.old mark.place ≡ true }
+        ensures ranked { IsMarkedAs self.old self.new mark.rank mark.place }
+        ensures alone { HasRankAlone self.new mark.rank mark.place }
+        ensures same { has_mark self.old mark.rank mark.place ≡ true → self.new ≡ self.old }
+    {
+        if has_mark(&self.heap, mark) {
+            return;
+        }
+        let heap = mem::replace(&mut self.heap, BinaryHeap::new(self.alloc));
+        self.heap = with_rank(heap, mark);
+    }
+
+    /// Marks a place that is not marked.
+    #[inline(always)]
+    fn push(&mut self, mark: Mark) -> Result<(), AllocError>
+        requires { has_place self.old mark.place ≡ false }
+        ensures ranked { OnOk result (IsMarkedAs self.old self.new mark.rank mark.place) }
+        ensures alone { OnOk result (HasRankAlone self.new mark.rank mark.place) }
+        ensures refused { OnErr result (self.new ≡ self.old) }
+    {
+        self.know_places()?;
+        reserve_place(&mut self.places, mark.place)?;
+        self.heap.push(Reverse(mark))?;
+        insert_place(&mut self.places, mark.place);
         Ok(())
     }
 
-    /// Takes the repeats out if there are as many marks as the limit.
+    /// Makes the set of the marked places once there are many.
     #[inline(always)]
-    fn keep_limit(&mut self)
-        ensures { HaveSameMarks self.old self.new }
+    fn know_places(&mut self) -> Result<(), AllocError>
+        ensures { self.new ≡ self.old }
     {
-        if self.limit <= self.heap.len() {
-            self.drop_repeats();
+        if self.heap.len() < FEW || self.places.is_some() {
+            return Ok(());
         }
+        self.places = Some(places_of(self.alloc, &self.heap)?);
+        Ok(())
     }
 
-    /// Takes out what stands several times, and sets the limit anew.
-    fn drop_repeats(&mut self)
-        ensures { HaveSameMarks self.old self.new }
+    /// Removes all marks. Takes as long as there are marks.
+    pub fn clear(&mut self)
+        ensures { self.new ≡ [] }
     {
-        let heap = mem::replace(&mut self.heap, BinaryHeap::new(self.alloc));
-        self.heap = without_repeats(heap);
-        self.limit = self.heap.len().saturating_mul(2).max(MANY);
+        remove_places(&mut self.places, &self.heap);
+        self.heap.clear();
     }
 
     /// Removes the first of the marked places, by rank and then by place, and returns it.
@@ -116,19 +180,8 @@ impl Marks {
         ensures kept { IfNone result (self.new ≡ self.old) }
     {
         let Reverse(mark) = self.heap.pop()?;
-        pop_repeats(&mut self.heap, mark);
-        self.lower_limit();
+        remove_place(&mut self.places, mark.place);
         Some(mark)
-    }
-
-    /// Where nothing is marked, lowers a limit that has risen, and gives the memory of the heap back.
-    fn lower_limit(&mut self)
-        ensures { self.new ≡ self.old }
-    {
-        if MANY < self.limit && self.heap.is_empty() {
-            self.heap = BinaryHeap::new(self.alloc);
-            self.limit = MANY;
-        }
     }
 
     /// The least rank of a mark.
@@ -165,10 +218,10 @@ impl Marks {
         requires { vec_len level.old + length self.old ≤ vec_capacity level.old }
         ensures none { self.new ≡ [] }
         ensures places { level.new.items ≡ level.old.items ++ map place_of self.old }
+        ensures once { IsDistinct nat_eq (map place_of self.old) }
     {
         push_places(&self.heap, level);
-        self.heap.clear();
-        self.lower_limit();
+        self.clear();
     }
 
     /// Removes the marks of the least rank. Their places, in ascending order, take the place of what `level` holds; none do if nothing
@@ -191,7 +244,6 @@ impl Marks {
         if self.have_rank(rank) {
             self.take_all(level);
             level.sort_unstable();
-            level.dedup();
             return Ok(());
         }
         while let Some(place) = self.pop_at(rank) {
@@ -204,44 +256,104 @@ impl Marks {
     }
 }
 
-/// The same marks, each once.
-fn without_repeats(heap: BinaryHeap<Reverse<Mark>>) -> BinaryHeap<Reverse<Mark>>
-    ensures marks { HaveSameMarks (marks_in (heap_items heap)) (marks_in (heap_items result)) }
+/// The set of the places of some marks.
+fn places_of(alloc: Global, heap: &BinaryHeap<Reverse<Mark>>) -> Result<PlaceSet, AllocError>
+    ensures { IfOk result (IsSetOf (heap_items heap.now)) }
+{
+    let mut places = PlaceSet::new(alloc);
+    for mark in heap.as_slice() {
+        places.reserve(mark.0.place)?;
+        places.insert(mark.0.place);
+    }
+    Ok(places)
+}
+
+/// Makes room for a place in the set, if there is one.
+#[inline(always)]
+fn reserve_place(places: &mut Option<PlaceSet>, place: u32) -> Result<(), AllocError>
+    ensures stored { (items : List (Reverse Mark)) → AreStored items places.old → AreStored items places.new }
+    ensures room { OnOk result (IfSome places.new (λ words. place / 64 < length words)) }
+{
+    match places {
+        Some(set) => set.reserve(place),
+        None => Ok(()),
+    }
+}
+
+/// Puts a place, for which there is room, into the set, if there is one.
+#[inline(always)]
+fn insert_place(places: &mut Option<PlaceSet>, place: u32)
+    requires { IfSome places.old (λ words. place / 64 < length words) }
+    ensures { (items : List (Reverse Mark)) → IfSome places.old (IsSetOf items) → IfSome places.new (IsSetWith items place) }
+{
+    match places {
+        Some(set) => set.insert(place),
+        None => (),
+    }
+}
+
+/// Removes a place from the set, if there is one.
+#[inline(always)]
+fn remove_place(places: &mut Option<PlaceSet>, place: u32)
+    ensures { (items : List (Reverse Mark)) → IfSome places.old (IsSetOf items) → IfSome places.new (IsSetWithout items place) }
+{
+    match places {
+        Some(set) => set.remove(place),
+        None => (),
+    }
+}
+
+/// Removes the places of all marks from the set of these places, if there is one.
+fn remove_places(places: &mut Option<PlaceSet>, heap: &BinaryHeap<Reverse<Mark>>)
+    requires { IfSome places.old (IsSetOf (heap_items heap.now)) }
+    ensures { IfSome places.new (IsSetOf []) }
+{
+    match places {
+        Some(set) => remove_each(set, heap),
+        None => (),
+    }
+}
+
+/// Removes the places of all marks from the set of these places.
+fn remove_each(places: &mut PlaceSet, heap: &BinaryHeap<Reverse<Mark>>)
+    requires { IsSetOf (heap_items heap.now) places.old }
+    ensures { IsSetOf [] places.new }
+{
+    for mark in heap.as_slice() {
+        places.remove(mark.0.place);
+    }
+}
+
+/// Whether a mark is of this place.
+#[inline(always)]
+fn has_place(heap: &BinaryHeap<Reverse<Mark>>, place: u32) -> bool
+    ensures { result ≡ list_any (λ (mark : Reverse Mark). place == mark.0.place) (heap_items heap.now) }
+{
+    heap.iter().any(|mark| place == mark.0.place)
+}
+
+/// Whether the mark is there.
+fn has_mark(heap: &BinaryHeap<Reverse<Mark>>, mark: Mark) -> bool
+    ensures { result ≡ list_any (is_of mark) (heap_items heap.now) }
+{
+    heap.iter().any(|other| other.0 == mark)
+}
+
+/// The marks with this one in place of another one of its place.
+fn with_rank(heap: BinaryHeap<Reverse<Mark>>, mark: Mark) -> BinaryHeap<Reverse<Mark>>
+    ensures marked { is_among mark.place (places_in (heap_items heap)) ≡ true
+        → IsMarkedAs (marks_in (heap_items heap)) (marks_in (heap_items result)) mark.rank mark.place }
+    ensures places { IsPermutation (places_in (heap_items heap)) (places_in (heap_items result)) }
     ensures order { IsHeap heap_cmp (heap_items result) }
 {
     let mut marks = heap.into_vec();
-    marks.sort_unstable();
-    marks.dedup();
-    // In this order each mark stands where the heap wants it.
-    marks.reverse();
+    for at in 0..marks.len() {
+        if marks[at].0.place == mark.place {
+            marks[at] = Reverse(mark);
+            return BinaryHeap::from(marks);
+        }
+    }
     BinaryHeap::from(marks)
-}
-
-/// Removes the mark, before which none stands, as often as it is there.
-fn pop_repeats(heap: &mut BinaryHeap<Reverse<Mark>>, mark: Mark)
-    requires order { IsHeap heap_cmp (heap_items heap.old) }
-    requires bottom { IsBottom (marks_in (heap_items heap.old)) mark.rank mark.place }
-    ensures order { IsHeap heap_cmp (heap_items heap.new) }
-    ensures rest { (rank place : ℕ) → has_mark (marks_in (heap_items heap.new)) rank place
-        ≡ (has_mark (marks_in (heap_items heap.old)) rank place && not (rank == mark.rank && place == mark.place)) }
-    ensures len { heap_len heap.new ≤ heap_len heap.old }
-{
-    while is_first(heap, mark) {
-        heap.pop();
-    }
-}
-
-/// Whether the mark stands first.
-fn is_first(heap: &BinaryHeap<Reverse<Mark>>, mark: Mark) -> bool
-    requires order { IsHeap heap_cmp (heap_items heap.now) }
-    requires bottom { IsBottom (marks_in (heap_items heap.now)) mark.rank mark.place }
-    ensures here { result ≡ true → IsTop (heap_items heap.now) mark }
-    ensures gone { result ≡ false → has_mark (marks_in (heap_items heap.now)) mark.rank mark.place ≡ false }
-{
-    match heap.peek() {
-        Some(first) => first.0 == mark,
-        None => false,
-    }
 }
 
 /// Whether all marks have this rank.

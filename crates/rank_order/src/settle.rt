@@ -111,22 +111,26 @@ fn first_stop(its_dependents: &[u32], out: &[u32], moved: &[u32]) -> Option<u32>
     None
 }
 
-/// Marks the places that are not removed, by their ranks before.
+/// Marks the places that are not removed, by their ranks before. Of one that is marked the rank is not looked up.
 fn mark_left<K: Keeps<u32>>(
     marks: &mut Marks,
     before: &K,
     places: &[u32],
     out: &[u32],
 ) -> Result<(), AllocError>
+    requires marks { AreMarks (slice_index (K.items before.now)) marks.old }
     ensures marked { OnOk result ((place : ℕ) → is_marked (slice_index (K.items before.now)) marks.new place
         ≡ (is_marked (slice_index (K.items before.now)) marks.old place || (is_among place places.now && not (is_among place out.now)))) }
-    ensures marks { OnOk result (AreMarks (slice_index (K.items before.now)) marks.old → AreMarks (slice_index (K.items before.now)) marks.new) }
+    ensures marks { OnOk result (AreMarks (slice_index (K.items before.now)) marks.new) }
 {
     for place in places {
+        if marks.has(*place) {
+            continue;
+        }
         if is_among(*place, out) {
             continue;
         }
-        marks.insert(rank_at(before, *place), *place)?;
+        marks.add(rank_at(before, *place), *place)?;
     }
     Ok(())
 }

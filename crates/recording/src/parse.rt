@@ -5,8 +5,8 @@ ghost use Rattle.recording.specs.Reads.{IsRead};
 use crate::Fault;
 use json::Scratch;
 use json_trees::{Document, Unread};
+use simdutf8::compat::from_utf8;
 use std::alloc::Global;
-use std::str;
 
 /// The JSON in these bytes, read in the room that is lent.
 pub(crate) fn read_json<'a>(
@@ -16,7 +16,7 @@ pub(crate) fn read_json<'a>(
 ) -> Result<Document<'a>, Fault>
     ensures { IsRead result (json_or_fault bytes.now) }
 {
-    let Ok(text) = str::from_utf8(bytes) else {
+    let Ok(text) = from_utf8(bytes) else {
         return Err(Fault::Json);
     };
     match Document::parse(alloc, text, room) {

@@ -18,14 +18,11 @@ use Rattle.version_store.specs.Plain.{PlainVersion}
 use Rattle.version_store.specs.Queries.{state_of, before}
 use Rattle.time_sweep.specs.declared.trial.Trial.{Trial}
 use Rattle.report_text.specs.declared.comparison.Comparison.{Comparison}
-use Rattle.report_text.specs.declared.comparison.Comparison.TheVariants as compared
 use Rattle.report_text.specs.declared.shift.Shift.{Shift as Moved}
 use Rattle.report_text.specs.declared.shift.Shift.TheVariants.{Later, Earlier}
 use Rattle.report_text.specs.AgainstTexts.{done_of, is_changed, shift_against}
 use Rattle.report_text.specs.Texts.{shift_at}
-use Rattle.report_json.specs.declared.entry.Entry.{Entry}
-use Rattle.report_json.specs.declared.entry.Entry.TheVariants.{Name, State, Times, Step, Change, Shift, ChangeAgainst, ShiftAgainst}
-use Rattle.report_json.specs.Entries.{entries, entry_at, entry_of}
+use Rattle.report_json.specs.Entries.{Entry, change_against_entry, change_entry, entries, entry_at, entry_of, name_entry, shift_against_entry, shift_entry, state_entry, step_entry, times_entry}
 use Rattle.report_json.specs.declared.line_lists.Listed.{Listed}
 use Rattle.report_json.specs.declared.line_lists.Listed.TheVariants as list
 use Rattle.report_json.specs.declared.line_of_stage.OfStage.{OfStage}
@@ -33,7 +30,7 @@ use Rattle.report_json.specs.declared.line_of_stage.OfStage.TheVariants as of
 use Rattle.report_json.specs.Json.{at_line, count, object, outcome_json}
 use Rattle.report_json.specs.Lists.{listed_json}
 use Rattle.report_json.specs.OfStage.{stage_json}
-use Rattle.report_json.specs.Reports.{against_members, all_members, blame_members, changes_members, comparison_json, drift_members, one_members, path_members, sweep_json, sweep_members, times_members, trials}
+use Rattle.report_json.specs.Reports.{all_members, blame_members, changes_members, comparison_json, comparison_members, drift_members, entry_against, one_members, path_members, sweep_json, sweep_members, times_members, trials}
 use Rattle.report_json.specs.Stages.{before_json, cause_members, completion_members, join_members, kind_of_feed, old_and_new, shift_members, stage_members, state_members, step_members, there_json, timing_members, trial_members}
 use Rattle.report_json.proofs.Exact.{IsExact, at_line_exact, count_exact, deeper, far_from_the_limit, list_exact, null_exact, object_exact, optional_exact, outcome_exact, text_exact, value_exact}
 
@@ -108,17 +105,17 @@ if_changed true d h = h
 if_changed false d h = tt
 
 entry_of_exact : (entry : Entry) (version against : PlainVersion) (place : ℕ) (stage : Stage) → IfSome (entry_of entry version against place stage) (IsExact 3)
-entry_of_exact Name version against place stage = text_exact 3 _
-entry_of_exact State version against place stage = deeper 2 3 _ (omega arith) (stage_exact version.graph place stage)
-entry_of_exact Times version against place stage = deeper 1 3 _ (omega arith) (timing_exact version.graph place stage)
-entry_of_exact Step version against place stage = deeper 2 3 _ (omega arith) (step_exact version.graph place stage)
-entry_of_exact Change version against place stage =
+entry_of_exact name_entry version against place stage = text_exact 3 _
+entry_of_exact state_entry version against place stage = deeper 2 3 _ (omega arith) (stage_exact version.graph place stage)
+entry_of_exact times_entry version against place stage = deeper 1 3 _ (omega arith) (timing_exact version.graph place stage)
+entry_of_exact step_entry version against place stage = deeper 2 3 _ (omega arith) (step_exact version.graph place stage)
+entry_of_exact change_entry version against place stage =
     old_and_new_exact stage _ _ (before_exact (before version.origin place)) (completion_exact (state_of version.graph place).done)
-entry_of_exact Shift version against place stage = moved_exact stage (shift_at version place)
-entry_of_exact ChangeAgainst version against place stage =
+entry_of_exact shift_entry version against place stage = moved_exact stage (shift_at version place)
+entry_of_exact change_against_entry version against place stage =
     if_changed (is_changed version against place stage) _
     (old_and_new_exact stage _ _ (there_exact (done_of against.graph stage.name)) (completion_exact (state_of version.graph place).done))
-entry_of_exact ShiftAgainst version against place stage = moved_exact stage (shift_against version against place stage)
+entry_of_exact shift_against_entry version against place stage = moved_exact stage (shift_against version against place stage)
 
 of_a_stage : (f : Stage → Option Data) (found : Option Stage) → ((stage : Stage) → IfSome (f stage) (IsExact 3)) → IfSome (option_and_then f found) (IsExact 3)
 of_a_stage f None h = tt
@@ -137,10 +134,10 @@ trials_exact version tick found =
 
 all_exact : (version : PlainVersion) → IsExact 5 (object (all_members version))
 all_exact version = object_exact 4 (all_members version)
-    (text_exact 4 _, (count_exact 4 _, (optional_exact 4 count _ (count_exact 4), (text_exact 4 _, (entries_exact State version version _, tt)))))
+    (text_exact 4 _, (count_exact 4 _, (optional_exact 4 count _ (count_exact 4), (text_exact 4 _, (entries_exact state_entry version version _, tt)))))
 
 times_exact : (version : PlainVersion) → IsExact 5 (object (times_members version))
-times_exact version = object_exact 4 (times_members version) (text_exact 4 _, (count_exact 4 _, (entries_exact Times version version _, tt)))
+times_exact version = object_exact 4 (times_members version) (text_exact 4 _, (count_exact 4 _, (entries_exact times_entry version version _, tt)))
 
 one_exact : (version : PlainVersion) (place : ℕ) (stage : Stage) → IsExact 5 (object (one_members version place stage))
 one_exact version place stage = object_exact 4 (one_members version place stage) (
@@ -157,7 +154,7 @@ one_exact version place stage = object_exact 4 (one_members version place stage)
             optional_exact 4 outcome_json _ (outcome_exact 3),
             (
               optional_exact 4 count _ (count_exact 4),
-              (entries_exact Name version version _, (entries_exact Name version version _, (entries_exact Name version version _, (deeper 1 4 _ (omega arith) (join_exact _), tt)))),
+              (entries_exact name_entry version version _, (entries_exact name_entry version version _, (entries_exact name_entry version version _, (deeper 1 4 _ (omega arith) (join_exact _), tt)))),
             ),
           ),
         ),
@@ -168,30 +165,27 @@ one_exact version place stage = object_exact 4 (one_members version place stage)
 
 blame_exact : (version : PlainVersion) (place : ℕ) (stage : Stage) → IsExact 5 (object (blame_members version place stage))
 blame_exact version place stage = object_exact 4 (blame_members version place stage)
-    (text_exact 4 _, (count_exact 4 _, (text_exact 4 _, (entries_exact Name version version _, tt))))
+    (text_exact 4 _, (count_exact 4 _, (text_exact 4 _, (entries_exact name_entry version version _, tt))))
 
 path_exact : (version : PlainVersion) (place : ℕ) (stage : Stage) → IsExact 5 (object (path_members version place stage))
 path_exact version place stage = object_exact 4 (path_members version place stage)
-    (text_exact 4 _, (count_exact 4 _, (text_exact 4 _, (optional_exact 4 count _ (count_exact 4), (entries_exact Step version version _, tt)))))
+    (text_exact 4 _, (count_exact 4 _, (text_exact 4 _, (optional_exact 4 count _ (count_exact 4), (entries_exact step_entry version version _, tt)))))
 
 changes_exact : (version : PlainVersion) → IsExact 5 (object (changes_members version))
 changes_exact version = object_exact 4 (changes_members version)
-    (text_exact 4 _, (count_exact 4 _, (optional_exact 4 count _ (count_exact 4), (entries_exact Change version version _, tt))))
+    (text_exact 4 _, (count_exact 4 _, (optional_exact 4 count _ (count_exact 4), (entries_exact change_entry version version _, tt))))
 
 drift_exact : (version : PlainVersion) → IsExact 5 (object (drift_members version))
 drift_exact version = object_exact 4 (drift_members version)
-    (text_exact 4 _, (count_exact 4 _, (optional_exact 4 count _ (count_exact 4), (entries_exact Shift version version _, tt))))
+    (text_exact 4 _, (count_exact 4 _, (optional_exact 4 count _ (count_exact 4), (entries_exact shift_entry version version _, tt))))
 
 of_stage_exact : (form : Stage → Data) (found : Option Stage) → ((stage : Stage) → IsExact 5 (form stage)) → IfSome (option_map form found) (IsExact 5)
 of_stage_exact form None h = tt
 of_stage_exact form (Some stage) h = h stage
 
-against_exact : (report : List ℕ) (version against : PlainVersion) (stages : Data) → IsExact 4 stages → IsExact 5 (object (against_members report version against stages))
-against_exact report version against stages h = object_exact 4 (against_members report version against stages) (text_exact 4 _, (count_exact 4 _, (count_exact 4 _, (h, tt))))
-
 pub comparison_exact : (comparison : Comparison) (version against : PlainVersion) → IsExact 5 (comparison_json comparison version against)
-comparison_exact compared.Changes version against = against_exact _ version against _ (entries_exact ChangeAgainst version against _)
-comparison_exact compared.Drift version against = against_exact _ version against _ (entries_exact ShiftAgainst version against _)
+comparison_exact comparison version against = object_exact 4 (comparison_members comparison version against)
+    (text_exact 4 _, (count_exact 4 _, (count_exact 4 _, (entries_exact (entry_against comparison) version against _, tt))))
 
 sweep_exact : (version : PlainVersion) (target : ℕ) (most : Option ℕ) (stage : Stage) → IsExact 5 (object (sweep_members version target most stage))
 sweep_exact version target most stage = object_exact 4 (sweep_members version target most stage)

@@ -5,9 +5,8 @@ use Rattle.serde_json.specs.Data.{Data}
 use Rattle.stage_graph.specs.declared.stage.Stage.{Stage}
 use Rattle.stage_graph.specs.Plain.{stage_at}
 use Rattle.version_store.specs.Plain.{PlainVersion}
-use Rattle.report_json.specs.declared.entry.Entry.{Entry}
 use Rattle.report_json.specs.declared.line_of_stage.OfStage.{OfStage}
-use Rattle.report_json.specs.Entries.{entry_of}
+use Rattle.report_json.specs.Entries.{Entry, entry_of}
 use Rattle.report_json.specs.OfStage.{of_stage, stage_json}
 
 -- what a list has of it

@@ -14,8 +14,7 @@ use Rattle.version_store.specs.Plain.{Origin, PlainVersion}
 use Rattle.version_store.specs.Queries.{before, held, held_by, moment_in, state_of, touched_by_place, touched_in, touched_of, KeepsOthers}
 use Rattle.report_text.specs.declared.shift.Shift.{Shift as Moved}
 use Rattle.report_text.specs.Texts.{shift_between, shift_since}
-use Rattle.report_json.specs.declared.entry.Entry.TheVariants.{Shift}
-use Rattle.report_json.specs.Entries.{entries, entry_at, entry_of}
+use Rattle.report_json.specs.Entries.{entries, entry_at, entry_of, shift_entry}
 use Rattle.report_json.specs.Json.{list, object}
 use Rattle.report_json.specs.Reports.{of_all_places}
 use Rattle.report_json.specs.Stages.{shift_members}
@@ -45,9 +44,9 @@ module _ (version : PlainVersion) (keeps : IfSome version.origin (λ origin. Kee
       ∙ ap (λ (state : State). shift_since (held state.done) (moment_in (state_of version.graph place))) (sym same)
       ∙ same_state (state_of version.graph place).done
 
-  no_entry : (place : ℕ) → is_among place (touched_of version) ≡ false → entry_at Shift version version place ≡ None
+  no_entry : (place : ℕ) → is_among place (touched_of version) ≡ false → entry_at shift_entry version version place ≡ None
   no_entry place elsewhere = by_stage (stage_at version.graph.places place) refl where
-    by_stage : (here : Option Stage) → stage_at version.graph.places place ≡ here → option_and_then (entry_of Shift version version place) here ≡ None
+    by_stage : (here : Option Stage) → stage_at version.graph.places place ≡ here → option_and_then (entry_of shift_entry version version place) here ≡ None
     by_stage None empty = refl
     by_stage (Some stage) stands =
         ap (option_map (λ (moved : Moved). object (shift_members stage moved))) (by_origin version.origin keeps place stage elsewhere stands)
@@ -65,6 +64,6 @@ entries_of f test none (place ∷ places) = elim (cases_Bool (test place)) [
 
 -- the touched places give what all places give
 pub shifts_of_touched : (version : PlainVersion) → IfSome version.origin (λ origin. KeepsOthers origin version.graph)
-    → entries Shift version version (touched_by_place version) ≡ entries Shift version version (of_all_places version)
+    → entries shift_entry version version (touched_by_place version) ≡ entries shift_entry version version (of_all_places version)
 shifts_of_touched version keeps =
-    ap list (entries_of (entry_at Shift version version) (λ place. is_among place (touched_of version)) (no_entry version keeps) (all_places version.graph.places))
+    ap list (entries_of (entry_at shift_entry version version) (λ place. is_among place (touched_of version)) (no_entry version keeps) (all_places version.graph.places))

@@ -20,8 +20,7 @@ use Rattle.report_text.specs.declared.what.What.{What}
 use Rattle.report_text.specs.declared.what.What.TheVariants as asked
 use Rattle.report_text.specs.SweepTexts.{first_of}
 use Rattle.report_text.specs.Texts.{mode_text}
-use Rattle.report_json.specs.declared.entry.Entry.TheVariants.{Name, State, Times, Step, Change, Shift, ChangeAgainst, ShiftAgainst}
-use Rattle.report_json.specs.Entries.{entries}
+use Rattle.report_json.specs.Entries.{Entry, change_against_entry, change_entry, entries, name_entry, shift_against_entry, shift_entry, state_entry, step_entry, times_entry}
 use Rattle.report_json.specs.Json.{NamedValues, text, count, optional, list, object, outcome_json}
 use Rattle.report_json.specs.Stages.{join_members, trial_members}
 
@@ -31,7 +30,7 @@ title report version = (codes "report", text report) ∷ (codes "version", count
 
 -- the names of the stages at these places
 abbrev pub names : PlainVersion → List ℕ → Data
-names version places = entries Name version version places
+names version places = entries name_entry version version places
 
 -- all its places, in order
 abbrev pub of_all_places : PlainVersion → List ℕ
@@ -41,11 +40,11 @@ abbrev pub all_members : PlainVersion → NamedValues
 all_members version = title (codes "all") version ++
     (codes "parent", optional count (parent_of version)) ∷
     (codes "mode", text (mode_text version.graph.mode)) ∷
-    (codes "stages", entries State version version (of_all_places version)) ∷ []
+    (codes "stages", entries state_entry version version (of_all_places version)) ∷ []
 
 abbrev pub times_members : PlainVersion → NamedValues
 times_members version = title (codes "times") version ++
-    (codes "stages", entries Times version version (of_all_places version)) ∷ []
+    (codes "stages", entries times_entry version version (of_all_places version)) ∷ []
 
 -- the stage itself
 abbrev pub one_head : PlainVersion → ℕ → Stage → NamedValues
@@ -73,19 +72,19 @@ abbrev pub path_members : PlainVersion → ℕ → Stage → NamedValues
 path_members version place stage = title (codes "path") version ++
     (codes "stage", text stage.name) ∷
     (codes "moment", optional count (moment_in (state_of version.graph place))) ∷
-    (codes "steps", entries Step version version (path version.graph place)) ∷ []
+    (codes "steps", entries step_entry version version (path version.graph place)) ∷ []
 
 -- the stages that the edits touch, by rank and then by place
 abbrev pub changes_members : PlainVersion → NamedValues
 changes_members version = title (codes "changes") version ++
     (codes "parent", optional count (parent_of version)) ∷
-    (codes "stages", entries Change version version (touched_of version)) ∷ []
+    (codes "stages", entries change_entry version version (touched_of version)) ∷ []
 
 -- the stages that complete at another moment than in the parent, by place
 abbrev pub drift_members : PlainVersion → NamedValues
 drift_members version = title (codes "drift") version ++
     (codes "parent", optional count (parent_of version)) ∷
-    (codes "stages", entries Shift version version (of_all_places version)) ∷ []
+    (codes "stages", entries shift_entry version version (of_all_places version)) ∷ []
 
 -- a report of a version; none where it asks for a stage that is not live
 abbrev pub report_json : PlainVersion → What → Option Data
@@ -99,12 +98,19 @@ report_json version asked.Times = Some (object (times_members version))
 
 -- ---- a version against another one, stage by stage of the same name
 
-abbrev pub against_members : List ℕ → PlainVersion → PlainVersion → Data → NamedValues
-against_members report version against stages = title report version ++ (codes "against", count against.number) ∷ (codes "stages", stages) ∷ []
+abbrev pub comparison_name : Comparison → List ℕ
+comparison_name compared.Changes = codes "changes"
+comparison_name compared.Drift = codes "drift"
+
+-- what it has of a stage
+abbrev pub entry_against : Comparison → Entry
+entry_against compared.Changes = change_against_entry
+entry_against compared.Drift = shift_against_entry
 
 abbrev pub comparison_members : Comparison → PlainVersion → PlainVersion → NamedValues
-comparison_members compared.Changes version against = against_members (codes "changes") version against (entries ChangeAgainst version against (of_all_places version))
-comparison_members compared.Drift version against = against_members (codes "drift") version against (entries ShiftAgainst version against (of_all_places version))
+comparison_members comparison version against = title (comparison_name comparison) version ++
+    (codes "against", count against.number) ∷
+    (codes "stages", entries (entry_against comparison) version against (of_all_places version)) ∷ []
 
 abbrev pub comparison_json : Comparison → PlainVersion → PlainVersion → Data
 comparison_json comparison version against = object (comparison_members comparison version against)

@@ -1,9 +1,9 @@
-//! What a stage was and is, and how much later or earlier it completes.
+//! What a stage is in another version and here, and how much later or earlier it completes.
 ghost use Rattle.std.specs.Prelude.{◌≡◌, IfOk};
 ghost use Rattle.std.specs.Option.{option_map};
 ghost use Rattle.serde_json.specs.View.{view};
 ghost use Rattle.report_json.specs.Json.{object};
-ghost use Rattle.report_json.specs.Stages.{before_json, change_against, change_members, completion_members, drift_against, drift_entry, old_and_new, shift_members, state_members, there_json};
+ghost use Rattle.report_json.specs.Stages.{change_against, completion_members, drift_against, old_and_new, shift_members, state_members, there_json};
 
 use crate::object::Object;
 use crate::values::optional_outcome;
@@ -14,7 +14,7 @@ use serde_json::Value;
 use stage_graph::Stage;
 use stage_ops::Done;
 use std::alloc::{AllocError, Global};
-use version_store::{Before, StageView, Version};
+use version_store::{StageView, Version};
 
 fn state_value(
     alloc: Global,
@@ -39,17 +39,6 @@ fn completion_value(alloc: Global, done: &Option<Done>) -> Result<Value, AllocEr
     }
 }
 
-// What a stage was in the parent; null where it was not there.
-fn before_value(alloc: Global, before: Before) -> Result<Value, AllocError>
-    ensures { IfOk result (λ value. view value ≡ before_json before) }
-{
-    match before {
-        Before::Absent => Ok(Value::Null),
-        Before::Pending => state_value(alloc, &None, None),
-        Before::Done(outcome, moment) => state_value(alloc, &Some(outcome), Some(moment)),
-    }
-}
-
 // What the stage of a name is in another version; null where it is not there.
 fn there_value(alloc: Global, there: &Option<Option<Done>>) -> Result<Value, AllocError>
     ensures { IfOk result (λ value. view value ≡ there_json there.now) }
@@ -68,18 +57,6 @@ fn old_and_new(alloc: Global, stage: &Stage, old: Value, new: Value) -> Result<V
     object.value("old", old)?;
     object.value("new", new)?;
     Ok(object.into_value())
-}
-
-/// What a stage was in the parent, and what it is here.
-pub(crate) fn change_value<R: StateRepresentation>(
-    alloc: Global,
-    stage: &StageView<'_, R>,
-) -> Result<Value, AllocError>
-    ensures { IfOk result (λ value. view value ≡ object (change_members stage.now.version.now stage.now.place stage.now.stage.now)) }
-{
-    let old = before_value(alloc, stage.before())?;
-    let new = completion_value(alloc, &stage.state().done)?;
-    old_and_new(alloc, stage.stage, old, new)
 }
 
 /// What a stage is in another version and here, unless it is as the one of its name there.
@@ -124,16 +101,6 @@ fn optional_shift(
         Some(shift) => Ok(Some(shift_object(alloc, stage, shift)?)),
         None => Ok(None),
     }
-}
-
-/// How much later or earlier than in the parent a stage completes, if it does at another moment.
-pub(crate) fn shift_value<R: StateRepresentation>(
-    alloc: Global,
-    stage: &StageView<'_, R>,
-) -> Result<Option<Value>, AllocError>
-    ensures { IfOk result (λ found. option_map view found ≡ drift_entry stage.now.version.now stage.now.place stage.now.stage.now) }
-{
-    optional_shift(alloc, stage.stage, Shift::of(stage))
 }
 
 /// How much later or earlier than the one of its name in another version a stage completes, if it does at another moment.

@@ -3,7 +3,7 @@
 #![tactic(auto)]
 
 mod changes;
-mod entry;
+mod comparison;
 mod form;
 mod line;
 mod line_answers;
@@ -16,18 +16,14 @@ mod line_stages;
 mod line_values;
 mod lines;
 mod object;
-mod one;
-mod path;
-mod reports;
-mod stages;
 mod sweep;
 mod telling;
 mod values;
 
+pub use comparison::comparison_value;
 pub use form::{Form, Format};
 pub use line_answers::write_at_version;
 pub use lines::{write_answer, write_comparison, write_report, write_sweep};
 pub use object::Object;
-pub use reports::{comparison_value, report_value};
 pub use sweep::sweep_value;
 pub use telling::{tell_comparison, tell_report, tell_sweep};

@@ -6,7 +6,6 @@ ghost use Rattle.report_json.specs.Lists.{entry_for};
 ghost use Rattle.report_json.specs.Reports.{of_all_places};
 ghost use Rattle.report_json.specs.Tokens.{Tells, TellsItems};
 
-use crate::entry::are_few_touched;
 use crate::line::Line;
 use crate::line_stages::{push_change, push_optional_shift, push_stage, push_timing};
 use propagate::StateRepresentation;
@@ -88,6 +87,11 @@ pub(crate) fn push_all_entries<R: StateRepresentation>(
         push_entry_at(line, listed, version, place)?;
     }
     line.end_list()
+}
+
+// Whether so few stages are touched that it takes less to bring them into the order of their places than to look at all.
+fn are_few_touched<R: StateRepresentation>(version: &Version<R>) -> bool {
+    version.touched().len() < version.graph().len() / 16
 }
 
 /// Adds how much later or earlier than in the parent each stage completes that does so at another moment, by place.

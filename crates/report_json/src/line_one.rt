@@ -2,8 +2,7 @@
 ghost use Rattle.std.specs.Prelude.{[], OnOk};
 ghost use Rattle.std.specs.List.{cons_option};
 ghost use Rattle.stage_ops.specs.declared.state.Join.TheVariants.{Cancelled, Returns, Throws};
-ghost use Rattle.report_json.specs.declared.entry.Entry.TheVariants.{Name};
-ghost use Rattle.report_json.specs.Entries.{entry_at};
+ghost use Rattle.report_json.specs.Entries.{entry_at, name_entry};
 ghost use Rattle.report_json.specs.Json.{object};
 ghost use Rattle.report_json.specs.Reports.{names};
 ghost use Rattle.report_json.specs.Stages.{join_members};
@@ -23,7 +22,7 @@ fn push_name_at<R: StateRepresentation>(
     version: &Version<R>,
     place: u32,
 ) -> Result<(), AllocError>
-    ensures { OnOk result (TellsItems (cons_option (entry_at Name version.now version.now place) []) line.old line.new) }
+    ensures { OnOk result (TellsItems (cons_option (entry_at name_entry version.now version.now place) []) line.old line.new) }
 {
     match version.stage(place) {
         Some(stage) => line.string(stage.stage.name.as_str()),

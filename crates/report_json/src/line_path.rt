@@ -1,8 +1,7 @@
 //! Why stages completed when they did, or why they are pending, in a line.
 ghost use Rattle.std.specs.Prelude.{◌∷◌, [], OnOk, codes};
 ghost use Rattle.std.specs.List.{cons_option};
-ghost use Rattle.report_json.specs.declared.entry.Entry.TheVariants.{Step};
-ghost use Rattle.report_json.specs.Entries.{entries, entry_at};
+ghost use Rattle.report_json.specs.Entries.{entries, entry_at, step_entry};
 ghost use Rattle.report_json.specs.Json.{count, object, text};
 ghost use Rattle.report_json.specs.Stages.{cause_members, kind_of_feed, step_members};
 ghost use Rattle.report_json.specs.Tokens.{Tells, TellsItems};
@@ -97,7 +96,7 @@ fn push_step_at<R: StateRepresentation>(
     version: &Version<R>,
     place: u32,
 ) -> Result<(), AllocError>
-    ensures { OnOk result (TellsItems (cons_option (entry_at Step version.now version.now place) []) line.old line.new) }
+    ensures { OnOk result (TellsItems (cons_option (entry_at step_entry version.now version.now place) []) line.old line.new) }
 {
     match version.stage(place) {
         Some(stage) => push_step(line, &stage),
@@ -111,7 +110,7 @@ pub(crate) fn push_steps<R: StateRepresentation>(
     version: &Version<R>,
     places: &[u32],
 ) -> Result<(), AllocError>
-    ensures { OnOk result (Tells (entries Step version.now version.now places.now) line.old line.new) }
+    ensures { OnOk result (Tells (entries step_entry version.now version.now places.now) line.old line.new) }
 {
     line.begin_list()?;
     for place in places {

@@ -10,11 +10,11 @@ ghost use Rattle.report_text.specs.Reports.{failed_writes};
 ghost use Rattle.report_json.specs.Json.{at_line, line_text, told};
 ghost use Rattle.report_json.specs.Reports.{comparison_json, report_json, sweep_json};
 
+use crate::comparison::comparison_value;
 use crate::line_lists::Listed;
 use crate::line_of_stage::{OfStage, write_of_stage};
 use crate::line_reports::write_listed;
 use crate::object::Object;
-use crate::reports::comparison_value;
 use crate::sweep::sweep_value;
 use level_pool::Runner;
 use propagate::StateRepresentation;

@@ -1,12 +1,15 @@
 //! Objects that are put together member by member.
-ghost use Rattle.std.specs.Prelude.{◌≡◌, ◌∷◌, [], IfOk, OnOk, codes};
+ghost use Rattle.std.specs.Prelude.{◌≡◌, IfOk, OnOk};
 ghost use Rattle.serde_json.specs.Data.{no_members, object as object_of, put};
 ghost use Rattle.serde_json.specs.View.{members_view, view};
-ghost use Rattle.report_json.specs.Json.{count, object, optional, text, with};
+ghost use Rattle.report_json.specs.Json.{count, optional, text, with};
 ghost use Rattle.report_json.specs.Objects.{held};
+ghost use Rattle.report_json.specs.Reports.{title};
 
+use propagate::StateRepresentation;
 use serde_json::{Map, Value};
 use std::alloc::{AllocError, Global};
+use version_store::Version;
 
 /// An object to which members are added.
 #[derive(Drop)]
@@ -74,19 +77,16 @@ impl Object {
     }
 }
 
-/// An object whose first member is its kind.
-pub(crate) fn of_kind(alloc: Global, kind: &str) -> Result<Object, AllocError>
-    ensures { IfOk result (λ object. held object ≡ with no_members ((codes "kind", text kind.now) ∷ [])) }
+/// The object of a report, which begins with its name and the version's number.
+pub(crate) fn titled<R: StateRepresentation>(
+    alloc: Global,
+    report: &str,
+    version: &Version<R>,
+) -> Result<Object, AllocError>
+    ensures { IfOk result (λ object. held object ≡ with no_members (title report.now version.now)) }
 {
     let mut object = Object::new(alloc);
-    object.text("kind", kind)?;
+    object.text("report", report)?;
+    object.count("version", u64::from(version.number()))?;
     Ok(object)
-}
-
-/// An object of its kind alone.
-pub(crate) fn kind_alone(alloc: Global, kind: &str) -> Result<Value, AllocError>
-    ensures { IfOk result (λ value. view value ≡ object ((codes "kind", text kind.now) ∷ [])) }
-{
-    let object = of_kind(alloc, kind)?;
-    Ok(object.into_value())
 }

@@ -6,9 +6,8 @@ ghost use Rattle.report_json.specs.Json.{object};
 ghost use Rattle.report_json.specs.Reports.{sweep_json, sweep_members, trials};
 ghost use Rattle.report_json.specs.Stages.{trial_members};
 
-use crate::entry::push_found;
-use crate::object::Object;
-use crate::one::titled;
+use crate::comparison::push_found;
+use crate::object::{Object, titled};
 use crate::values::outcome_json;
 use level_pool::Runner;
 use propagate::StateRepresentation;

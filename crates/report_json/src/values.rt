@@ -8,8 +8,8 @@ use act_expr::Outcome;
 use serde_json::Value;
 use std::alloc::{AllocError, Global};
 
-/// A value of a stage: a number or null.
-pub(crate) fn value_json(value: act_expr::Value) -> Value
+// A value of a stage: a number or null.
+fn value_json(value: act_expr::Value) -> Value
     ensures { view result ≡ value_json value }
 {
     match value {

@@ -11,16 +11,13 @@ use Rattle.version_store.specs.Plain.{PlainVersion}
 use Rattle.recording.specs.MemberTexts.{member_text}
 use Rattle.recording.specs.declared.fault.Fault.{Fault}
 use Rattle.recording.specs.declared.fault.Fault.TheVariants as fault
-use Rattle.session_core.specs.Headline.{session_of}
 use Rattle.session_core.specs.Refusals.{refusal_index, refusal_number}
 use Rattle.session_core.specs.declared.event.Event.{Event}
-use Rattle.session_core.specs.declared.event.Reply.{Reply}
-use Rattle.session_core.specs.declared.event.Reply.TheVariants.{Opened, At, Committed, Undone, Closed, Refused, Memory}
 use Rattle.session_core.specs.declared.refusal.Refusal.{Refusal}
 use Rattle.session_core.specs.declared.refusal.Refusal.TheVariants as refusal
 use Rattle.report_json.proofs.Exact.{IsExact, count_exact, object_exact, text_exact}
 use Rattle.report_json.specs.Json.{NamedValues, count, text, with}
-use Rattle.serve_script.specs.Values.{at_version, dependent_members, detail_members, edit_name, fault_json, index_members, refusal_name, refused, reply_json}
+use Rattle.serve_script.specs.Values.{closed_json, dependent_members, detail_members, edit_name, fault_json, index_members, opened_json, refusal_json, refusal_name, refused}
 
 -- members with more members
 pub with-append : (held : Members) (named more : NamedValues) → with held (named ++ more) ≡ with (with held named) more
@@ -71,23 +68,6 @@ index_exact true (Some index) = (count_exact 0 _, tt)
 index_exact true None = tt
 index_exact false place = tt
 
-at_version_exact : (reply : List ℕ) (version : ℕ) → IsExact 1 (at_version reply version)
-at_version_exact reply version = object_exact 0 ((codes "reply", text reply) ∷ (codes "version", count version) ∷ []) (text_exact 0 reply, (count_exact 0 version, tt))
-
-reply_exact : (base : Option PlainVersion) (event : Event) (listed : Bool) (reply : Reply) → IsExact 1 (reply_json base event listed reply)
-reply_exact base event listed (Opened version) =
-    object_exact 0 ((codes "reply", text (codes "opened")) ∷ (codes "session", count (session_of event)) ∷ (codes "version", count version) ∷ [])
-    (text_exact 0 _, (count_exact 0 _, (count_exact 0 _, tt)))
-reply_exact base event listed (At version) = at_version_exact _ version
-reply_exact base event listed (Committed version) = at_version_exact _ version
-reply_exact base event listed (Undone version) = at_version_exact _ version
-reply_exact base event listed Closed =
-    object_exact 0 ((codes "reply", text (codes "closed")) ∷ (codes "session", count (session_of event)) ∷ []) (text_exact 0 _, (count_exact 0 _, tt))
-reply_exact base event listed (Refused r) =
-    refused_exact (refusal_number r) (refusal_name r) (detail_members base event r ++ index_members listed (refusal_index r))
-    (both (detail_members base event r) (index_members listed (refusal_index r)) (detail_exact base event r) (index_exact listed (refusal_index r)))
-reply_exact base event listed Memory = refused_exact 90 (codes "Memory") [] tt
-
 fault_exact : (f : Fault) → IsExact 1 (fault_json f)
 fault_exact (fault.Refused stage) = refused_exact (edit_number stage.refusal) (edit_name stage.refusal) ((codes "at", count stage.at) ∷ []) (count_exact 0 stage.at, tt)
 fault_exact (fault.Cycle path) = refused_exact 19 (codes "Cycle") [] tt
@@ -105,8 +85,22 @@ ReadsBack value = (has_float value ≡ false) × (depth value ≤ max_depth)
 reads_back : (value form : Data) → value ≡ form → IsExact 1 form → ReadsBack value
 reads_back value form is exact = subst ReadsBack (sym is) (exact.no_float, (let shallow = exact.shallow in omega (arith, shallow)))
 
-pub reply_reads_back : (value : Data) (base : Option PlainVersion) (event : Event) (listed : Bool) (reply : Reply) → value ≡ reply_json base event listed reply → ReadsBack value
-reply_reads_back value base event listed reply is = reads_back value _ is (reply_exact base event listed reply)
+pub opened_reads_back : (value : Data) (session version : ℕ) → value ≡ opened_json session version → ReadsBack value
+opened_reads_back value session version is =
+    reads_back value _ is
+    (object_exact 0 ((codes "reply", text (codes "opened")) ∷ (codes "session", count session) ∷ (codes "version", count version) ∷ [])
+    (text_exact 0 _, (count_exact 0 session, (count_exact 0 version, tt))))
+
+pub closed_reads_back : (value : Data) (session : ℕ) → value ≡ closed_json session → ReadsBack value
+closed_reads_back value session is =
+    reads_back value _ is
+    (object_exact 0 ((codes "reply", text (codes "closed")) ∷ (codes "session", count session) ∷ []) (text_exact 0 _, (count_exact 0 session, tt)))
+
+pub refusal_reads_back : (value : Data) (base : Option PlainVersion) (event : Event) (listed : Bool) (r : Refusal) → value ≡ refusal_json base event listed r → ReadsBack value
+refusal_reads_back value base event listed r is =
+    reads_back value _ is
+    (refused_exact (refusal_number r) (refusal_name r) (detail_members base event r ++ index_members listed (refusal_index r))
+    (both (detail_members base event r) (index_members listed (refusal_index r)) (detail_exact base event r) (index_exact listed (refusal_index r))))
 
 pub fault_reads_back : (value : Data) (f : Fault) → value ≡ fault_json f → ReadsBack value
 fault_reads_back value f is = reads_back value _ is (fault_exact f)

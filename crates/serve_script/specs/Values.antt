@@ -16,6 +16,7 @@ use Rattle.session_core.specs.declared.event.Reply.TheVariants.{Opened, At, Comm
 use Rattle.session_core.specs.declared.refusal.Refusal.{Refusal}
 use Rattle.session_core.specs.declared.refusal.Refusal.TheVariants.{Edits, Cycle, SessionOpen, NoSession, NoVersion, Moved, AtBottom, Full, Foreign, BadSession, TooManySessions}
 use Rattle.report_json.specs.Json.{NamedValues, count, object, text}
+use Rattle.report_json.specs.Versions.{at_version_json}
 use Rattle.serve_script.specs.Replies.{dependent_name}
 
 -- ---- refusals
@@ -74,18 +75,21 @@ refusal_json base event listed refusal =
 
 -- ---- replies
 
--- the reply to an event that gave or undid a version, or asked for one
-abbrev pub at_version : List ℕ → ℕ → Data
-at_version reply version = object ((codes "reply", text reply) ∷ (codes "version", count version) ∷ [])
+-- a session was opened at a version
+abbrev pub opened_json : ℕ → ℕ → Data
+opened_json session version = object ((codes "reply", text (codes "opened")) ∷ (codes "session", count session) ∷ (codes "version", count version) ∷ [])
+
+-- a session was closed
+abbrev pub closed_json : ℕ → Data
+closed_json session = object ((codes "reply", text (codes "closed")) ∷ (codes "session", count session) ∷ [])
 
 -- the reply to an event, which is of this base if it is a commit
 abbrev pub reply_json : Option PlainVersion → Event → Bool → Reply → Data
-reply_json base event listed (Opened version) =
-    object ((codes "reply", text (codes "opened")) ∷ (codes "session", count (session_of event)) ∷ (codes "version", count version) ∷ [])
-reply_json base event listed (At version) = at_version (codes "head") version
-reply_json base event listed (Committed version) = at_version (codes "committed") version
-reply_json base event listed (Undone version) = at_version (codes "undone") version
-reply_json base event listed Closed = object ((codes "reply", text (codes "closed")) ∷ (codes "session", count (session_of event)) ∷ [])
+reply_json base event listed (Opened version) = opened_json (session_of event) version
+reply_json base event listed (At version) = at_version_json (codes "head") version
+reply_json base event listed (Committed version) = at_version_json (codes "committed") version
+reply_json base event listed (Undone version) = at_version_json (codes "undone") version
+reply_json base event listed Closed = closed_json (session_of event)
 reply_json base event listed (Refused refusal) = refusal_json base event listed refusal
 reply_json base event listed Memory = refused 90 (codes "Memory") []
 

@@ -7,13 +7,14 @@ ghost use Rattle.serde_json.specs.View.{view};
 ghost use Rattle.serde_json.specs.Written.{has_float};
 ghost use Rattle.text_io.specs.Sink.{AppendsPrefix};
 ghost use Rattle.report_json.specs.Json.{answer_text};
+ghost use Rattle.report_json.specs.Versions.{at_version_json};
 ghost use Rattle.serve_script.specs.Faults.{failed_writes};
 ghost use Rattle.serve_script.specs.Told.{fault_told, no_stage_told, no_version_told, reply_told};
-ghost use Rattle.serve_script.specs.Values.{at_version, reply_json};
+ghost use Rattle.serve_script.specs.Values.{reply_json};
 
 use crate::fault::AnswerFault;
 use crate::reply::{fault_line, reply_line};
-use crate::values::{fault_value, plain_refusal, reply_value};
+use crate::values::{closed_value, fault_value, opened_value, plain_refusal, refusal_value};
 use recording::Fault;
 use report_json::{Form, write_answer, write_at_version};
 use report_text::ReportFault;
@@ -44,12 +45,7 @@ pub fn tell_reply<R: StateRepresentation, S: Sink>(
             let line = reply_line(alloc, base, event, listed, reply)?;
             write_text(line.as_bytes(), sink)
         }
-        Form::Json { line } => match reply {
-            Reply::At(version) => write_version(alloc, "head", version, line, sink),
-            Reply::Committed(version) => write_version(alloc, "committed", version, line, sink),
-            Reply::Undone(version) => write_version(alloc, "undone", version, line, sink),
-            _ => write_reply_value(alloc, base, event, listed, reply, line, sink),
-        },
+        Form::Json { line } => write_reply(alloc, base, event, listed, reply, line, sink),
     }
 }
 
@@ -134,8 +130,8 @@ fn write_version<S: Sink>(
     sink: &mut S,
 ) -> Result<(), AnswerFault>
     requires { S.failures sink.old < 2 ^ 64 - 1 }
-    ensures ok { OnOk result (Appends (S.held sink.old) (S.held sink.new) (answer_text line (at_version reply.now version))) }
-    ensures err { OnErr result (AppendsPrefix (S.held sink.old) (S.held sink.new) (answer_text line (at_version reply.now version))) }
+    ensures ok { OnOk result (Appends (S.held sink.old) (S.held sink.new) (answer_text line (at_version_json reply.now version))) }
+    ensures err { OnErr result (AppendsPrefix (S.held sink.old) (S.held sink.new) (answer_text line (at_version_json reply.now version))) }
     ensures failures { S.failures sink.new ≡ S.failures sink.old + failed_writes result }
 {
     match write_at_version(alloc, reply, version, line, sink) {
@@ -146,8 +142,8 @@ fn write_version<S: Sink>(
     }
 }
 
-/// Writes a reply as what answers the script's line of this number, by way of a value of it.
-fn write_reply_value<R: StateRepresentation, S: Sink>(
+/// Writes the reply to an event as what answers the script's line of this number.
+fn write_reply<R: StateRepresentation, S: Sink>(
     alloc: Global,
     base: Option<&Version<R>>,
     event: &Event,
@@ -161,8 +157,27 @@ fn write_reply_value<R: StateRepresentation, S: Sink>(
     ensures err { OnErr result (AppendsPrefix (S.held sink.old) (S.held sink.new) (answer_text line (reply_json (option_copied base.entry) event.now listed reply))) }
     ensures failures { S.failures sink.new ≡ S.failures sink.old + failed_writes result }
 {
-    let answer = reply_value(alloc, base, event, listed, reply)?;
-    write_value(alloc, answer, line, sink)
+    match reply {
+        Reply::Opened(version) => {
+            let answer = opened_value(alloc, event.session(), version)?;
+            write_value(alloc, answer, line, sink)
+        }
+        Reply::At(version) => write_version(alloc, "head", version, line, sink),
+        Reply::Committed(version) => write_version(alloc, "committed", version, line, sink),
+        Reply::Undone(version) => write_version(alloc, "undone", version, line, sink),
+        Reply::Closed => {
+            let answer = closed_value(alloc, event.session())?;
+            write_value(alloc, answer, line, sink)
+        }
+        Reply::Refused(refusal) => {
+            let answer = refusal_value(alloc, base, event, listed, refusal)?;
+            write_value(alloc, answer, line, sink)
+        }
+        Reply::Memory => {
+            let answer = plain_refusal(alloc, 90, "Memory")?;
+            write_value(alloc, answer, line, sink)
+        }
+    }
 }
 
 /// Writes a JSON value as what answers the script's line of this number.

@@ -1,40 +1,18 @@
 //! Replies and faults as JSON.
-ghost use Rattle.std.specs.Prelude.{◌≡◌, ◌∷◌, [], IfOk, OnOk, codes, option_copied};
+ghost use Rattle.std.specs.Prelude.{◌≡◌, [], IfOk, OnOk, option_copied};
 ghost use Rattle.serde_json.specs.Data.{object as object_of};
 ghost use Rattle.serde_json.specs.View.{view};
-ghost use Rattle.report_json.specs.Json.{count, object, text, with};
+ghost use Rattle.report_json.specs.Json.{with};
 ghost use Rattle.report_json.specs.Objects.{held};
-ghost use Rattle.serve_script.specs.Values.{at_version, dependent_members, detail_members, edit_name, fault_json, index_members, refusal_json, refusal_name, refused, reply_json};
+ghost use Rattle.serve_script.specs.Values.{closed_json, dependent_members, detail_members, edit_name, fault_json, index_members, opened_json, refusal_json, refusal_name, refused};
 
 use crate::reply::dependent_name;
 use recording::Fault;
 use report_json::Object;
 use serde_json::Value;
-use session_core::{Event, Refusal, Reply};
+use session_core::{Event, Refusal};
 use std::alloc::{AllocError, Global};
 use version_store::{StateRepresentation, Version};
-
-/// The reply to an event. `listed` says whether the edits of the event came as a list, so that a refusal tells the index of
-/// its edit; `base` is the version that a commit edits.
-pub(crate) fn reply_value<R: StateRepresentation>(
-    alloc: Global,
-    base: Option<&Version<R>>,
-    event: &Event,
-    listed: bool,
-    reply: Reply,
-) -> Result<Value, AllocError>
-    ensures { IfOk result (λ value. view value ≡ reply_json (option_copied base.entry) event.now listed reply) }
-{
-    match reply {
-        Reply::Opened(version) => opened(alloc, event.session(), version),
-        Reply::At(version) => at_version(alloc, "head", version),
-        Reply::Committed(version) => at_version(alloc, "committed", version),
-        Reply::Undone(version) => at_version(alloc, "undone", version),
-        Reply::Closed => closed(alloc, event.session()),
-        Reply::Refused(refusal) => refusal_value(alloc, base, event, listed, refusal),
-        Reply::Memory => plain_refusal(alloc, 90, "Memory"),
-    }
-}
 
 /// Why a line names no step.
 pub(crate) fn fault_value(alloc: Global, fault: &Fault) -> Result<Value, AllocError>
@@ -79,8 +57,9 @@ fn begun_refusal(alloc: Global, number: u32, name: &str) -> Result<Object, Alloc
     Ok(object)
 }
 
-fn opened(alloc: Global, session: u32, version: u32) -> Result<Value, AllocError>
-    ensures { IfOk result (λ value. view value ≡ object ((codes "reply", text (codes "opened")) ∷ (codes "session", count session) ∷ (codes "version", count version) ∷ [])) }
+/// A session was opened at a version.
+pub(crate) fn opened_value(alloc: Global, session: u32, version: u32) -> Result<Value, AllocError>
+    ensures { IfOk result (λ value. view value ≡ opened_json session version) }
 {
     let mut object = Object::new(alloc);
     object.text("reply", "opened")?;
@@ -89,8 +68,9 @@ fn opened(alloc: Global, session: u32, version: u32) -> Result<Value, AllocError
     Ok(object.into_value())
 }
 
-fn closed(alloc: Global, session: u32) -> Result<Value, AllocError>
-    ensures { IfOk result (λ value. view value ≡ object ((codes "reply", text (codes "closed")) ∷ (codes "session", count session) ∷ [])) }
+/// A session was closed.
+pub(crate) fn closed_value(alloc: Global, session: u32) -> Result<Value, AllocError>
+    ensures { IfOk result (λ value. view value ≡ closed_json session) }
 {
     let mut object = Object::new(alloc);
     object.text("reply", "closed")?;
@@ -98,17 +78,9 @@ fn closed(alloc: Global, session: u32) -> Result<Value, AllocError>
     Ok(object.into_value())
 }
 
-// The reply to an event that gave or undid a version, or asked for one.
-fn at_version(alloc: Global, reply: &str, version: u32) -> Result<Value, AllocError>
-    ensures { IfOk result (λ value. view value ≡ at_version reply.now version) }
-{
-    let mut object = Object::new(alloc);
-    object.text("reply", reply)?;
-    object.count("version", u64::from(version))?;
-    Ok(object.into_value())
-}
-
-fn refusal_value<R: StateRepresentation>(
+/// Why an event was refused. `listed` says whether its edits came as a list, so that the refusal tells the index of its edit;
+/// `base` is the version that a commit edits.
+pub(crate) fn refusal_value<R: StateRepresentation>(
     alloc: Global,
     base: Option<&Version<R>>,
     event: &Event,

@@ -58,7 +58,7 @@ decided_by stage inputs source trigger (Some returned) is at after =
     let here : IsAfterValue stage (max stage.created source.moment) source.value returned =
     subst (λ (trigger : ℕ). IsAfterValue stage trigger source.value returned) at after in
     λ mode.
-    value_decides stage.op mode stage inputs (max stage.created source.moment) source.value (as_done returned) (here mode)
+    value_decides stage.op mode stage inputs (max stage.created source.moment) source.value (as_done mode returned) (here mode)
     ∙ ap (decided stage.op mode stage) is ∙ here mode
 
 pub earliest_of_one : (inputs : ℕ → Option Completion) (sources : List ℕ) (place : ℕ) (source : Source)

@@ -9,6 +9,7 @@ pub mod Picking
 pub mod AfterOne
 pub mod AfterAll
 pub mod Natural
+pub mod Starts
 pub mod Pinned
 pub mod Ended
 pub mod Reads

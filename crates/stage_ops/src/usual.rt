@@ -1,13 +1,13 @@
-//! The usual stage: it has neither a pin nor an end, none of the sources that it waits for has failed, and its action, if
-//! it runs one, gives a value.
+//! The usual stage: it has neither a pin nor an end, and none of the sources that it waits for has failed.
 //!
-//! An outcome has room for the name of an exception, so it is large. Of such a stage only values are passed on; what it
-//! completes with is what `progress_of` says, which is asked of any other stage.
+//! An outcome has room for the name of an exception, so it is large. Of such a stage only values are passed on, and what its
+//! action throws is lent; what it completes with is what `progress_of` says, which is asked of any other stage.
 ghost use Rattle.std.specs.Prelude.{◌≡◌, ◌≤◌, ◌<◌, ◌^◌, [], ◌∷◌, All, Some, IfSome, IsTrue, length};
 ghost use Rattle.std.specs.Option.{option_map};
-ghost use Rattle.act_expr.specs.declared.expr.Answer.TheVariants.{Gives};
+ghost use Rattle.act_expr.specs.Outcome.{own};
+ghost use Rattle.act_expr.specs.Throwing.{as_answer, name_of};
 ghost use Rattle.stage_graph.specs.declared.op.Op.TheVariants.{AllOf};
-ghost use Rattle.stage_ops.specs.Actions.{answer_of, two_values};
+ghost use Rattle.stage_ops.specs.Actions.{answer_of, instead, two_values};
 ghost use Rattle.stage_ops.specs.Among.{IsLimited};
 ghost use Rattle.stage_ops.specs.States.{seen_of, seen_at, state_at, IsBy};
 ghost use Rattle.stage_ops.specs.Running.{end_of};
@@ -16,10 +16,10 @@ ghost use Rattle.stage_ops.specs.Sources.{source_at, completed, moment_of};
 ghost use Rattle.stage_ops.specs.Waiting.{sooner_of};
 ghost use Rattle.stage_ops.specs.Usual.{as_source, pass_at, return_after, state_after, AreNormal, IsAfterValue, IsOwnAfterTwo, IsPlain, IsProgress, IsUsual};
 
-use crate::actions::{answer_of, two_values};
+use crate::actions::two_values;
 use crate::ops::Look;
 use crate::state::{Done, Reads, State};
-use act_expr::{Answer, Outcome, Value};
+use act_expr::{Mode, Outcome, Thrown, Value};
 use stage_graph::{Op, Stage};
 
 /// A source that has completed with a value.
@@ -30,10 +30,10 @@ pub(crate) struct Normal {
     pub(crate) moment: u64,
 }
 
-/// A completion with a value, and when its action started, if one ran.
+/// A completion with a value, or with what the action threw; and when the action started, if one ran.
 #[derive(Clone, Copy)]
-pub(crate) struct Returned {
-    pub(crate) value: Value,
+pub(crate) struct Returned<'a> {
+    pub(crate) given: Result<Value, Thrown<'a>>,
     pub(crate) moment: u64,
     pub(crate) start: Option<u64>,
 }
@@ -68,14 +68,14 @@ fn unless_failed<L: Look>(look: &L, place: u32) -> Option<Option<Normal>>
     let Some(done) = look.state(place).done else {
         return Some(None);
     };
-    match done.outcome {
-        Outcome::Value(value) => Some(Some(Normal {
-            place,
-            value,
-            moment: done.moment,
-        })),
-        Outcome::Bare(_) | Outcome::Wrapped(_) => None,
-    }
+    let Outcome::Value(value) = done.outcome else {
+        return None;
+    };
+    Some(Some(Normal {
+        place,
+        value,
+        moment: done.moment,
+    }))
 }
 
 /// The earliest so far, after one more source.
@@ -120,44 +120,52 @@ fn latest<L: Look>(look: &L, created: u64, places: &[u32]) -> Option<u64>
     Some(trigger)
 }
 
-/// The value that the stage's action gives for two values; none where it throws.
-fn given(stage: &Stage, first: Value, second: Value) -> Option<Value>
-    ensures { IfSome result (λ value. answer_of stage.now (two_values first second) ≡ Gives value) }
+/// The value that the stage's action gives for two values, or what it throws.
+fn given(stage: &Stage, first: Value, second: Value) -> Result<Value, Thrown<'_>>
+    ensures { as_answer result ≡ answer_of stage.now (two_values first second) }
 {
-    match answer_of(stage, &two_values(first, second)) {
-        Answer::Gives(value) => Some(value),
-        Answer::Throws(_) => None,
+    match &stage.action {
+        None => Ok(Value::Null),
+        Some(action) => action.value(&two_values(first, second)),
     }
 }
 
-/// The value that a stage completes with after two normal sources.
+/// The same, with this value in place of the action's own.
 #[inline(always)]
-fn own_after_two(stage: &Stage, first: Value, second: Value) -> Option<Value>
+fn given_instead(
+    stage: &Stage,
+    first: Value,
+    second: Value,
+    value: Value,
+) -> Result<Value, Thrown<'_>>
+    ensures { as_answer result ≡ instead value (answer_of stage.now (two_values first second)) }
+{
+    given(stage, first, second)?;
+    Ok(value)
+}
+
+/// What a stage completes with after two normal sources.
+#[inline(always)]
+fn own_after_two(stage: &Stage, first: Value, second: Value) -> Option<Result<Value, Thrown<'_>>>
     ensures { IfSome result (IsOwnAfterTwo stage.now first second) }
 {
     match stage.op {
-        Op::ThenCombine => given(stage, first, second),
-        Op::ThenAcceptBoth => {
-            given(stage, first, second)?;
-            Some(Value::Null)
-        }
-        Op::RunAfterBoth => {
-            given(stage, Value::Null, Value::Null)?;
-            Some(Value::Null)
-        }
+        Op::ThenCombine => Some(given(stage, first, second)),
+        Op::ThenAcceptBoth => Some(given_instead(stage, first, second, Value::Null)),
+        Op::RunAfterBoth => Some(given_instead(stage, Value::Null, Value::Null, Value::Null)),
         _ => None,
     }
 }
 
-/// The action runs, and the stage completes with this value when it ends.
+/// The action runs, and the stage completes with what it gave or threw when it ends.
 #[inline(always)]
-fn return_after(stage: &Stage, trigger: u64, value: Value) -> Returned
+fn return_after<'a>(stage: &Stage, trigger: u64, given: Result<Value, Thrown<'a>>) -> Returned<'a>
     requires { end_of stage.now trigger < 2 ^ 64 }
-    ensures { result ≡ return_after stage.now trigger value }
+    ensures { result ≡ return_after stage.now trigger given.entry }
 {
     let start = trigger + stage.queued;
     Returned {
-        value,
+        given,
         moment: start + stage.runs,
         start: Some(start),
     }
@@ -165,11 +173,11 @@ fn return_after(stage: &Stage, trigger: u64, value: Value) -> Returned
 
 /// A value passes at the trigger, and no action runs.
 #[inline(always)]
-fn pass_at(trigger: u64, value: Value) -> Returned
+fn pass_at<'a>(trigger: u64, value: Value) -> Returned<'a>
     ensures { result ≡ pass_at trigger value }
 {
     Returned {
-        value,
+        given: Ok(value),
         moment: trigger,
         start: None,
     }
@@ -177,24 +185,19 @@ fn pass_at(trigger: u64, value: Value) -> Returned
 
 /// The completion after a source with this value that decides the stage.
 #[inline(always)]
-fn after_value(stage: &Stage, trigger: u64, value: Value) -> Option<Returned>
+fn after_value(stage: &Stage, trigger: u64, value: Value) -> Option<Returned<'_>>
     requires { end_of stage.now trigger < 2 ^ 64 }
     ensures { IfSome result (IsAfterValue stage.now trigger value) }
 {
     let own = match stage.op {
-        Op::ThenApply | Op::ApplyToEither | Op::Handle => given(stage, value, Value::Null)?,
+        Op::ThenApply | Op::ApplyToEither | Op::Handle => given(stage, value, Value::Null),
         Op::ThenAccept | Op::AcceptEither => {
-            given(stage, value, Value::Null)?;
-            Value::Null
+            given_instead(stage, value, Value::Null, Value::Null)
         }
         Op::ThenRun | Op::RunAfterEither => {
-            given(stage, Value::Null, Value::Null)?;
-            Value::Null
+            given_instead(stage, Value::Null, Value::Null, Value::Null)
         }
-        Op::WhenComplete => {
-            given(stage, value, Value::Null)?;
-            value
-        }
+        Op::WhenComplete => given_instead(stage, value, Value::Null, value),
         Op::Copy | Op::Exceptionally | Op::ExceptionallyCompose | Op::AnyOf => {
             return Some(pass_at(trigger, value));
         }
@@ -205,7 +208,7 @@ fn after_value(stage: &Stage, trigger: u64, value: Value) -> Option<Returned>
 
 /// The completion after one source.
 #[inline(always)]
-fn after_one<L: Look>(stage: &Stage, look: &L, place: u32) -> Option<Returned>
+fn after_one<'a, L: Look>(stage: &'a Stage, look: &L, place: u32) -> Option<Returned<'a>>
     requires limits { IsLimited (length (L.states look.now)) stage.now }
     requires moments { All (λ state. IsBy (2 ^ 62) (seen_of state)) (L.states look.now) }
     requires only { stage.now.sources ≡ place ∷ [] }
@@ -221,7 +224,12 @@ fn after_one<L: Look>(stage: &Stage, look: &L, place: u32) -> Option<Returned>
 
 /// The completion after both of two sources.
 #[inline(always)]
-fn after_two<L: Look>(stage: &Stage, look: &L, first: u32, second: u32) -> Option<Returned>
+fn after_two<'a, L: Look>(
+    stage: &'a Stage,
+    look: &L,
+    first: u32,
+    second: u32,
+) -> Option<Returned<'a>>
     requires limits { IsLimited (length (L.states look.now)) stage.now }
     requires moments { All (λ state. IsBy (2 ^ 62) (seen_of state)) (L.states look.now) }
     requires both { stage.now.sources ≡ first ∷ second ∷ [] }
@@ -229,14 +237,14 @@ fn after_two<L: Look>(stage: &Stage, look: &L, first: u32, second: u32) -> Optio
 {
     let first = normal_at(look, first)?;
     let second = normal_at(look, second)?;
-    let value = own_after_two(stage, first.value, second.value)?;
+    let own = own_after_two(stage, first.value, second.value)?;
     let trigger = first.moment.max(second.moment.max(stage.created));
-    Some(return_after(stage, trigger, value))
+    Some(return_after(stage, trigger, own))
 }
 
 /// The completion after the earliest source.
 #[inline(always)]
-fn after_earliest<L: Look>(stage: &Stage, look: &L) -> Option<Returned>
+fn after_earliest<'a, L: Look>(stage: &'a Stage, look: &L) -> Option<Returned<'a>>
     requires limits { IsLimited (length (L.states look.now)) stage.now }
     requires moments { All (λ state. IsBy (2 ^ 62) (seen_of state)) (L.states look.now) }
     ensures { IfSome result (IsProgress stage.now (seen_at (state_at (L.states look.now)))) }
@@ -247,7 +255,7 @@ fn after_earliest<L: Look>(stage: &Stage, look: &L) -> Option<Returned>
 
 /// The completion of a stage that waits for all of its sources, and runs no action.
 #[inline(always)]
-fn after_all<L: Look>(stage: &Stage, look: &L) -> Option<Returned>
+fn after_all<'a, L: Look>(stage: &'a Stage, look: &L) -> Option<Returned<'a>>
     requires limits { IsLimited (length (L.states look.now)) stage.now }
     requires moments { All (λ state. IsBy (2 ^ 62) (seen_of state)) (L.states look.now) }
     requires all { stage.now.op ≡ AllOf }
@@ -259,7 +267,7 @@ fn after_all<L: Look>(stage: &Stage, look: &L) -> Option<Returned>
 
 /// The completion of a stage that waits for either of two sources, for any number of them, or for none. It is not inlined,
 /// so that the code of the operations on one source and on both of two stays small where it is.
-fn after_any_number<L: Look>(stage: &Stage, look: &L) -> Option<Returned>
+fn after_any_number<'a, L: Look>(stage: &'a Stage, look: &L) -> Option<Returned<'a>>
     requires limits { IsLimited (length (L.states look.now)) stage.now }
     requires moments { All (λ state. IsBy (2 ^ 62) (seen_of state)) (L.states look.now) }
     ensures { IfSome result (IsProgress stage.now (seen_at (state_at (L.states look.now)))) }
@@ -271,8 +279,8 @@ fn after_any_number<L: Look>(stage: &Stage, look: &L) -> Option<Returned>
         }
         Op::Completed(value) => Some(pass_at(stage.created, value)),
         Op::Async => {
-            let value = given(stage, Value::Null, Value::Null)?;
-            Some(return_after(stage, stage.created, value))
+            let own = given(stage, Value::Null, Value::Null);
+            Some(return_after(stage, stage.created, own))
         }
         _ => None,
     }
@@ -280,12 +288,12 @@ fn after_any_number<L: Look>(stage: &Stage, look: &L) -> Option<Returned>
 
 /// The completion after either or both of two sources.
 #[inline(always)]
-fn after_either_or_both<L: Look>(
-    stage: &Stage,
+fn after_either_or_both<'a, L: Look>(
+    stage: &'a Stage,
     look: &L,
     first: u32,
     second: u32,
-) -> Option<Returned>
+) -> Option<Returned<'a>>
     requires limits { IsLimited (length (L.states look.now)) stage.now }
     requires moments { All (λ state. IsBy (2 ^ 62) (seen_of state)) (L.states look.now) }
     requires both { stage.now.sources ≡ first ∷ second ∷ [] }
@@ -301,7 +309,7 @@ fn after_either_or_both<L: Look>(
 
 /// The completion of a stage by its sources.
 #[inline(always)]
-fn after_sources<L: Look>(stage: &Stage, look: &L) -> Option<Returned>
+fn after_sources<'a, L: Look>(stage: &'a Stage, look: &L) -> Option<Returned<'a>>
     requires limits { IsLimited (length (L.states look.now)) stage.now }
     requires moments { All (λ state. IsBy (2 ^ 62) (seen_of state)) (L.states look.now) }
     ensures { IfSome result (IsProgress stage.now (seen_at (state_at (L.states look.now)))) }
@@ -323,7 +331,7 @@ fn is_plain(stage: &Stage) -> bool
 
 /// The completion of a usual stage; none where the stage may be another one.
 #[inline(always)]
-pub(crate) fn usual<L: Look>(stage: &Stage, look: &L) -> Option<Returned>
+pub(crate) fn usual<'a, L: Look>(stage: &'a Stage, look: &L) -> Option<Returned<'a>>
     requires limits { IsLimited (length (L.states look.now)) stage.now }
     requires moments { All (λ state. IsBy (2 ^ 62) (seen_of state)) (L.states look.now) }
     ensures { IfSome result (IsUsual stage.now (seen_at (state_at (L.states look.now)))) }
@@ -335,14 +343,28 @@ pub(crate) fn usual<L: Look>(stage: &Stage, look: &L) -> Option<Returned>
     }
 }
 
+/// The outcome of a stage whose own action threw this. It is not inlined: the name of an exception is large, and most actions give
+/// a value.
+#[cold]
+#[inline(never)]
+fn thrown_outcome(mode: Mode, thrown: Thrown<'_>) -> Outcome
+    ensures { result ≡ own mode (name_of thrown.entry) }
+{
+    Outcome::own(mode, thrown.name())
+}
+
 /// The state of a stage that has read its sources and has this completion.
 #[inline(always)]
-pub(crate) fn state_after(returned: Returned) -> State
-    ensures { result ≡ state_after returned }
+pub(crate) fn state_after(mode: Mode, returned: Returned<'_>) -> State
+    ensures { result ≡ state_after mode returned.entry }
 {
+    let outcome = match returned.given {
+        Ok(value) => Outcome::Value(value),
+        Err(thrown) => thrown_outcome(mode, thrown),
+    };
     State {
         done: Some(Done {
-            outcome: Outcome::Value(returned.value),
+            outcome,
             moment: returned.moment,
             from: None,
             start: returned.start,

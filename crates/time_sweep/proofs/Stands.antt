@@ -1,5 +1,5 @@
 -- What was found to stand at some places, with one place more.
-use Rattle.std.proofs.Common.{◌≡◌, ◌+◌, ◌<◌, ◌≤◌, ◌++◌, ◌∷◌, [], ℕ, zero, suc, List, Option, Some, None, length, get_or, true, false, is_some, refl, ap, sym, ◌∙◌, subst, arith, ⊎_elim}
+use Rattle.std.proofs.Common.{◌≡◌, ◌+◌, ◌<◌, ◌≤◌, ◌++◌, ◌∷◌, [], ℕ, zero, suc, List, Option, Some, None, length, true, is_some, refl, ap, sym, ◌∙◌, subst, arith, ⊎_elim}
 use Rattle.std.proofs.lemmas.Bool.{cases_lt, false≢true}
 use Rattle.std.proofs.lemmas.List.{get_or_past}
 use Rattle.std.specs.Prelude.{IfSome}
@@ -8,7 +8,7 @@ use Rattle.stage_graph.specs.Plain.{stage_at, dependents}
 use Rattle.stage_graph.specs.Sound.{IsSoundStage}
 use Rattle.propagate.specs.Reach.{Stages}
 use Rattle.time_sweep.specs.declared.standing.Standing.{Standing}
-use Rattle.time_sweep.specs.Known.{IsKnown, rank_in}
+use Rattle.time_sweep.specs.Known.{IsKnown}
 use Rattle.time_sweep.specs.Standing.{standing_at, AreStanding, IsStanding}
 
 kept : (items : List (Option Standing)) (one : Option Standing) (place : ℕ) → place < length items → standing_at (items ++ one ∷ []) place ≡ standing_at items place

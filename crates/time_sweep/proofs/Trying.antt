@@ -1,13 +1,13 @@
 -- The results of the trials together.
-use Rattle.std.proofs.Common.{◌≡◌, ◌+◌, ◌-◌, ◌*◌, ◌<◌, ◌≤◌, ℕ, zero, suc, List, [], ◌∷◌, ◌++◌, Option, None, Result, Ok, Err, length, get_or, take, drop, refl, ap, sym, ◌∙◌, arith, append-nil, ⊎_elim}
-use Rattle.std.specs.Prelude.{All, IfOk, IsOk, Vec, filter_map, min, ◌/◌, ◌%◌, ◌==◌, false}
+use Rattle.std.proofs.Common.{◌≡◌, ◌+◌, ◌*◌, ◌<◌, ◌≤◌, ℕ, zero, suc, List, [], ◌∷◌, ◌++◌, Option, None, Result, Ok, Err, length, get_or, take, drop, refl, ap, sym, ◌∙◌, arith, append-nil, ⊎_elim}
+use Rattle.std.specs.Prelude.{All, IfOk, IsOk, Vec, filter_map, ◌/◌, ◌%◌, ◌==◌, false}
 use Rattle.std.specs.Global.{Global}
 use Rattle.std.specs.List.{AllZip, cons_option, flat_map, range_with_len}
-use Rattle.std.proofs.Math.Nat.{mul-div_cancel, mul-le-mul_right, mul-mod_left}
+use Rattle.std.proofs.Math.Nat.{mul-le-mul_right, mul-mod_left}
 use Rattle.std.proofs.lemmas.Bool.{cases_lt, cond-false, cond-true, eq-eqb, eqb-true}
 use Rattle.std.proofs.lemmas.Nat.{div-add-mod'}
 use Rattle.std.proofs.lemmas.Grind.{flat_map-append}
-use Rattle.std.proofs.lemmas.List.{length-drop, take-append-drop, take_more}
+use Rattle.std.proofs.lemmas.List.{take-append-drop, take_more}
 use Rattle.std.proofs.lemmas.List.Elements.{All-head, All-tail, filter_map-append}
 use Rattle.propagate.proofs.Members.{false_unless}
 use Rattle.time_sweep.specs.declared.trial.Trial.{Trial}
@@ -52,43 +52,38 @@ between size k q below above = false_unless (k % size == 0) (λ same. let whole 
     (λ (more : q ≤ k / size). let next : q * size ≤ k / size * size = mul-le-mul_right size more in omega arith)
     (cases_lt (k / size) q))
 
--- the trials of the pieces are those of the places
-module _ (trial : ℕ → Option Trial) (places : List ℕ) (size : ℕ) where
+-- what is made at the numbers of the trials is the trials of all places
+module _ (trial : ℕ → Option Trial) (places : List ℕ) (size : ℕ) (some : 0 < size) where
   abbrev trials_of : ℕ → List Trial
-  trials_of piece = filter_map trial (part_of places size piece)
+  trials_of number = filter_map trial (part_of places size number)
 
-  -- from any piece on: the parts that begin there or later
-  from_piece : (parts count k q : ℕ) → length places ≤ parts * size → k ≤ q * 64 → q * 64 < k + 64 → k + count ≡ parts * 64
+  -- from any number on: the parts that begin there or later
+  from_number : (count k q : ℕ) → k + count ≡ length places → k ≤ q * size → q * size < k + size
       → flat_map trials_of (range_with_len k count) ≡ filter_map trial (drop (q * size) places)
-  from_piece parts zero k q fit upto near all =
-      let last : parts ≤ q = omega (arith, upto, all) in
-      let over : parts * size ≤ q * size = mul-le-mul_right size last in
-      ap (filter_map trial) (sym (drop_past (q * size) places (omega (arith, over, fit))))
-  from_piece parts (suc count) k q fit upto near all =
+  from_number zero k q all upto near = ap (filter_map trial) (sym (drop_past (q * size) places (omega (arith, all, upto))))
+  from_number (suc count) k q all upto near =
       let next : (q + 1) * size ≡ q * size + size = omega arith in
       ⊎_elim
-      (λ (before : k < q * 64).
+      (λ (before : k < q * size).
       ap (λ (first : List Trial). first ++ flat_map trials_of (range_with_len (k + 1) count))
-      (ap (filter_map trial) (cond-false (k % 64 == 0) (take size (drop (k / 64 * size) places)) [] (between 64 k q before near)))
-      ∙ from_piece parts count (k + 1) q fit (omega (arith, before)) (omega (arith, near)) (omega (arith, all)))
-      (λ (past : q * 64 ≤ k).
-      let here : k ≡ q * 64 = omega (arith, past, upto) in
-      let whole : k % 64 ≡ 0 = ap (λ n. n % 64) here ∙ mul-mod_left q 64 in
-      let part : k / 64 ≡ q = ap (λ n. n / 64) here ∙ mul-div_cancel q (omega arith) in
+      (ap (filter_map trial) (cond-false (k % size == 0) (take size (drop k places)) [] (between size k q before near)))
+      ∙ from_number count (k + 1) q (omega (arith, all)) (omega (arith, before)) (omega (arith, near)))
+      (λ (past : q * size ≤ k).
+      let here : k ≡ q * size = omega (arith, past, upto) in
+      let whole : k % size ≡ 0 = ap (λ n. n % size) here ∙ mul-mod_left q size in
       ap (λ (first : List Trial). first ++ flat_map trials_of (range_with_len (k + 1) count))
-      (ap (filter_map trial) (cond-true (k % 64 == 0) (take size (drop (k / 64 * size) places)) [] (eq-eqb (k % 64) 0 whole) ∙ ap (λ n. take size (drop (n * size) places)) part))
-      ∙ ap (λ (later : List Trial). filter_map trial (take size (drop (q * size) places)) ++ later) (from_piece parts count (k + 1) (q + 1) fit (omega (arith, here)) (omega (arith, here)) (omega (arith, all)))
+      (ap (filter_map trial) (cond-true (k % size == 0) (take size (drop k places)) [] (eq-eqb (k % size) 0 whole) ∙ ap (λ n. take size (drop n places)) here))
+      ∙ ap (λ (later : List Trial). filter_map trial (take size (drop (q * size) places)) ++ later) (from_number count (k + 1) (q + 1) (omega (arith, all)) (omega (arith, here, next, some)) (omega (arith, here, next)))
       ∙ ap (λ (n : ℕ). filter_map trial (take size (drop (q * size) places)) ++ filter_map trial (drop n places)) next
       ∙ ap (λ (later : List ℕ). filter_map trial (take size (drop (q * size) places)) ++ filter_map trial later) (sym (drop_drop (q * size) size places))
       ∙ sym (filter_map-append trial (take size (drop (q * size) places)) (drop size (drop (q * size) places)))
       ∙ ap (filter_map trial) (take-append-drop size (drop (q * size) places)))
-      (cases_lt k (q * 64))
+      (cases_lt k (q * size))
 
-  pub from_pieces : (pieces : ℕ) → pieces % 64 ≡ 0 → length places ≤ pieces / 64 * size → flat_map trials_of (range_with_len 0 pieces) ≡ filter_map trial places
-  from_pieces pieces whole fit =
+  pub from_numbers : flat_map trials_of (range_with_len 0 (length places)) ≡ filter_map trial places
+  from_numbers =
       let none : 0 * size ≡ 0 = omega arith in
-      let split = div-add-mod' pieces 64 in
-      from_piece (pieces / 64) pieces 0 0 fit (omega arith) (omega arith) (omega (arith, split, whole)) ∙ ap (λ k. filter_map trial (drop k places)) none
+      from_number (length places) 0 0 (omega arith) (omega arith) (omega (arith, some)) ∙ ap (λ k. filter_map trial (drop k places)) none
 
 -- ---- the places that are tried
 
@@ -124,33 +119,3 @@ joined_more tried k one within is =
     ∙ flat_map-append trials_in (take k tried) (get_or tried k one ∷ [])
     ∙ ap (λ (one : Result (Vec Trial Global) _). flat_map trials_in (take k tried) ++ (trials_in one ++ [])) (sym is)
     ∙ ap (λ (last : List Trial). flat_map trials_in (take k tried) ++ last) (append-nil (trials_in one))
-
--- ---- a part of the places
-
-take_whole : (k : ℕ) (xs : List ℕ) → length xs ≤ k → take k xs ≡ xs
-take_whole zero [] past = refl
-take_whole zero (x ∷ xs) past = absurd (omega arith)
-take_whole (suc k) [] past = refl
-take_whole (suc k) (x ∷ xs) past = ap (λ rest. x ∷ rest) (take_whole k xs (omega arith))
-
-take_none : (k : ℕ) → take {A = ℕ} k [] ≡ []
-take_none zero = refl
-take_none (suc k) = refl
-
-pub part_is : (places : List ℕ) (size begin start end : ℕ) → start ≡ min begin (length places) → end ≡ min (start + size) (length places)
-    → take (end - start) (drop start places) ≡ take size (drop begin places)
-part_is places size begin start end start_is end_is =
-    ⊎_elim
-    (λ (inside : begin < length places).
-    let same : start ≡ begin = omega arith in
-    ap (λ k. take (end - k) (drop k places)) same
-    ∙ ⊎_elim
-    (λ (whole : begin + size < length places). let count : end - begin ≡ size = omega arith in ap (λ k. take k (drop begin places)) count)
-    (λ (last : length places ≤ begin + size).
-    let long : length (drop begin places) ≡ length places - begin = length-drop begin places in
-    take_whole (end - begin) (drop begin places) (omega (arith, long)) ∙ sym (take_whole size (drop begin places) (omega (arith, long))))
-    (cases_lt (begin + size) (length places)))
-    (λ (past : length places ≤ begin).
-    let same : start ≡ length places = omega arith in
-    ap (take (end - start)) (drop_past start places (omega arith)) ∙ take_none (end - start) ∙ sym (ap (take size) (drop_past begin places past) ∙ take_none size))
-    (cases_lt begin (length places))

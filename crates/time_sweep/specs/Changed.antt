@@ -1,7 +1,7 @@
 -- The states of a trial: those of the version, and over them those that the trial changes.
-use Rattle.std.specs.Prelude.{ℕ, List, length, map, Option, Some, None, ◌==◌, if◌then◌else◌, slice_get, unwrap_or}
+use Rattle.std.specs.Prelude.{ℕ, List, length, nat_eq, map, Option, Some, None, ◌==◌, if◌then◌else◌, slice_get, unwrap_or}
 use Rattle.std.specs.Option.{option_and_then}
-use Rattle.std.specs.List.{range_with_len}
+use Rattle.std.specs.List.{range_with_len, IsDistinct}
 use Rattle.stage_ops.specs.declared.state.State.{State}
 use Rattle.stage_ops.specs.States.{state_at}
 use Rattle.time_sweep.specs.declared.changes.Change.{Change}
@@ -24,3 +24,7 @@ states_in before at list = map (state_in before at list) (range_with_len 0 (leng
 
 abbrev pub changed_places : List Change → List ℕ
 changed_places list = map (λ (change : Change). change.place) list
+
+-- no two are of one place
+abbrev pub IsEachOnce : List Change → Type 0
+IsEachOnce list = IsDistinct nat_eq (changed_places list)

@@ -1,5 +1,5 @@
 -- What was found to stand at the places whose ranks are known.
-use Rattle.std.specs.Prelude.{ℕ, ◌≡◌, List, Option, Some, None, IfSome, slice_index_or}
+use Rattle.std.specs.Prelude.{ℕ, ◌≡◌, List, Option, None, IfSome, slice_index_or}
 use Rattle.std.specs.Option.{option_map}
 use Rattle.stage_graph.specs.Plain.{stage_at, dependents}
 use Rattle.stage_graph.specs.Sound.{IsSoundStage}

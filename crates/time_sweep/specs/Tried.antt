@@ -1,5 +1,5 @@
--- The results of the trials, piece by piece.
-use Rattle.std.specs.Prelude.{◌≡◌, ◌<◌, ◌≤◌, ◌*◌, ◌/◌, ◌%◌, ◌==◌, if◌then◌else◌, ℕ, All, List, [], Vec, Result, Ok, Err, IfOk, drop, take}
+-- The results of the trials, part by part.
+use Rattle.std.specs.Prelude.{◌≡◌, ◌<◌, ◌≤◌, ◌%◌, ◌==◌, if◌then◌else◌, ℕ, All, List, [], Vec, Result, Ok, Err, IfOk, drop, take}
 use Rattle.std.specs.Global.{Global}
 use Rattle.stage_graph.specs.Plain.{PlainGraph, IsLive}
 use Rattle.stage_ops.specs.Java.{java_step}
@@ -14,13 +14,13 @@ abbrev pub trials_in : {E : Type 0} → Result (Vec Trial Global) E → List Tri
 trials_in (Ok trials) = trials.items
 trials_in (Err error) = []
 
--- the trials of a piece, where they were made
+-- the trials that are made at the trial of a number, where memory sufficed
 abbrev pub GiveAll : {E : Type 0} → (ℕ → List Trial) → ℕ → Result (Vec Trial Global) E → Type 0
-GiveAll trials piece answer = IfOk answer (λ made. made.items ≡ trials piece)
+GiveAll trials number answer = IfOk answer (λ made. made.items ≡ trials number)
 
--- the places of a piece: those of a part at the first of the part's 64 pieces, and at other pieces none
+-- the places whose trials are made at the trial of a number: those of a part at its first trial, and at the others none
 abbrev pub part_of : List ℕ → ℕ → ℕ → List ℕ
-part_of places size piece = if piece % 64 == 0 then take size (drop (piece / 64 * size) places) else []
+part_of places size number = if number % size == 0 then take size (drop number places) else []
 
 -- trials of the graph may start from this
 pub record CanStart (graph : PlainGraph) (start : Start) : Type 0 where

@@ -1,5 +1,5 @@
 //! How a stage completes where the action of another takes no time.
-ghost use Rattle.std.specs.Prelude.{◌≡◌, ◌<◌, ◌||◌, ◌&&◌, ◌==◌, ◌^◌, ℕ, true, All, IfOk, OnOk, Some, IfSome, IsSome, is_some, length, option_copied, slice_set, ◌++◌, ◌∷◌, []};
+ghost use Rattle.std.specs.Prelude.{◌≡◌, ◌+◌, ◌<◌, ◌≤◌, ◌||◌, ◌&&◌, ◌==◌, ◌^◌, ℕ, true, All, IfOk, OnOk, Some, IfSome, IsSome, is_some, length, option_copied, slice_set, ◌++◌, ◌∷◌, []};
 ghost use Rattle.stage_graph.specs.Plain.{stage_at, feeds_at, dependents, IsLive};
 ghost use Rattle.stage_graph.specs.Sound.{IsSoundStage};
 ghost use Rattle.stage_graph.specs.Walk.{rank};
@@ -11,7 +11,7 @@ ghost use Rattle.stage_ops.specs.States.{seen_of, state_at, IsBy};
 ghost use Rattle.rank_order.specs.Marks.{is_marked, AreMarks};
 ghost use Rattle.propagate.specs.Completions.{differ};
 ghost use Rattle.propagate.specs.Reach.{come_to, has_read, AreStates};
-ghost use Rattle.time_sweep.specs.Changed.{state_in, states_in};
+ghost use Rattle.time_sweep.specs.Changed.{state_in, states_in, IsEachOnce};
 ghost use Rattle.time_sweep.specs.Known.{is_below, rank_in, AreRanksFor, IsKnown};
 ghost use Rattle.time_sweep.specs.Standing.{AreStanding};
 ghost use Rattle.time_sweep.specs.Sweep.{completion_of, hurried};
@@ -26,9 +26,9 @@ use stage_ops::{Done, JavaOps, Meter, Reads, StageOps};
 use std::alloc::{AllocError, Global};
 use version_store::Version;
 
-/// The marker of the meter of a computation.
+/// The marker of the meter of a trial.
 #[derive(Drop)]
-struct OneTrial;
+pub(crate) struct OneTrial;
 
 /// The stage, with an action that is not queued and takes no time.
 fn without_time(stage: &Stage) -> Result<Stage, AllocError>
@@ -156,6 +156,7 @@ fn tell<R: StateRepresentation>(
     requires known { IsKnown ranks.now place }
     requires ranks { AreRanksFor version.now.graph.places target ranks.now }
     requires standing { AreStanding version.now.graph.places ranks.now standing.now }
+    requires marks { AreMarks (rank version.now.graph.places) marks.old }
     ensures marked { OnOk result ((other : ℕ) → is_marked (rank version.now.graph.places) marks.new other
         ≡ (is_marked (rank version.now.graph.places) marks.old other
         || (is_among place (feeds_at version.now.graph.places other) && (is_some (rank_in ranks.now other) && has_read version.now.graph.places (state_at before.now) place other)))) }
@@ -163,8 +164,11 @@ fn tell<R: StateRepresentation>(
 {
     let dependents = dependents_of(version, ranks, standing, place);
     for dependent in dependents {
+        if marks.has(*dependent) {
+            continue;
+        }
         if let Some(rank) = reader_rank(version, before, ranks, standing, place, *dependent) {
-            marks.insert(rank, *dependent)?;
+            marks.add(rank, *dependent)?;
         }
     }
     Ok(())
@@ -185,6 +189,7 @@ fn tell_if<R: StateRepresentation>(
     requires known { IsKnown ranks.now place }
     requires ranks { AreRanksFor version.now.graph.places target ranks.now }
     requires standing { AreStanding version.now.graph.places ranks.now standing.now }
+    requires marks { AreMarks (rank version.now.graph.places) marks.old }
     ensures marked { OnOk result ((other : ℕ) → is_marked (rank version.now.graph.places) marks.new other
         ≡ (is_marked (rank version.now.graph.places) marks.old other
         || (is_told && (is_among place (feeds_at version.now.graph.places other) && (is_some (rank_in ranks.now other) && has_read version.now.graph.places (state_at before.now) place other))))) }
@@ -226,13 +231,16 @@ fn state_of<R: StateRepresentation>(
     graph: &Graph<R>,
     stage: &Stage,
     now: &Now,
+    meter: &mut Meter<OneTrial>,
 ) -> Result<KeptState, AllocError>
     requires each { length now.now.changes.now.at.items ≡ length now.now.before.now }
     requires sound { IsSoundAmong (length now.now.before.now) stage.now }
     requires moments { All (λ state. IsBy (2 ^ 62) (seen_of state)) (states_in now.now.before.now now.now.changes.now.at.items now.now.changes.now.list.items) }
-    ensures { IfOk result (λ state. state ≡ come_to (java_step graph.now.mode) (Some stage.now) (state_in now.now.before.now now.now.changes.now.at.items now.now.changes.now.list.items)) }
+    requires room { meter.old + 1 < 2 ^ 64 }
+    ensures state { IfOk result (λ state. state ≡ come_to (java_step graph.now.mode) (Some stage.now) (state_in now.now.before.now now.now.changes.now.at.items now.now.changes.now.list.items)) }
+    ensures counted { OnOk result (meter.new ≡ meter.old + 1) }
 {
-    let pass = Meter::new(OneTrial).pass(stage.place);
+    let pass = meter.pass(stage.place);
     let state = JavaOps.compute(graph.mode(), stage, &pass, now);
     KeptState::new(alloc, &state)
 }
@@ -248,6 +256,7 @@ fn state_in<R: StateRepresentation>(
     fast: &Stage,
     place: u32,
     changes: &Changes,
+    meter: &mut Meter<OneTrial>,
 ) -> Result<KeptState, AllocError>
     requires live { IsLive version.now.graph.places place }
     requires known { IsKnown ranks.now place }
@@ -257,11 +266,19 @@ fn state_in<R: StateRepresentation>(
     requires count { length before.now ≡ length version.now.graph.places }
     requires each { length changes.now.at.items ≡ length version.now.graph.places }
     requires moments { All (λ state. IsBy (2 ^ 62) (seen_of state)) (states_in before.now changes.now.at.items changes.now.list.items) }
-    ensures { IfOk result (λ state. state ≡ come_to (java_step version.now.graph.mode) (stage_at (slice_set version.now.graph.places fast.now.place (Some fast.now)) place)
+    requires room { meter.old + 1 < 2 ^ 64 }
+    ensures state { IfOk result (λ state. state ≡ come_to (java_step version.now.graph.mode) (stage_at (slice_set version.now.graph.places fast.now.place (Some fast.now)) place)
         (state_in before.now changes.now.at.items changes.now.list.items)) }
+    ensures counted { OnOk result (meter.new ≡ meter.old + 1) }
 {
     match stage_in(version, ranks, standing, fast, place) {
-        Some(stage) => state_of(alloc, version.graph(), stage, &Now { before, changes }),
+        Some(stage) => state_of(
+            alloc,
+            version.graph(),
+            stage,
+            &Now { before, changes },
+            meter,
+        ),
         None => unreachable!(),
     }
 }
@@ -278,17 +295,20 @@ fn advance<R: StateRepresentation>(
     place: u32,
     marks: &mut Marks,
     changes: &mut Changes,
+    meter: &mut Meter<OneTrial>,
 ) -> Result<(), AllocError>
     requires live { IsLive version.now.graph.places place }
     requires known { IsKnown ranks.now place }
     requires ranks { AreRanksFor version.now.graph.places target ranks.now }
     requires standing { AreStanding version.now.graph.places ranks.now standing.now }
+    requires marks { AreMarks (rank version.now.graph.places) marks.old }
     requires sound { IsSoundStage version.now.graph.places fast.now.place fast.now }
     requires stands { IsLive version.now.graph.places fast.now.place }
     requires count { length before.now ≡ length version.now.graph.places }
     requires each { length changes.old.at.items ≡ length version.now.graph.places }
     requires few { length changes.old.list.items < length version.now.graph.places }
     requires moments { All (λ state. IsBy (2 ^ 62) (seen_of state)) (states_in before.now changes.old.at.items changes.old.list.items) }
+    requires room { meter.old + 1 < 2 ^ 64 }
     ensures at { OnOk result (changes.new.at.items ≡ slice_set changes.old.at.items place (length changes.old.list.items)) }
     ensures list { OnOk result (changes.new.list.items ≡ changes.old.list.items ++ record {
       place = place;
@@ -302,12 +322,13 @@ fn advance<R: StateRepresentation>(
         (state_in before.now changes.old.at.items changes.old.list.items)))
         && (is_among place (feeds_at version.now.graph.places other) && (is_some (rank_in ranks.now other) && has_read version.now.graph.places (state_at before.now) place other))))) }
     ensures marks { OnOk result (AreMarks (rank version.now.graph.places) marks.old → AreMarks (rank version.now.graph.places) marks.new) }
+    ensures counted { OnOk result (meter.new ≡ meter.old + 1) }
 {
     let graph = version.graph();
     // With its length a graph says that it is sound, and so how many places it has at most.
     let _ = graph.len();
     let state = state_in(
-        alloc, version, before, ranks, standing, fast, place, changes,
+        alloc, version, before, ranks, standing, fast, place, changes, meter,
     )?;
     let is_told = Now { before, changes }.at(place).differs(&state);
     changes.set(place, state)?;
@@ -328,7 +349,7 @@ fn is_below(ranks: &[Option<u32>], one: u32, other: u32) -> bool
 }
 
 /// Computes the stages that can be reached from the one whose action takes no time, as far as their ranks are known:
-/// by rank, so each of them once, and no more of them once the target's state is found.
+/// by rank, so each of them once, and no more of them once the target's state is found. The meter counts them.
 fn settle<R: StateRepresentation>(
     alloc: Global,
     version: &Version<R>,
@@ -339,6 +360,7 @@ fn settle<R: StateRepresentation>(
     fast: &Stage,
     target: u32,
     changes: &mut Changes,
+    meter: &mut Meter<OneTrial>,
 ) -> Result<(), AllocError>
     requires stands { stage_at version.now.graph.places stage.now.place ≡ Some stage.now }
     requires acts { IsSome stage.now.action }
@@ -348,9 +370,12 @@ fn settle<R: StateRepresentation>(
     requires ranks { AreRanksFor version.now.graph.places target ranks.now }
     requires standing { AreStanding version.now.graph.places ranks.now standing.now }
     requires each { length changes.old.at.items ≡ length version.now.graph.places }
+    requires room { meter.old ≤ 2 ^ 63 }
     ensures each { OnOk result (length changes.new.at.items ≡ length version.now.graph.places) }
     ensures settled { OnOk result (state_in before.now changes.new.at.items changes.new.list.items target
         ≡ at (java_step version.now.graph.mode) (hurried version.now.graph stage.now).places target) }
+    ensures once { OnOk result (IsEachOnce changes.new.list.items) }
+    ensures counted { OnOk result (meter.new ≡ meter.old + length changes.new.list.items) }
 {
     let graph = version.graph();
     // With its length a graph says that it is sound, as every graph is.
@@ -363,6 +388,7 @@ fn settle<R: StateRepresentation>(
         }
         advance(
             alloc, version, before, ranks, standing, fast, target, place, &mut marks, changes,
+            meter,
         )?;
         if place == target {
             return Ok(());
@@ -371,7 +397,8 @@ fn settle<R: StateRepresentation>(
     Ok(())
 }
 
-/// How a stage would complete if the action of another took no time; none where it would be pending.
+/// How a stage would complete if the action of another took no time; none where it would be pending. No stage is computed
+/// twice: the meter counts the computed ones, and these are as many places as the changes have.
 pub(crate) fn hurried_completion<R: StateRepresentation>(
     alloc: Global,
     version: &Version<R>,
@@ -381,6 +408,7 @@ pub(crate) fn hurried_completion<R: StateRepresentation>(
     stage: &Stage,
     target: u32,
     changes: &mut Changes,
+    meter: &mut Meter<OneTrial>,
 ) -> Result<Option<Done>, AllocError>
     requires live { IsLive version.now.graph.places target }
     requires stands { stage_at version.now.graph.places stage.now.place ≡ Some stage.now }
@@ -390,12 +418,15 @@ pub(crate) fn hurried_completion<R: StateRepresentation>(
     requires ranks { AreRanksFor version.now.graph.places target ranks.now }
     requires standing { AreStanding version.now.graph.places ranks.now standing.now }
     requires each { length changes.old.at.items ≡ length version.now.graph.places }
+    requires room { meter.old ≤ 2 ^ 63 }
     ensures each { OnOk result (length changes.new.at.items ≡ length version.now.graph.places) }
     ensures done { IfOk result (λ done. done ≡ completion_of (hurried version.now.graph stage.now) target) }
+    ensures once { OnOk result (IsEachOnce changes.new.list.items) }
+    ensures counted { OnOk result (meter.new ≡ meter.old + length changes.new.list.items) }
 {
     let fast = without_time(stage)?;
     settle(
-        alloc, version, before, ranks, standing, stage, &fast, target, changes,
+        alloc, version, before, ranks, standing, stage, &fast, target, changes, meter,
     )?;
     let now = Now { before, changes };
     Ok(now.at(target).state().done)

@@ -1,5 +1,5 @@
 //! All trials of a stage.
-ghost use Rattle.std.specs.Prelude.{◌≡◌, ◌↔◌, ◌<◌, ◌*◌, ◌/◌, ◌%◌, ◌≤◌, All, IfOk, IsOk, IsTrue, None, true, false, OnOk, filter_map, length};
+ghost use Rattle.std.specs.Prelude.{◌≡◌, ◌↔◌, ◌<◌, ◌≤◌, All, IfOk, IsOk, IsTrue, None, true, false, OnOk, filter_map, length};
 ghost use Rattle.std.specs.List.{range_with_len, flat_map};
 ghost use Rattle.stage_graph.specs.Plain.{all_places, IsLive};
 ghost use Rattle.stage_ops.specs.Java.{java_step};
@@ -12,20 +12,20 @@ ghost use Rattle.time_sweep.specs.Tried.{part_of, trials_in, CanStart, GiveAll};
 
 use crate::ancestors::ranks_of;
 use crate::changes::Changes;
-use crate::hurried::hurried_completion;
+use crate::hurried::{OneTrial, hurried_completion};
 use crate::known::{Start, known_rank, states_of};
 use crate::standing::{Standing, standing_of};
 use crate::trial::Trial;
-use level_pool::Runner;
+use level_pool::{OneThread, Plan, Runner};
 use propagate::{KeptState, StateRepresentation};
 use stage_graph::Stage;
-use stage_ops::Done;
+use stage_ops::{Done, Meter};
 use std::alloc::{AllocError, Global};
 use version_store::{NoStage, Version};
 
-/// How many pieces there are for each part of the trials. A runner in threads makes at least so many pieces in one thread,
-/// so that with so many for each part all parts can be made beside each other.
-const PIECES_A_PART: usize = 64;
+/// The fewest trials for which a runner that chooses the number of its threads may start any. Of fewer only a chain's would be made
+/// sooner by threads.
+const LEAST_FOR_THREADS: usize = 512;
 
 /// A trial by which a stage would complete sooner.
 fn sooner_trial(place: u32, old: &Option<Done>, new: &Option<Done>) -> Option<Trial>
@@ -95,8 +95,9 @@ fn trial_at<R: StateRepresentation>(
         return Ok(None);
     }
     let old = completion_of(version, target);
+    let mut meter = Meter::new(OneTrial);
     let new = hurried_completion(
-        alloc, version, before, ranks, standing, stage, target, changes,
+        alloc, version, before, ranks, standing, stage, target, changes, &mut meter,
     )?;
     Ok(sooner_trial(place, &old, &new))
 }
@@ -149,7 +150,7 @@ fn tried_places<R: StateRepresentation>(
     Ok(places)
 }
 
-/// The numbers from 0 up to a count of pieces.
+/// The numbers from 0 up to a count of trials.
 fn numbers(alloc: Global, count: u32) -> Result<Vec<u32>, AllocError>
     ensures { IfOk result (λ numbers. numbers.items ≡ range_with_len 0 count) }
 {
@@ -177,7 +178,7 @@ fn trials_among<R: StateRepresentation>(
     requires standing { AreStanding version.now.graph.places ranks.now standing.now }
     ensures { IfOk result (λ found. found.items ≡ filter_map (trial_at version.now.graph target) places.now) }
 {
-    // Most pieces have no trials, and make no list of changes.
+    // Where no part begins no trials are made, and no list of changes.
     if places.is_empty() {
         return Ok(Vec::new(alloc));
     }
@@ -200,33 +201,33 @@ fn trials_among<R: StateRepresentation>(
     Ok(found)
 }
 
-/// The places of a piece: at the first piece of a part those of the part, which are at most this many, and at each other
-/// piece none.
-fn part_of(places: &[u32], size: usize, piece: u32) -> &[u32]
+/// The places whose trials are made at the trial of this number: at the first trial of a part those of the part, which are
+/// at most this many, and at each other one none.
+fn part_of(places: &[u32], size: usize, number: u32) -> &[u32]
     requires some { 0 < size }
     requires size { size ≤ 65536 }
-    ensures { result.now ≡ part_of places.now size piece }
+    ensures { result.now ≡ part_of places.now size number }
 {
-    let piece = piece as usize;
-    if piece % PIECES_A_PART != 0 {
+    let number = number as usize;
+    if number % size != 0 {
         return &places[..0];
     }
-    let start = (piece / PIECES_A_PART * size).min(places.len());
+    let start = number.min(places.len());
     let end = (start + size).min(places.len());
     &places[start..end]
 }
 
-/// The trials of a piece.
-fn trials_of_piece<R: StateRepresentation>(
+/// The trials that are made at the trial of this number.
+fn trials_of_part<R: StateRepresentation>(
     alloc: Global,
     version: &Version<R>,
     start: &Start<'_>,
-    piece: u32,
+    number: u32,
 ) -> Result<Vec<Trial>, AllocError>
     requires { CanStart version.now.graph start.now }
-    ensures { GiveAll (λ piece. filter_map (trial_at version.now.graph start.now.target) (part_of start.now.places.items start.now.size piece)) piece result }
+    ensures { GiveAll (λ number. filter_map (trial_at version.now.graph start.now.target) (part_of start.now.places.items start.now.size number)) number result }
 {
-    let places = part_of(start.places.as_slice(), start.size, piece);
+    let places = part_of(start.places.as_slice(), start.size, number);
     let before = start.before.as_slice();
     let ranks = start.ranks.as_slice();
     let standing = start.standing.as_slice();
@@ -241,29 +242,56 @@ fn trials_of_piece<R: StateRepresentation>(
     )
 }
 
-/// The trials of each piece, or that memory ran out for it. The runner makes the pieces beside each other.
+/// What is made at each of these numbers of trials, or that memory ran out for it. The runner makes them beside each other.
 fn tried<R: StateRepresentation, W: Runner>(
     alloc: Global,
     version: &Version<R>,
     start: &Start<'_>,
-    pieces: &[u32],
+    numbers: &[u32],
     runner: &W,
 ) -> Result<Vec<Result<Vec<Trial>, AllocError>>, AllocError>
     requires { CanStart version.now.graph start.now }
-    ensures { IfOk result (λ tried. IsPlainMap (GiveAll (λ piece. filter_map (trial_at version.now.graph start.now.target) (part_of start.now.places.items start.now.size piece))) pieces.now tried.items) }
+    ensures { IfOk result (λ tried. IsPlainMap (GiveAll (λ number. filter_map (trial_at version.now.graph start.now.target) (part_of start.now.places.items start.now.size number))) numbers.now tried.items) }
 {
     let answer = runner.run(
         alloc,
-        pieces,
-        &|piece: u32| -> Result<Vec<Trial>, AllocError>
+        numbers,
+        &|number: u32| -> Result<Vec<Trial>, AllocError>
             requires { CanStart version.now.graph start.now }
-            ensures { GiveAll (λ piece. filter_map (trial_at version.entry.now.graph start.entry.now.target) (part_of start.entry.now.places.items start.entry.now.size piece)) piece result }
-        { trials_of_piece(alloc, version, start, piece) },
+            ensures { GiveAll (λ number. filter_map (trial_at version.entry.now.graph start.entry.now.target) (part_of start.entry.now.places.items start.entry.now.size number)) number result }
+        { trials_of_part(alloc, version, start, number) },
     );
     match answer {
         Ok(tried) => Ok(tried),
         Err(_) => Err(AllocError),
     }
+}
+
+/// The same, with no thread for few trials where the runner leaves open how many it starts.
+fn tried_by<R: StateRepresentation, W: Runner>(
+    alloc: Global,
+    version: &Version<R>,
+    start: &Start<'_>,
+    numbers: &[u32],
+    runner: &W,
+) -> Result<Vec<Result<Vec<Trial>, AllocError>>, AllocError>
+    requires { CanStart version.now.graph start.now }
+    ensures { IfOk result (λ tried. IsPlainMap (GiveAll (λ number. filter_map (trial_at version.now.graph start.now.target) (part_of start.now.places.items start.now.size number))) numbers.now tried.items) }
+{
+    match runner.plan() {
+        Plan::Pooled { rt } => {
+            if numbers.len() < LEAST_FOR_THREADS {
+                return tried(alloc, version, start, numbers, &OneThread::new(rt));
+            }
+        }
+        Plan::OneThread { gate: _ } => {}
+        Plan::Scoped {
+            rt: _,
+            workers: _,
+            gate: _,
+        } => {}
+    }
+    tried(alloc, version, start, numbers, runner)
 }
 
 /// The trials that were found, if memory ran out for none of the pieces.
@@ -295,16 +323,6 @@ fn size_of_parts(count: usize) -> usize
     (count / 32).max(1)
 }
 
-/// How many pieces there are for this many trials, in parts of this size.
-fn piece_count(count: usize, size: usize) -> u32
-    requires count { count ≤ 65536 }
-    requires some { 0 < size }
-    ensures whole { result % 64 ≡ 0 }
-    ensures all { count ≤ result / 64 * size }
-{
-    (count.div_ceil(size) * PIECES_A_PART) as u32
-}
-
 /// All trials by which the target would complete sooner, by place.
 pub(crate) fn trials<R: StateRepresentation, W: Runner>(
     alloc: Global,
@@ -328,9 +346,9 @@ pub(crate) fn trials<R: StateRepresentation, W: Runner>(
     let before = states_of(alloc, version)?;
     let standing = standing_of(alloc, version, ranks.as_slice(), target)?;
     let size = size_of_parts(places.len());
-    // A runner judges by the number of pieces in how many threads it makes them. So there are many for each part, and the
-    // first of them makes the part's trials.
-    let pieces = numbers(alloc, piece_count(places.len(), size))?;
+    // A runner judges by the number of its pieces in how many threads it makes them. So there is one for each trial, and the
+    // first of a part makes the part's trials, over one list of changes.
+    let numbers = numbers(alloc, places.len() as u32)?;
     let start = Start {
         target,
         before,
@@ -339,6 +357,6 @@ pub(crate) fn trials<R: StateRepresentation, W: Runner>(
         places,
         size,
     };
-    let tried = tried(alloc, version, &start, pieces.as_slice(), runner)?;
+    let tried = tried_by(alloc, version, &start, numbers.as_slice(), runner)?;
     found_among(alloc, tried.as_slice())
 }

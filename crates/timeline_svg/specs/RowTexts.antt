@@ -1,5 +1,5 @@
 -- The text of a row.
-use Rattle.std.specs.Prelude.{ℕ, ◌+◌, ◌-◌, Bool, true, false, List, [], ◌∷◌, ◌++◌, codes, nat_lt, if◌then◌else◌, string_bytes}
+use Rattle.std.specs.Prelude.{ℕ, ◌+◌, ◌-◌, Bool, true, false, List, [], ◌∷◌, ◌++◌, Option, None, Some, codes, max, nat_lt, if◌then◌else◌, string_bytes}
 use Rattle.std.specs.Fmt.{decimal}
 use Rattle.timeline.specs.declared.scale.Bar.{Bar}
 use Rattle.timeline.specs.declared.scale.Scale.{Scale}
@@ -16,6 +16,9 @@ queued_text bar y = codes "<rect class='queued' x='" ++ decimal bar.x ++ codes "
 
 abbrev pub ran_text : Bar → ℕ → List ℕ
 ran_text bar y = codes "<rect class='ran' x='" ++ decimal bar.x ++ codes "' y='" ++ decimal (y - 5) ++ codes "' width='" ++ decimal bar.width ++ codes "' height='11'/>"
+
+abbrev pub hatched_text : ℕ → ℕ → ℕ → List ℕ
+hatched_text x y width = codes "<rect class='cut' x='" ++ decimal x ++ codes "' y='" ++ decimal (y - 4) ++ codes ".5' width='" ++ decimal width ++ codes "' height='9'/>"
 
 abbrev pub cross_text : ℕ → ℕ → List ℕ
 cross_text x y = codes "<path class='cross' d='M" ++ decimal x ++ codes " " ++ decimal y ++ codes ".5m-4-4l8 8m0-8l-8 8'/>"
@@ -35,11 +38,16 @@ wait_text y from to = codes "<path class='wait' d='M" ++ decimal from ++ codes "
 abbrev pub queue_text : Scale → ℕ → Run → List ℕ
 queue_text scale y run = if nat_lt run.triggered run.started then queued_text (bar_of scale run.triggered run.started) y else []
 
+-- the hatched bar, where the action was cut off: from where the stage completed to where the action would have ended, and so wide that it is seen beside the mark
+abbrev pub cut_text : Scale → ℕ → ℕ → Option ℕ → List ℕ
+cut_text scale y completed None = []
+cut_text scale y completed (Some end) = hatched_text (x_of scale completed) y (max (x_of scale end - x_of scale completed) 14)
+
 -- a thin line, the bars, and how it ended
 abbrev pub run_text : Scale → ℕ → ℕ → Run → List ℕ
 run_text scale y from run =
     wait_text y from (x_of scale run.completed) ++ queue_text scale y run ++ ran_text (bar_of scale run.started run.ended) y
-    ++ mark_text (x_of scale run.completed) y run.has_failed
+    ++ cut_text scale y run.completed run.missed_end ++ mark_text (x_of scale run.completed) y run.has_failed
 
 -- a line to the right end, and an open arrow
 abbrev pub pending_text : ℕ → ℕ → ℕ → List ℕ

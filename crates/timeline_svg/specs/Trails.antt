@@ -19,7 +19,7 @@ end_of scale row = course_end scale row.course
 -- where a row's own share begins
 abbrev pub course_begin : Scale → ℕ → Course → ℕ
 course_begin scale created Pending = x_of scale created
-course_begin scale created (Completed run) = x_of scale run.triggered
+course_begin scale created (Completed run) = x_of scale run.since
 
 abbrev pub begin_of : Scale → Row → ℕ
 begin_of scale row = course_begin scale row.created row.course

@@ -42,6 +42,8 @@ g.row:hover .hit{fill:#dbeafe;fill-opacity:.6}\
 .queued{fill:#fff;stroke:#64748b}\
 .ran{fill:#4a7ba6}\
 .failed .ran{fill:#e2937f}\
+.hatch{stroke:#64748b;stroke-width:1.6;fill:none}\
+.cut{fill:url(#hatch);stroke:#64748b;stroke-width:.8}\
 .done{fill:#fff;stroke:#1e3a5f;stroke-width:1.5}\
 .cross{stroke:#991b1b;stroke-width:2.5;fill:none}\
 .failed text{fill:#991b1b}\
@@ -49,16 +51,20 @@ g.row:hover .hit{fill:#dbeafe;fill-opacity:.6}\
 .on text{font-weight:700}\
 .halo{stroke:#fff;stroke-width:4;fill:none;stroke-linejoin:round}\
 .path{stroke:#6d28d9;stroke-width:2;fill:none;stroke-linejoin:round}\
-</style>\n<rect class='paper' width='100%' height='100%'/>\n";
+</style>\n\
+<defs><pattern id='hatch' width='5' height='5' patternUnits='userSpaceOnUse'>\
+<path class='hatch' d='M-1 1L1 -1M0 5L5 0M4 6L6 4'/></pattern></defs>\n\
+<rect class='paper' width='100%' height='100%'/>\n";
 
 const LEGEND: &str = "<g class='key' transform='translate(16 66)'>\
 <path class='wait' d='M0 -4H26'/><text class='key' x='32'>created, waits</text>\
 <rect class='queued' x='140.5' y='-7.5' width='26' height='7'/><text class='key' x='174'>queued</text>\
 <rect class='ran' x='236' y='-9' width='26' height='10'/><text class='key' x='268'>runs</text>\
-<circle class='done' cx='320' cy='-4' r='3'/><text class='key' x='330'>complete</text>\
-<path class='cross' d='M404 -4m-4-4l8 8m0-8l-8 8'/><text class='key' x='416'>failed</text>\
-<path class='open' d='M478 -4m-7-5l7 5l-7 5'/><text class='key' x='486'>pending</text>\
-<path class='path' d='M556 -4H582'/><text class='key' x='588'>the path</text>\
+<rect class='cut' x='318' y='-8.5' width='26' height='9'/><text class='key' x='350'>cut off</text>\
+<circle class='done' cx='420' cy='-4' r='3'/><text class='key' x='430'>complete</text>\
+<path class='cross' d='M504 -4m-4-4l8 8m0-8l-8 8'/><text class='key' x='516'>failed</text>\
+<path class='open' d='M578 -4m-7-5l7 5l-7 5'/><text class='key' x='586'>pending</text>\
+<path class='path' d='M656 -4H682'/><text class='key' x='688'>the path</text>\
 </g>\n";
 
 /// The top of a row.

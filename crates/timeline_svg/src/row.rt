@@ -1,15 +1,19 @@
 //! What a row shows.
 
-/// When a stage that has completed did what.
+/// When a stage that has completed did what. What its action did not come to before the completion was cut off by that.
 #[derive(Clone, Copy, Debug, PartialEq, Eq)]
 pub struct Run {
     /// The tick at which what it waited for had come.
     pub triggered: u64,
-    /// The tick at which its action started.
+    /// The tick at which its action started; the completion, where that came before.
     pub started: u64,
-    /// The tick at which its action ended.
+    /// The tick at which its action ended; the completion, where that came before.
     pub ended: u64,
+    /// The tick at which its action would have ended, where the completion came before.
+    pub missed_end: Option<u64>,
     pub completed: u64,
+    /// The tick of what the completion is put down to: its own share of a path begins here.
+    pub since: u64,
     pub has_failed: bool,
 }
 

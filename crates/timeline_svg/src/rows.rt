@@ -1,6 +1,6 @@
 //! The rows of a picture.
 ghost use Rattle.std.specs.Prelude.{◌≡◌, ◌+◌, ◌≤◌, ◌^◌, ◌++◌, OnOk, length, string_bytes};
-ghost use Rattle.timeline_svg.specs.RowTexts.{circle_text, course_text, cross_text, ended_text, group_text, hit_text, label_text, mark_text, name_text, pending_text, place_text, queue_text, queued_text, ran_text, row_text, rows_text, run_text, state_text, told_text, wait_text};
+ghost use Rattle.timeline_svg.specs.RowTexts.{circle_text, course_text, cross_text, cut_text, ended_text, group_text, hatched_text, hit_text, label_text, mark_text, name_text, pending_text, place_text, queue_text, queued_text, ran_text, row_text, rows_text, run_text, state_text, told_text, wait_text};
 
 use crate::escape::{push_cut, push_element};
 use crate::frame::row_y;
@@ -11,6 +11,9 @@ use timeline::{Bar, Scale};
 
 /// The most characters that are shown of a name.
 pub(crate) const MOST_SHOWN: usize = 40;
+
+/// How wide what was cut off is at least, so that it is seen beside the mark.
+const LEAST_CUT: u32 = 14;
 
 /// The rows, one below the other.
 pub(crate) fn push_rows(
@@ -145,6 +148,7 @@ fn push_run(line: &mut String, scale: &Scale, y: u32, from: u32, run: Run) -> Re
     push_wait(line, y, from, to)?;
     push_queue(line, scale, y, run)?;
     push_ran(line, scale.bar(run.started, run.ended), y)?;
+    push_cut_off(line, scale, y, run)?;
     push_mark(line, to, y, run.has_failed)
 }
 
@@ -188,6 +192,30 @@ fn push_ran(line: &mut String, bar: Bar, y: u32) -> Result<(), AllocError>
     write!(
         line,
         "<rect class='ran' x='{x}' y='{top}' width='{width}' height='11'/>"
+    )
+}
+
+// The hatched bar, where the completion cut the action off.
+fn push_cut_off(line: &mut String, scale: &Scale, y: u32, run: Run) -> Result<(), AllocError>
+    requires { 9 ≤ y }
+    ensures { OnOk result (string_bytes line.new ≡ string_bytes line.old ++ cut_text scale.now y run.completed run.missed_end) }
+{
+    let Some(end) = run.missed_end else {
+        return Ok(());
+    };
+    let x = scale.x(run.completed);
+    let width = scale.x(end).saturating_sub(x).max(LEAST_CUT);
+    push_hatched(line, x, y, width)
+}
+
+fn push_hatched(line: &mut String, x: u32, y: u32, width: u32) -> Result<(), AllocError>
+    requires { 9 ≤ y }
+    ensures { OnOk result (string_bytes line.new ≡ string_bytes line.old ++ hatched_text x y width) }
+{
+    let top = y - 4;
+    write!(
+        line,
+        "<rect class='cut' x='{x}' y='{top}.5' width='{width}' height='9'/>"
     )
 }
 

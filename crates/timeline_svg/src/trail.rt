@@ -127,6 +127,6 @@ fn begin_of(scale: &Scale, row: &Row) -> u32
 {
     match row.course {
         Course::Pending => scale.x(row.created),
-        Course::Completed(run) => scale.x(run.triggered),
+        Course::Completed(run) => scale.x(run.since),
     }
 }

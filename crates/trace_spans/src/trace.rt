@@ -13,8 +13,8 @@ use crate::span::Spans;
 use crate::text::Text;
 use crate::told::spans_of_text;
 use json::Scratch;
+use simdutf8::compat::from_utf8;
 use std::alloc::Global;
-use std::str;
 
 /// How many bytes a file may have.
 const LONGEST: usize = 268_435_456;
@@ -49,7 +49,7 @@ fn read_text(alloc: Global, text: &str) -> Result<Spans, Fault>
 fn read_spans(alloc: Global, bytes: &[u8]) -> Result<Spans, Fault>
     ensures { IsRead result (then_on (texts_of bytes.now) spans_of_texts) }
 {
-    match str::from_utf8(bytes) {
+    match from_utf8(bytes) {
         Ok(text) => read_text(alloc, text),
         Err(_) => Err(Fault::Json),
     }

@@ -6,21 +6,19 @@ use Rattle.std.specs.Ordering.{nat_cmp}
 use Rattle.rank_order.specs.Lists.{is_among}
 use Rattle.stage_graph.specs.declared.stage.Stage.{Stage}
 use Rattle.stage_graph.specs.Plain.{PlainGraph, all_places, stage_at}
-use Rattle.stage_ops.specs.declared.reason.Reason.{Reason}
-use Rattle.scratch_eval.specs.Path.{reason_at}
-use Rattle.version_store.specs.Queries.{state_of}
+use Rattle.timeline_svg.specs.declared.row.Course.{Course}
 use Rattle.version_rows.specs.declared.candidate.Candidate.{Candidate}
 use Rattle.version_rows.specs.declared.candidate.Scope.{Scope}
 use Rattle.version_rows.specs.declared.candidate.Scope.TheVariants.{All, Path}
-use Rattle.version_rows.specs.Courses.{course_of, start_of}
+use Rattle.version_rows.specs.Courses.{course_at, own_ticks, start_of}
 
 abbrev pub is_wanted : Scope → Bool → Bool
 is_wanted All is_on_path = true
 is_wanted Path is_on_path = is_on_path
 
 -- the less, the longer its own action took; least on the path
-abbrev pub rest_of : Bool → Reason → ℕ
-rest_of is_on_path reason = if is_on_path then 0 else 2 ^ 64 - 1 - reason.queued - reason.ran
+abbrev pub rest_of : Bool → Course → ℕ
+rest_of is_on_path course = if is_on_path then 0 else 2 ^ 64 - 1 - own_ticks course
 
 -- rows stand by start, and then by place
 abbrev pub order_of : ℕ → ℕ → ℕ
@@ -30,8 +28,8 @@ abbrev pub candidate_of : PlainGraph → Bool → ℕ → Stage → Candidate
 candidate_of graph is_on_path place stage = record {
   place = place;
   is_on_path = is_on_path;
-  order = order_of (start_of (course_of stage (state_of graph place).done)) place;
-  rest = rest_of is_on_path (reason_at graph place);
+  order = order_of (start_of (course_at graph place stage)) place;
+  rest = rest_of is_on_path (course_at graph place stage);
 }
 
 abbrev pub candidate_in : PlainGraph → Scope → Bool → ℕ → Option Stage → Option Candidate

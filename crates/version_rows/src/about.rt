@@ -1,20 +1,22 @@
 //! What is told of a stage where one points at its row.
-ghost use Rattle.std.specs.Prelude.{◌≡◌, ◌++◌, OnOk, string_bytes};
-ghost use Rattle.version_rows.specs.Rows.{about_text, cause_text, own_text};
+ghost use Rattle.std.specs.Prelude.{◌≡◌, ◌++◌, OnOk, slice_get, string_bytes};
+ghost use Rattle.version_rows.specs.Rows.{about_text, act_text, cause_text, cut_text, end_text, ended_text, index_text, own_text, run_text};
 
 use propagate::StateRepresentation;
-use stage_graph::{Graph, Representation, Stage};
-use stage_ops::{Cause, Reason};
+use stage_graph::{Act, Graph, Representation, Stage};
+use stage_ops::Cause;
 use std::alloc::AllocError;
 use std::fmt::Write;
+use timeline_svg::{Course, Run};
 use version_store::StageView;
 
-/// The outcome and the moment, the rank, what it waited for, and how long its own action was queued and ran since.
+/// The outcome and the moment, the rank, what it waited for, and how long its own action was queued and ran by then.
 pub(crate) fn push_about<R: StateRepresentation>(
     line: &mut String,
     view: &StageView<'_, R>,
+    course: Course,
 ) -> Result<(), AllocError>
-    ensures { OnOk result (string_bytes line.new ≡ string_bytes line.old ++ about_text view.now.version.now.graph view.now.place view.now.stage.now) }
+    ensures { OnOk result (string_bytes line.new ≡ string_bytes line.old ++ about_text view.now.version.now.graph view.now.place view.now.stage.now course) }
 {
     let state = view.state();
     let rank = view.rank();
@@ -22,7 +24,7 @@ pub(crate) fn push_about<R: StateRepresentation>(
     write!(line, "{state}\nrank {rank}\n")?;
     push_cause(line, view.version.graph(), view.stage, reason.cause)?;
     line.push_str("\n")?;
-    push_own(line, &reason)
+    push_own(line, course)
 }
 
 fn push_cause<R: Representation>(
@@ -47,7 +49,7 @@ fn push_cause<R: Representation>(
             write!(line, "took over {inner}")
         }
         Cause::Pinned => line.push_str("its moment is pinned"),
-        Cause::Ended(index) => write!(line, "completed by its end of index {index}"),
+        Cause::Ended(index) => push_ended(line, stage, index),
         Cause::Waiting(place) => {
             let feed = graph.name_of(place);
             write!(line, "waits for {feed}")
@@ -56,10 +58,69 @@ fn push_cause<R: Representation>(
     }
 }
 
-fn push_own(line: &mut String, reason: &Reason) -> Result<(), AllocError>
-    ensures { OnOk result (string_bytes line.new ≡ string_bytes line.old ++ own_text reason.now) }
+// Which end completed a stage.
+fn push_ended(line: &mut String, stage: &Stage, index: usize) -> Result<(), AllocError>
+    ensures { OnOk result (string_bytes line.new ≡ string_bytes line.old ++ ended_text index (slice_get stage.now.ends index)) }
 {
-    let queued = reason.queued;
-    let ran = reason.ran;
-    write!(line, "queued {queued}, ran {ran}")
+    push_index(line, index)?;
+    push_end(line, stage, index)
+}
+
+fn push_index(line: &mut String, index: usize) -> Result<(), AllocError>
+    ensures { OnOk result (string_bytes line.new ≡ string_bytes line.old ++ index_text index) }
+{
+    write!(line, "completed by its end of index {index}")
+}
+
+// How the end of an index acts.
+fn push_end(line: &mut String, stage: &Stage, index: usize) -> Result<(), AllocError>
+    ensures { OnOk result (string_bytes line.new ≡ string_bytes line.old ++ end_text (slice_get stage.now.ends index)) }
+{
+    let Some(end) = stage.ends.as_slice().get(index) else {
+        return Ok(());
+    };
+    push_act(line, end.act)
+}
+
+fn push_act(line: &mut String, act: Act) -> Result<(), AllocError>
+    ensures { OnOk result (string_bytes line.new ≡ string_bytes line.old ++ act_text act) }
+{
+    match act {
+        Act::Complete(_) => line.push_str(", complete"),
+        Act::CompleteExceptionally(_) => line.push_str(", completeExceptionally"),
+        Act::Cancel => line.push_str(", cancel"),
+        Act::OrTimeout { delay } => write!(line, ", orTimeout with delay {delay}"),
+        Act::CompleteOnTimeout { delay, .. } => {
+            write!(line, ", completeOnTimeout with delay {delay}")
+        }
+    }
+}
+
+fn push_own(line: &mut String, course: Course) -> Result<(), AllocError>
+    ensures { OnOk result (string_bytes line.new ≡ string_bytes line.old ++ own_text course) }
+{
+    match course {
+        Course::Pending => line.push_str("queued 0, ran 0"),
+        Course::Completed(run) => push_run(line, run),
+    }
+}
+
+// How long an action was queued and ran, and whether it was cut off.
+fn push_run(line: &mut String, run: Run) -> Result<(), AllocError>
+    ensures { OnOk result (string_bytes line.new ≡ string_bytes line.old ++ run_text run) }
+{
+    let queued = run.started.saturating_sub(run.triggered);
+    let ran = run.ended.saturating_sub(run.started);
+    write!(line, "queued {queued}, ran {ran}")?;
+    push_cut(line, run.completed, run.missed_end)
+}
+
+fn push_cut(line: &mut String, completed: u64, missed_end: Option<u64>) -> Result<(), AllocError>
+    ensures { OnOk result (string_bytes line.new ≡ string_bytes line.old ++ cut_text completed missed_end) }
+{
+    let Some(end) = missed_end else {
+        return Ok(());
+    };
+    let missed = end.saturating_sub(completed);
+    write!(line, ", cut off {missed} before its end")
 }

@@ -4,11 +4,11 @@ ghost use Rattle.std.specs.Option.{option_to_list};
 ghost use Rattle.stage_graph.specs.Plain.{stage_at};
 ghost use Rattle.version_rows.specs.Candidates.{candidate_in, candidate_of, candidates, is_wanted, rest_of};
 
-use crate::course::{course_of, start_of};
+use crate::course::{course_at, own_ticks, start_of};
 use crate::flags::{flags_of, is_flagged};
 use propagate::StateRepresentation;
-use stage_ops::Reason;
 use std::alloc::{AllocError, Global};
+use timeline_svg::Course;
 use version_store::{StageView, Version};
 
 /// Which stages may have a row.
@@ -91,24 +91,21 @@ fn candidate_of<R: StateRepresentation>(is_on_path: bool, view: &StageView<'_, R
     ensures { result ≡ candidate_of view.now.version.now.graph is_on_path view.now.place view.now.stage.now }
 {
     let place = view.place;
-    let state = view.state();
-    let start = start_of(course_of(view.stage, &state.done));
+    let course = course_at(view);
     Candidate {
         place,
         is_on_path,
-        order: u128::from(start) * (1 << 32) + u128::from(place),
-        rest: rest_of(is_on_path, &view.reason()),
+        order: u128::from(start_of(course)) * (1 << 32) + u128::from(place),
+        rest: rest_of(is_on_path, course),
     }
 }
 
-fn rest_of(is_on_path: bool, reason: &Reason) -> u64
-    ensures { result ≡ rest_of is_on_path reason.now }
+fn rest_of(is_on_path: bool, course: Course) -> u64
+    ensures { result ≡ rest_of is_on_path course }
 {
     if is_on_path {
         0
     } else {
-        u64::MAX
-            .saturating_sub(reason.queued)
-            .saturating_sub(reason.ran)
+        u64::MAX.saturating_sub(own_ticks(course))
     }
 }

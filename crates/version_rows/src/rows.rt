@@ -6,7 +6,7 @@ ghost use Rattle.version_rows.specs.Rows.{plain, row_in, row_of};
 
 use crate::about::push_about;
 use crate::candidate::Candidate;
-use crate::course::course_of;
+use crate::course::course_at;
 use propagate::StateRepresentation;
 use std::alloc::{AllocError, Global};
 use timeline_svg::{Course, Row};
@@ -57,14 +57,14 @@ fn row_of_stage<R: StateRepresentation>(
 {
     let mut name = String::new(alloc);
     name.push_str(view.stage.name.as_str())?;
+    let course = course_at(view);
     let mut about = String::new(alloc);
-    push_about(&mut about, view)?;
-    let state = view.state();
+    push_about(&mut about, view, course)?;
     Ok(Row {
         name,
         about,
         created: view.stage.created,
-        course: course_of(view.stage, &state.done),
+        course,
         is_on_path: candidate.is_on_path,
     })
 }

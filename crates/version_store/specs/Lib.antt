@@ -1,4 +1,5 @@
 pub mod Plain
 pub mod Evaluated
 pub mod Queries
+pub mod Starts
 pub mod Drafts

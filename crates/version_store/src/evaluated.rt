@@ -9,8 +9,11 @@ ghost use Rattle.scratch_eval.specs.Path.{reason_in};
 ghost use Rattle.propagate.specs.Patched.{touched_by};
 ghost use Rattle.propagate.specs.Reach.{StaysUntouched};
 ghost use Rattle.stage_ops.specs.Evaluation.{at};
+ghost use Rattle.stage_ops.specs.Starts.{action_start};
+ghost use Rattle.stage_ops.specs.States.{seen_at};
 ghost use Rattle.version_store.specs.Drafts.{IsCountAfter};
 ghost use Rattle.version_store.specs.Queries.{state_of, told, held, held_by};
+ghost use Rattle.version_store.specs.Starts.{action_start_at};
 
 use crate::before::Before;
 use level_pool::Runner;
@@ -164,6 +167,27 @@ impl<R: StateRepresentation> Evaluated<R> {
         // With its length a graph says that it is sound, as every graph is.
         let _ = self.graph().len();
         JavaOps.reason(mode, stage, &self.states)
+    }
+
+    /// The tick at which the action of a stage starts by its operation; none where none starts.
+    pub(crate) fn action_start_of(&self, stage: &Stage) -> Option<u64>
+        requires { stage_at self.now.places stage.now.place ≡ Some stage.now }
+        ensures { result ≡ action_start self.now.mode stage.now (seen_at (state_of self.now)) }
+    {
+        let mode = self.graph().mode();
+        // With its length a graph says that it is sound, as every graph is.
+        let _ = self.graph().len();
+        JavaOps.action_start(mode, stage, &self.states)
+    }
+
+    /// The tick at which the action of the stage at a place starts by its operation; none where none starts.
+    pub(crate) fn action_start(&self, place: u32) -> Option<u64>
+        ensures { result ≡ action_start_at self.now place }
+    {
+        match self.graph().stage(place) {
+            Some(stage) => self.action_start_of(stage),
+            None => None,
+        }
     }
 
     /// The rank of the stage at a place.

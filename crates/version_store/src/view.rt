@@ -9,6 +9,7 @@ ghost use Rattle.stage_ops.specs.Joins.{joined};
 ghost use Rattle.scratch_eval.specs.Blame.{chain};
 ghost use Rattle.scratch_eval.specs.Path.{IsPath, path, reason_at};
 ghost use Rattle.version_store.specs.Queries.{state_of, outcome_in, moment_in, start_in, before};
+ghost use Rattle.version_store.specs.Starts.{action_start_at};
 
 use crate::before::Before;
 use crate::version::Version;
@@ -113,6 +114,14 @@ impl<'a, R: StateRepresentation> StageView<'a, R> {
         ensures { result ≡ reason_at self.now.version.now.graph self.now.place }
     {
         self.version.evaluated().reason(self.place).unwrap()
+    }
+
+    /// The tick at which the action of the stage starts by its operation, from what its feeds came to, whatever its pins
+    /// and ends; none where none starts.
+    pub fn action_start(&self) -> Option<u64>
+        ensures { result ≡ action_start_at self.now.version.now.graph self.now.place }
+    {
+        self.version.evaluated().action_start(self.place)
     }
 
     /// The stage's chain of blame: empty unless it completed exceptionally, else the stage itself, and then the chain of

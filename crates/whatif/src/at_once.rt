@@ -1,5 +1,5 @@
 //! Several scripts at once.
-ghost use Rattle.std.specs.Prelude.{◌≡◌, ◌-◌, ◌^◌, ◌<◌, All, IfOk, length, vec_len};
+ghost use Rattle.std.specs.Prelude.{◌≡◌, ◌-◌, ◌^◌, ◌<◌, All, length, vec_len};
 ghost use Rattle.stage_graph.specs.Walk.{IsRanked};
 ghost use Rattle.text_io.specs.Counted.{read_failures};
 
@@ -7,76 +7,89 @@ use crate::fault::ended;
 use crate::format::format_of;
 use clap::ArgMatches;
 use command_line::{MOST_SCRIPTS, MOST_WORKERS};
-use console::{Fault, Voice, file, graph, warn, with_reason};
+use console::{
+    Fault, KeepingSink, KeptScript, Named, StepTeller, Voice, explained, file, graph,
+    opened_scripts, unread_scripts, warn, with_reason, with_unread_script,
+};
 use many_scripts::many;
 use stage_graph::{Graph, InShared};
+use std::alloc::Global;
 use std::cell::Cell;
-use std::fs::File;
 use std::sync::Wait;
 use std::thread::Threads;
-use text_io::CountedReader;
 
-/// The scripts' files in their order, each opened.
-fn opened(
+/// Answers several scripts about a graph. What was printed is kept, if the refused steps are to be told or are to end the
+/// program.
+fn answered<H: Threads + Wait + Copy + Drop + Send + Sync>(
     rt: &HostRuntime,
-    voice: Voice<'_>,
-    paths: &[&str],
-) -> Result<Vec<CountedReader<File>>, Fault>
-    ensures len { IfOk result (λ scripts. vec_len scripts ≡ length paths.now) }
-    ensures new { IfOk result (λ scripts. All (λ script. read_failures script ≡ 0) scripts.items) }
-{
-    let mut scripts = Vec::new(rt.alloc());
-    for path in paths {
-        let file = match File::open(rt, path) {
-            Ok(file) => file,
-            Err(error) => return Err(Fault::Read(voice.reason(path, error))),
-        };
-        scripts.reserve(1)?;
-        scripts.push_reserved(CountedReader::new(file));
-    }
-    Ok(scripts)
-}
-
-/// The graph of the file, whose warnings are told.
-fn graph_of(
-    rt: &HostRuntime,
+    threads: H,
     voice: Voice<'_>,
     matches: &ArgMatches<'_>,
-) -> Result<Graph<InShared>, Fault>
-    ensures { IfOk result (λ graph. IsRanked graph.places) }
+    paths: &[&str],
+    scripts: &mut [KeptScript],
+    graph: Graph<InShared>,
+) -> Result<Option<Vec<u8>>, Fault>
+    requires { IsRanked graph.places }
 {
-    let Some(path) = matches.get_str("FILE") else {
-        return Err(Fault::CommandLine);
-    };
-    let recording = file(rt, voice, path)?;
-    warn(rt.alloc(), voice, &recording)?;
-    graph(rt.alloc(), voice, &recording)
-}
-
-/// Answers several scripts, each from a file of its own, about the recording of a file.
-pub(crate) fn run_many<'a, H: Threads + Wait + Copy + Drop + Send + Sync>(
-    rt: &'a HostRuntime,
-    threads: H,
-    matches: &ArgMatches<'a>,
-) -> Result<(), Fault> {
     let workers = matches.get_one::<usize>("workers").unwrap_or(1);
-    let paths = matches.get_strs("SCRIPT").unwrap_or(&[]);
     if paths.is_empty() || paths.len() > MOST_SCRIPTS || workers == 0 || workers > MOST_WORKERS {
         return Err(Fault::CommandLine);
     }
-    let voice = Voice::new(rt, matches);
-    let graph = graph_of(rt, voice, matches)?;
-    let scripts = opened(rt, voice, paths)?;
+    let sources = opened_scripts(rt, voice, paths, scripts)?;
     let reason = Cell::new(None);
-    let mut sink = console::output(rt, &reason)?;
+    let output = console::output(rt, &reason)?;
+    let is_wanted = !voice.is_quiet() || voice.is_strict();
+    let mut sink = KeepingSink::new(rt.alloc(), output, is_wanted);
     let end = many(
         threads,
         rt.alloc(),
-        scripts,
+        sources,
         &mut sink,
         graph,
         workers,
         format_of(matches),
     );
-    with_reason(voice, &reason, ended(end))
+    with_reason(voice, &reason, ended(end))?;
+    Ok(sink.into_answers())
+}
+
+/// Answers several scripts, each from a file of its own, about the recording of a file, and then tells of their refused
+/// steps.
+pub(crate) fn run_many<'a, H: Threads + Wait + Copy + Drop + Send + Sync>(
+    rt: &'a HostRuntime,
+    threads: H,
+    matches: &ArgMatches<'a>,
+) -> Result<(), Fault> {
+    let Some(path) = matches.get_str("FILE") else {
+        return Err(Fault::CommandLine);
+    };
+    let paths = matches.get_strs("SCRIPT").unwrap_or(&[]);
+    let voice = Voice::of_file(rt, matches, path);
+    let recording = file(rt, voice, path, Named::Recording)?;
+    warn(rt.alloc(), voice, &recording)?;
+    let graph = graph(rt.alloc(), voice, &recording)?;
+    let mut scripts = unread_scripts(rt.alloc(), paths.len(), !voice.is_quiet())?;
+    let end = answered(rt, threads, voice, matches, paths, &mut scripts, graph);
+    match with_unread_script(voice, paths, &scripts, end)? {
+        Some(answers) => tell_of_steps(rt.alloc(), voice, recording, paths, &scripts, &answers),
+        None if voice.is_strict() => Err(Fault::Memory),
+        None => Ok(()),
+    }
+}
+
+/// Tells of the refused steps of scripts that were answered; where one is to end the program it does.
+fn tell_of_steps<'a>(
+    alloc: Global,
+    voice: Voice<'a>,
+    recording: Vec<u8>,
+    paths: &[&'a str],
+    scripts: &[KeptScript],
+    answers: &[u8],
+) -> Result<(), Fault> {
+    let mut teller = StepTeller::new(alloc, voice, recording);
+    let is_refused = explained(alloc, &mut teller, paths, scripts, answers);
+    if is_refused && voice.is_strict() {
+        return Err(Fault::Step);
+    }
+    Ok(())
 }

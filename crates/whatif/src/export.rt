@@ -6,8 +6,8 @@ ghost use Rattle.text_io.specs.Counted.{write_failures};
 use crate::fault::{served, written};
 use clap::ArgMatches;
 use console::{
-    Fault, ListeningSink, ListeningSource, Remembering, StepTeller, Voice, Watch, flushed, warn,
-    with_reason,
+    Fault, ListeningSink, ListeningSource, Named, Remembering, StepTeller, Voice, Watch, flushed,
+    opened, warn, with_read_reason, with_reason,
 };
 use level_pool::Runner;
 use recording_text::write_recording;
@@ -34,8 +34,8 @@ pub(crate) fn run_export<'a, K: StateRepresentation, W: Runner>(
     let Some(script) = matches.get_str("SCRIPT") else {
         return Err(Fault::CommandLine);
     };
-    let voice = Voice::new(rt, matches);
-    let recording = console::file(rt, voice, path)?;
+    let voice = Voice::of_file(rt, matches, path);
+    let recording = console::file(rt, voice, path, Named::Recording)?;
     warn(rt.alloc(), voice, &recording)?;
     match console::graph::<K>(rt.alloc(), voice, &recording) {
         Ok(graph) => {
@@ -57,11 +57,10 @@ fn export_of<K: StateRepresentation, W: Runner>(
 ) -> Result<(), Fault>
     requires { IsRanked graph.places }
 {
-    let script = match File::open(rt, script) {
-        Ok(script) => script,
-        Err(error) => return Err(Fault::Read(voice.reason(script, error))),
-    };
-    let version = last_version(rt, runner, teller, graph, script)?;
+    let file = opened(rt, voice, script, Named::Script)?;
+    let reason = Cell::new(None);
+    let end = last_version(rt, runner, teller, graph, file, &reason);
+    let version = with_read_reason(voice, script, &reason, end)?;
     write_version(rt, voice, &version)
 }
 
@@ -74,24 +73,30 @@ fn unprinted<'a>(
     ensures { write_failures result ≡ 0 }
 {
     CountedWriter::new(Remembering {
-        writer: io::sink(),
+        device: io::sink(),
         reason,
     })
 }
 
-/// The version that a script makes last; its refused steps are told.
+/// The version that a script makes last; its refused steps are told, and the reason why it can't be read is put where it is
+/// looked for.
 fn last_version<K: StateRepresentation, W: Runner>(
     rt: &HostRuntime,
     runner: &W,
     teller: StepTeller<'_>,
     graph: Graph<K>,
     script: File,
+    reason: &Cell<Option<io::Error>>,
 ) -> Result<Version<K>, Fault>
     requires { IsRanked graph.places }
 {
     let watch = Watch::new(rt.alloc())?;
-    let reason = Cell::new(None);
-    let answers = unprinted(rt, &reason);
+    let unwritten = Cell::new(None);
+    let answers = unprinted(rt, &unwritten);
+    let script = Remembering {
+        device: script,
+        reason,
+    };
     let chunk = vec![in rt.alloc(); 0; AT_ONCE]?;
     let mut source = ListeningSource::new(rt.alloc(), script, &watch, teller, chunk);
     let mut sink = ListeningSink {

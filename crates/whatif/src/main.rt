@@ -14,12 +14,12 @@ use clap::ArgMatches;
 use command_help::told;
 use command_line::{command, without_help_of_help};
 use console::{
-    Fault, ListeningSink, ListeningSource, StepTeller, Voice, Watch, flushed, imported, run_check,
-    warn, why_no_stage, with_explanation, with_reason,
+    Fault, ListeningSink, ListeningSource, Named, Remembering, StepTeller, Voice, Watch, flushed,
+    imported, run_check, warn, why_no_stage, with_explanation, with_read_reason, with_reason,
 };
 use export::run_export;
 use fault::{reported, served};
-use format::{format_of, print_refusal};
+use format::{Manner, format_of, refuse};
 use level_pool::{OneThread, Pooled, Runner};
 use recording_pictures::{Asked, Form as PictureForm, draw_recording, scope_named};
 use recording_reports::{StageReport, report_all, report_stage};
@@ -38,27 +38,10 @@ use trace_import::{Options, Unit, import};
 use version_store::StateRepresentation;
 
 fn main(rt: HostRuntime) -> ExitCode {
-    let format = Cell::new(Format::Text);
-    match run::<InShared, _, _>(&rt, rt, &OneThread::new(&rt), &format) {
+    let manner = Cell::new(Manner::of_no_command());
+    match run::<InShared, _, _>(&rt, rt, &OneThread::new(&rt), &manner) {
         Ok(code) => code,
-        Err(fault) => refuse(&rt, format.get(), &fault),
-    }
-}
-
-/// Prints why the program ends early, but for a fault of writing and for what was told already, and tells people of it;
-/// the answer is its exit status.
-fn refuse(rt: &HostRuntime, format: Format, fault: &Fault) -> ExitCode {
-    let printed = match fault {
-        Fault::Write(_) | Fault::Strict | Fault::Step => Ok(()),
-        Fault::CommandLine => rt.eprintln(format_args!("{fault}")),
-        _ => print_refusal(rt, format, fault),
-    };
-    if let Some(why) = fault.why() {
-        let _ = rt.eprintln(format_args!("whatif: {why}"));
-    }
-    match printed {
-        Ok(()) => ExitCode::from(fault.status()),
-        Err(_) => ExitCode::from(Fault::Write(None).status()),
+        Err(fault) => refuse(&rt, manner.get(), &fault),
     }
 }
 
@@ -67,29 +50,32 @@ fn run<K: StateRepresentation, H: Threads + Wait + Copy + Drop + Send + Sync, W:
     rt: &HostRuntime,
     threads: H,
     runner: &W,
-    format: &Cell<Format>,
+    manner: &Cell<Manner>,
 ) -> Result<ExitCode, Fault> {
     let alloc = rt.alloc();
     let words = words(rt)?;
     let command = command(alloc)?;
     match command.try_get_matches_from(words.as_slice()) {
-        Ok(matches) => answer::<K, _, _>(rt, threads, runner, &matches, format),
-        Err(error) => Ok(told(rt, &error)?),
+        Ok(matches) => answer::<K, _, _>(rt, threads, runner, &matches, manner),
+        Err(error) => match told(rt, &error) {
+            Ok(code) => Ok(code),
+            Err(fault) => Err(Fault::of_told(alloc, fault)),
+        },
     }
 }
 
-/// Answers what the command line asks for, in the format that it asks for.
+/// Answers what the command line asks for, in the manner that it asks for.
 fn answer<'a, K: StateRepresentation, H: Threads + Wait + Copy + Drop + Send + Sync, W: Runner>(
     rt: &'a HostRuntime,
     threads: H,
     runner: &W,
     matches: &ArgMatches<'a>,
-    format: &Cell<Format>,
+    manner: &Cell<Manner>,
 ) -> Result<ExitCode, Fault> {
     let Some((name, matches)) = matches.subcommand() else {
         return Err(Fault::CommandLine);
     };
-    format.set(format_of(matches));
+    manner.set(Manner::of(matches));
     match name {
         "report" => run_report::<K>(rt, matches)?,
         "explain" => run_report_stage::<K, _>(rt, threads, matches, StageReport::Explanation)?,
@@ -127,9 +113,7 @@ fn run_report<'a, K: StateRepresentation>(
     matches: &ArgMatches<'a>,
 ) -> Result<(), Fault> {
     let voice = Voice::new(rt, matches);
-    let path = matches.get_str("FILE");
-    voice.say_what_is_read("recording", path.is_some());
-    let recording = console::recording(rt, voice, path)?;
+    let recording = console::recording(rt, voice, matches.get_str("FILE"))?;
     warn(rt.alloc(), voice, &recording)?;
     let reason = Cell::new(None);
     let mut sink = console::output(rt, &reason)?;
@@ -148,7 +132,7 @@ fn run_report<'a, K: StateRepresentation>(
     )
 }
 
-/// Prints what is asked of one stage of a recording; the trials of a sweep are made on the processors that there are.
+/// Prints what is asked of one stage of a recording; many trials of a sweep are made on the processors that there are.
 fn run_report_stage<'a, K: StateRepresentation, H: Threads + Wait + Copy + Drop + Send + Sync>(
     rt: &'a HostRuntime,
     threads: H,
@@ -210,9 +194,7 @@ fn run_draw<'a, K: StateRepresentation>(
         return Err(Fault::CommandLine);
     };
     let voice = Voice::new(rt, matches);
-    let path = matches.get_str("FILE");
-    voice.say_what_is_read("recording", path.is_some());
-    let recording = console::recording(rt, voice, path)?;
+    let recording = console::recording(rt, voice, matches.get_str("FILE"))?;
     warn(rt.alloc(), voice, &recording)?;
     let reason = Cell::new(None);
     let mut sink = console::output(rt, &reason)?;
@@ -231,8 +213,8 @@ fn run_serve<'a, K: StateRepresentation, W: Runner>(
     let Some(path) = matches.get_str("FILE") else {
         return Err(Fault::CommandLine);
     };
-    let voice = Voice::new(rt, matches);
-    let recording = console::file(rt, voice, path)?;
+    let voice = Voice::of_file(rt, matches, path);
+    let recording = console::file(rt, voice, path, Named::RecordingOfInput)?;
     warn(rt.alloc(), voice, &recording)?;
     match console::graph::<K>(rt.alloc(), voice, &recording) {
         Ok(graph) => {
@@ -258,7 +240,12 @@ fn serve_listening<K: StateRepresentation, W: Runner>(
     let reason = Cell::new(None);
     let output = console::output(rt, &reason)?;
     let chunk = vec![in rt.alloc(); 0; AT_ONCE]?;
-    let mut source = ListeningSource::new(rt.alloc(), rt.stdin(), &watch, teller, chunk);
+    let unread = Cell::new(None);
+    let input = Remembering {
+        device: rt.stdin(),
+        reason: &unread,
+    };
+    let mut source = ListeningSource::new(rt.alloc(), input, &watch, teller, chunk);
     let mut sink = ListeningSink {
         sink: output,
         watch: &watch,
@@ -273,6 +260,7 @@ fn serve_listening<K: StateRepresentation, W: Runner>(
         format,
     );
     let end = with_reason(voice, &reason, end);
+    let end = with_read_reason(voice, "standard input", &unread, end);
     source.tell();
     if end.is_ok() && source.is_stopped() {
         return Err(Fault::Step);
@@ -309,9 +297,7 @@ fn run_import<'a>(rt: &'a HostRuntime, matches: &ArgMatches<'a>) -> Result<(), F
         unit,
     };
     let voice = Voice::new(rt, matches);
-    let path = matches.get_str("FILE");
-    voice.say_what_is_read("trace", path.is_some());
-    let trace = console::trace(rt, voice, path)?;
+    let trace = console::trace(rt, voice, matches.get_str("FILE"))?;
     let reason = Cell::new(None);
     let mut sink = console::output(rt, &reason)?;
     let end = import(rt.alloc(), &trace, options, &mut sink);

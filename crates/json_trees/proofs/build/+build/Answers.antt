@@ -1,4 +1,4 @@
-use Rattle.std.proofs.Common.{◌≡◌, ◌-◌, [], ◌∷◌, ◌++◌, length, map, Some, None, Err, refl, sym, ap, ap₂, ◌∙◌, append_assoc, option_map, arith}
+use Rattle.std.proofs.Common.{◌≡◌, ◌-◌, [], ◌∷◌, length, Some, None, Err, refl, ap, ap₂, ◌∙◌, arith}
 use Rattle.std.proofs.lemmas.Result.{err_from_is_err_and}
 use Rattle.json_trees.specs.declared.unread.Unread.TheVariants.{NotJson}
 use Rattle.json.specs.Json as json
@@ -8,15 +8,14 @@ use Rattle.json.specs.Reads.{token_of}
 use Rattle.json.proofs.Grammar.{value_is, value-begin_array, value-begin_object, read_key-shorter}
 use Rattle.serde_json.specs.Data as values
 use Rattle.serde_json.specs.Read.{of_json, converted}
-use Rattle.serde_json.specs.View.{number_view}
-use Rattle.json_trees.specs.Cells.{array_cell, cell, number_cell, object_cell}
+use Rattle.json_trees.specs.Cells.{array_cell, object_cell}
 use Rattle.json_trees.proofs.Reading.{converted-array, converted-object, on_ok}
-use Rattle.json_trees.proofs.Building.{no_items_yet, item_added, item_is_none, array_closed, no_members_yet, member_added, member_is_none, key_is_none, object_closed, one_value_more, one_node_more, array_has, object_has}
+use Rattle.json_trees.proofs.Building.{no_items_yet, item_added, item_is_none, array_closed, no_members_yet, member_added, member_is_none, key_is_none, object_closed, added_len, both_added, node_added, number_has, array_has, object_has}
 use Rattle.json_trees.proofs.build.+build.Goals as goal
 
 pub add_array-items-init : goal.add_array-items-init
 add_array-items-init t c =
-    ([], no_items_yet (value c.args.depth) c.args.reader.now, one_node_more c.args.nodes.now.items c.push.new.nodes.items _ c.in_ok-push.ensures.ok, c.len-at.ensures ∙ c.args.nodes.now.ok.0)
+    ([], no_items_yet (value c.args.depth) c.args.reader.now, node_added c.args.nodes.now c.push.new.self _ _ (λ ts. refl) c.in_ok-push.ensures.texts c.in_ok-push.ensures.ok, c.len-at.ensures ∙ c.args.nodes.now.list.ok.0)
 
 pub add_array-items-preserved : goal.add_array-items-preserved
 add_array-items-preserved t c =
@@ -28,7 +27,7 @@ add_array-items-preserved t c =
     let r = c.add_value.new.reader in (
       _,
       item_added (value c.args.depth) c.args.reader.now l.reader r i.0 j i.1 going.0 (rw (← going.1) done.ok.1) done.ok.2 (rw (← going.1) done.shorter),
-      one_value_more c.args.nodes.now.items l.nodes.items c.add_value.new.nodes.items (array_cell 0) i.0 _ i.2 done.ok.3,
+      both_added c.args.nodes.now l.nodes c.add_value.new.nodes _ _ i.2 done.ok.3,
       i.3,
     )
 
@@ -41,15 +40,27 @@ add_array-returns-in_err-add_value-clause-not_json t c = λ e.
     let same : Err c.in_err-add_value.field-0.0 ≡ Err NotJson = cc in
     item_is_none (value c.args.depth) c.args.reader.now l.reader i.0 i.1 going.0 (rw (← going.1) (c.in_err-add_value.ensures.not_json same))
 
+pub add_array-span_from-requires : goal.add_array-span_from-requires
+add_array-span_from-requires t c =
+    let i = c.items.invariant in
+    let len = added_len c.args.nodes.now c.items.nodes (array_cell 0) i.0 i.2 in
+    omega (arith, len, i.3)
+
+pub add_array-index_mut-requires : goal.add_array-index_mut-requires
+add_array-index_mut-requires t c =
+    let i = c.items.invariant in
+    let len = added_len c.args.nodes.now c.items.nodes (array_cell 0) i.0 i.2 in
+    omega (arith, len, i.3, c.items.nodes.list.ok.0)
+
 pub add_array-returns-clause-ok : goal.add_array-returns-clause-ok
 add_array-returns-clause-ok t c =
     let l = c.items in
     let i = l.invariant in
-    array_closed (value c.args.depth) c.args.reader.now l.reader c.take_end_array.new.self i.0 c.args.nodes.now.items l.nodes.items c.len-at.result (c.len.result - c.len-at.result) i.1 (grind arith) i.2 i.3 (ap (λ k. k - c.len-at.result) (c.len.ensures ∙ l.nodes.ok.0))
+    array_closed (value c.args.depth) c.args.reader.now l.reader c.take_end_array.new.self i.0 c.args.nodes.now l.nodes c.len-at.result _ i.1 (grind arith) i.2 i.3 c.span_from.ensures
 
 pub add_object-members-init : goal.add_object-members-init
 add_object-members-init t c =
-    ([], no_members_yet (value c.args.depth) c.args.reader.now, one_node_more c.args.nodes.now.items c.push.new.nodes.items _ c.in_ok-push.ensures.ok, c.len-at.ensures ∙ c.args.nodes.now.ok.0)
+    ([], no_members_yet (value c.args.depth) c.args.reader.now, node_added c.args.nodes.now c.push.new.self _ _ (λ ts. refl) c.in_ok-push.ensures.texts c.in_ok-push.ensures.ok, c.len-at.ensures ∙ c.args.nodes.now.list.ok.0)
 
 pub add_object-returns-in_default-clause-not_json : goal.add_object-returns-in_default-clause-not_json
 add_object-returns-in_default-clause-not_json t c = λ e.
@@ -68,11 +79,10 @@ add_object-members-preserved t c =
     let r = c.add_value.new.reader in
     let key_less = read_key-shorter l.reader (Some k) c.next_key.new.self named in
     let value_less = done.shorter in
-    let with_key = one_value_more c.args.nodes.now.items l.nodes.items c.push-in-members.new.nodes.items (object_cell 0) i.0 _ i.2 (one_node_more l.nodes.items c.push-in-members.new.nodes.items _ c.in_ok-push-2.ensures.ok) in
-    let both = one_value_more c.args.nodes.now.items c.push-in-members.new.nodes.items c.add_value.new.nodes.items (object_cell 0) _ _ with_key done.ok.3 in (
+    let member = both_added l.nodes c.add_key.new.self c.add_value.new.nodes _ _ c.in_ok-add_key.ensures.ok done.ok.3 in (
       _,
       member_added (value c.args.depth) c.args.reader.now l.reader c.next_key.new.self r i.0 k j i.1 named done.ok.1 done.ok.2 (omega (arith, key_less, value_less)),
-      both ∙ ap (λ cs. map cell c.args.nodes.now.items ++ object_cell 0 ∷ cs) (append_assoc i.0 _ _),
+      both_added c.args.nodes.now l.nodes c.add_value.new.nodes _ _ i.2 member,
       i.3,
     )
 
@@ -86,11 +96,23 @@ add_object-returns-in_err-add_value-clause-not_json t c = λ e.
     let same : Err c.in_err-add_value.field-0.0 ≡ Err NotJson = cc in
     member_is_none (value c.args.depth) c.args.reader.now l.reader c.next_key.new.self i.0 k i.1 named (c.in_err-add_value.ensures.not_json same)
 
+pub add_object-span_from-requires : goal.add_object-span_from-requires
+add_object-span_from-requires t c =
+    let i = c.members.invariant in
+    let len = added_len c.args.nodes.now c.members.nodes (object_cell 0) i.0 i.2 in
+    omega (arith, len, i.3)
+
+pub add_object-index_mut-requires : goal.add_object-index_mut-requires
+add_object-index_mut-requires t c =
+    let i = c.members.invariant in
+    let len = added_len c.args.nodes.now c.members.nodes (object_cell 0) i.0 i.2 in
+    omega (arith, len, i.3, c.members.nodes.list.ok.0)
+
 pub add_object-returns-clause-ok : goal.add_object-returns-clause-ok
 add_object-returns-clause-ok t c =
     let l = c.members in
     let i = l.invariant in
-    object_closed (value c.args.depth) c.args.reader.now l.reader c.next_key.new.self i.0 c.args.nodes.now.items l.nodes.items c.len-at.result (c.len.result - c.len-at.result) i.1 (grind arith) i.2 i.3 (ap (λ k. k - c.len-at.result) (c.len.ensures ∙ l.nodes.ok.0))
+    object_closed (value c.args.depth) c.args.reader.now l.reader c.next_key.new.self i.0 c.args.nodes.now l.nodes c.len-at.result _ i.1 (grind arith) i.2 i.3 c.span_from.ensures
 
 pub add_value-returns-in_default-clause-not_json : goal.add_value-returns-in_default-clause-not_json
 add_value-returns-in_default-clause-not_json t c = λ e.
@@ -115,35 +137,33 @@ pub add_value-returns-in-String-clause-ok : goal.add_value-returns-in-String-cla
 add_value-returns-in-String-clause-ok t c =
     let first : c.args.reader.now ≡ token_of c.in-Some.token ∷ c.next.new.self = grind arith in
     let is = ap (value c.args.depth) (first ∙ ap (λ k. token_of k ∷ c.next.new.self) c.in-String.is) ∙ value_is c.args.depth (Token.string c.in-String.text.now ∷ c.next.new.self) in
-    on_ok c.push.result (λ h. (json.string c.in-String.text.now, is, (values.string c.in-String.text.now, refl), one_node_more c.args.nodes.now.items c.push.new.nodes.items _ h)) c.push.ensures.ok
+    on_ok c.add_string.result (λ h. (json.string c.in-String.text.now, is, (values.string c.in-String.text.now, refl), h)) c.add_string.ensures.ok
 
-pub add_value-returns-in-Some-number_of-clause-ok : goal.add_value-returns-in-Some-number_of-clause-ok
-add_value-returns-in-Some-number_of-clause-ok t c =
+pub add_value-returns-in-Number-clause-ok : goal.add_value-returns-in-Number-clause-ok
+add_value-returns-in-Number-clause-ok t c =
     let first : c.args.reader.now ≡ token_of c.in-Some.token ∷ c.next.new.self = grind arith in
     let s = c.in-Number.text.now in
-    let n = number_view c.in-Some-number_of.number in
     let is = ap (value c.args.depth) (first ∙ ap (λ k. token_of k ∷ c.next.new.self) c.in-Number.is) ∙ value_is c.args.depth (Token.number s ∷ c.next.new.self) in
-    on_ok c.push-in-Some-number_of.result
-    (λ h. (json.number s, is, (values.number n, ap (option_map values.number) (sym c.in-Some-number_of.ensures)), one_node_more c.args.nodes.now.items c.push-in-Some-number_of.new.nodes.items _ h ∙ ap (λ o. map cell c.args.nodes.now.items ++ number_cell o ∷ []) c.in-Some-number_of.ensures))
-    c.push-in-Some-number_of.ensures.ok
+    on_ok c.add_number.result (λ h. (json.number s, is, number_has s h.0, h.1)) c.add_number.ensures.ok
 
-pub add_value-returns-in-None-clause-not_json : goal.add_value-returns-in-None-clause-not_json
-add_value-returns-in-None-clause-not_json t c = λ e.
+pub add_value-returns-in-Number-clause-not_json : goal.add_value-returns-in-Number-clause-not_json
+add_value-returns-in-Number-clause-not_json t c = λ e.
     let first : c.args.reader.now ≡ token_of c.in-Some.token ∷ c.next.new.self = grind arith in
-    let is : c.args.reader.now ≡ Token.number c.in-Number.text.now ∷ c.next.new.self = grind (arith, first) in
-    ap (converted of_json) (ap (value c.args.depth) is ∙ value_is c.args.depth _) ∙ rw (← c.in-None.ensures) refl
+    let is : c.args.reader.now ≡ Token.number c.in-Number.text.now ∷ c.next.new.self = first ∙ ap (λ k. token_of k ∷ c.next.new.self) c.in-Number.is in
+    ap (converted of_json) (ap (value c.args.depth) is ∙ value_is c.args.depth _) ∙ rw (c.add_number.ensures.not_json e) refl
 
 pub add_value-returns-in-Bool-clause-ok : goal.add_value-returns-in-Bool-clause-ok
 add_value-returns-in-Bool-clause-ok t c =
     let first : c.args.reader.now ≡ token_of c.in-Some.token ∷ c.next.new.self = grind arith in
     let is = ap (value c.args.depth) (first ∙ ap (λ k. token_of k ∷ c.next.new.self) c.in-Bool.is) ∙ value_is c.args.depth (Token.boolean c.in-Bool.flag ∷ c.next.new.self) in
-    on_ok c.push-in-Bool.result (λ h. (json.boolean c.in-Bool.flag, is, (values.boolean c.in-Bool.flag, refl), one_node_more c.args.nodes.now.items c.push-in-Bool.new.nodes.items _ h)) c.push-in-Bool.ensures.ok
+    let same = c.push.ensures.texts in
+    on_ok c.push.result (λ h. (json.boolean c.in-Bool.flag, is, (values.boolean c.in-Bool.flag, refl), node_added c.args.nodes.now c.push.new.self _ _ (λ ts. refl) same h)) c.push.ensures.ok
 
 pub add_value-returns-in-Null-clause-ok : goal.add_value-returns-in-Null-clause-ok
 add_value-returns-in-Null-clause-ok t c =
     let first : c.args.reader.now ≡ token_of c.in-Some.token ∷ c.next.new.self = grind arith in
     let is = ap (value c.args.depth) (first ∙ ap (λ k. token_of k ∷ c.next.new.self) c.in-Null.is) ∙ value_is c.args.depth (Token.null ∷ c.next.new.self) in
-    on_ok c.push-in-Null.result (λ h. (json.null, is, (values.null, refl), one_node_more c.args.nodes.now.items c.push-in-Null.new.nodes.items _ h)) c.push-in-Null.ensures.ok
+    on_ok c.push-in-Null.result (λ h. (json.null, is, (values.null, refl), node_added c.args.nodes.now c.push-in-Null.new.self _ _ (λ ts. refl) c.push-in-Null.ensures.texts h)) c.push-in-Null.ensures.ok
 
 pub add_value-returns-in-EndObject-clause-not_json : goal.add_value-returns-in-EndObject-clause-not_json
 add_value-returns-in-EndObject-clause-not_json t c = λ e.

@@ -1,10 +1,9 @@
-use Rattle.std.proofs.Common.{◌≡◌, ◌<◌, ℕ, true, false, List, Option, None, Some, length, sym, ap, ◌∙◌, subst, arith, get_or}
+use Rattle.std.proofs.Common.{◌≡◌, ◌<◌, ℕ, true, false, List, None, Some, length, sym, ap, ◌∙◌, subst, arith, get_or}
 use Rattle.stage_graph.specs.Walk.{rank}
-use Rattle.std.specs.Prelude.{is_some, map, slice_index}
+use Rattle.std.specs.Prelude.{is_some, map}
 use Rattle.stage_ops.specs.declared.state.State.{State}
 use Rattle.stage_ops.specs.States.{seen_at, state_at}
 use Rattle.propagate.specs.Completions.{differ}
-use Rattle.propagate.specs.Recent.{AllPass, is_met}
 use Rattle.propagate.specs.Telling.{is_another}
 use Rattle.rank_order.specs.Marks.{is_marked, AreMarks}
 use Rattle.propagate.proofs.Preparing.{mapped_at}
@@ -37,11 +36,7 @@ loop-at-preserved g c =
                 ∙ w.in_ok-mark_readers.ensures.marked place
                 ∙ told_more stages (state_at states) state level i place (omega arith) (is_marked (rank stages) c.args.marks.now place) (is_marked (rank stages) c.loop-at.marks place)
                 (inv.marked state same place) (sym (finds state same) ∙ some);
-            marks = λ are. subst (λ (marks : List (ℕ × ℕ)). AreMarks (rank stages) marks) (sym w.marks-is) (w.in_ok-mark_readers.ensures.marks (inv.marks are));
-            recent =
-                subst (λ (slots : List (Option ℕ)). AllPass (is_met (rank stages) c.match-index.marks (rank stages (slice_index level 0))) slots) (sym w.recent-is)
-                (subst (λ (marks : List (ℕ × ℕ)). AllPass (is_met (rank stages) marks (rank stages (slice_index level 0))) w.mark_readers.new.recent) (sym w.marks-is)
-                (subst (λ (r : ℕ). AllPass (is_met (rank stages) w.mark_readers.new.marks r) w.mark_readers.new.recent) (c.requires.level i 0 (omega arith)) w.in_ok-mark_readers.ensures.recent));
+            marks = subst (λ (marks : List (ℕ × ℕ)). AreMarks (rank stages) marks) (sym w.marks-is) (w.in_ok-mark_readers.ensures.marks inv.marks);
           })
       | in_default w ↦
           (let none : is_some (get_or told i None) ≡ false = ap is_some (found ∙ w.in_default.is) in
@@ -50,9 +45,6 @@ loop-at-preserved g c =
                 ap (λ (marks : List (ℕ × ℕ)). is_marked (rank stages) marks place) w.marks-is
                 ∙ told_same stages (state_at states) state level i place (omega arith) (is_marked (rank stages) c.args.marks.now place) (is_marked (rank stages) c.loop-at.marks place)
                 (inv.marked state same place) (sym (finds state same) ∙ none);
-            marks = λ are. subst (λ (marks : List (ℕ × ℕ)). AreMarks (rank stages) marks) (sym w.marks-is) (inv.marks are);
-            recent =
-                subst (λ (slots : List (Option ℕ)). AllPass (is_met (rank stages) c.match-index.marks (rank stages (slice_index level 0))) slots) (sym w.recent-is)
-                (subst (λ (marks : List (ℕ × ℕ)). AllPass (is_met (rank stages) marks (rank stages (slice_index level 0))) c.loop-at.recent) (sym w.marks-is) inv.recent);
+            marks = subst (λ (marks : List (ℕ × ℕ)). AreMarks (rank stages) marks) (sym w.marks-is) inv.marks;
           })
     ]

@@ -1,12 +1,11 @@
 use Rattle.std.proofs.Common.{◌≡◌, ℕ, ◌||◌, take}
-use Rattle.std.specs.Prelude.{Some, map, slice_index}
+use Rattle.std.specs.Prelude.{Some, map}
 use Rattle.std.specs.List.{list_any}
 use Rattle.stage_graph.specs.Walk.{rank}
 use Rattle.stage_ops.specs.declared.state.State.{State}
 use Rattle.stage_ops.specs.States.{state_at}
 use Rattle.rank_order.specs.Marks.{AreMarks, is_marked}
 use Rattle.propagate.specs.Reach.{is_told}
-use Rattle.propagate.specs.Recent.{AllPass, is_met}
 use Rattle.propagate.proofs.readers.mark_level.Given as goal
 
 -- the marks from before, and the readers of the places so far that changed
@@ -16,6 +15,5 @@ invariant-loop-at g l =
     record {
       marked : (state : ℕ → State) → l.results ≡ map (λ place. Some (state place)) l.level → (place : ℕ)
           → is_marked (rank stages) l.marks place ≡ (is_marked (rank stages) l.fn.marks place || list_any (is_told stages (state_at l.states) state place) (take l.at l.level));
-      marks : AreMarks (rank stages) l.fn.marks → AreMarks (rank stages) l.marks;
-      recent : AllPass (is_met (rank stages) l.marks (rank stages (slice_index l.level 0))) l.recent;
+      marks : AreMarks (rank stages) l.marks;
     }

@@ -29,8 +29,7 @@ loop-dependent-preserved g c =
           c.in_ok-mark_reader.ensures.marked place
           ∙ ap (λ b. b || (reads_it dependent && place == dependent)) (inv.marked place)
           ∙ readers_next reads_it listed i place (is_marked (rank stages) c.args.marks.now place) (omega arith);
-      marks = λ are. c.in_ok-mark_reader.ensures.marks (inv.marks are);
-      recent = c.in_ok-mark_reader.ensures.recent;
+      marks = c.in_ok-mark_reader.ensures.marks inv.marks;
     }
 
 pub returns-clause-marked : goal.returns-clause-marked

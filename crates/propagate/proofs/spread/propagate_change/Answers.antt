@@ -1,5 +1,5 @@
-use Rattle.std.proofs.Common.{true, ◌≡◌, ◌≢◌, ℕ, ◌+◌, ◌<◌, ◌≤◌, Bool, List, length, sym, ap, ◌∙◌, subst, refl, arith}
-use Rattle.std.specs.Prelude.{◌&&◌, is_some, slice_index}
+use Rattle.std.proofs.Common.{◌≡◌, ◌≢◌, ℕ, ◌+◌, ◌<◌, ◌≤◌, Bool, List, length, sym, ap, ◌∙◌, subst, refl, arith}
+use Rattle.std.specs.Prelude.{◌&&◌, is_some}
 use Rattle.stage_graph.specs.Plain.{PlainGraph, stage_at}
 use Rattle.stage_graph.specs.Sound.{IsSound}
 use Rattle.stage_graph.specs.Walk.{IsRanked, rank}
@@ -9,15 +9,12 @@ use Rattle.scratch_eval.proofs.Evaluating.{moments_follow_ranks}
 use Rattle.rank_order.specs.Lists.{is_among}
 use Rattle.std.proofs.lemmas.Bool.{true≢false}
 use Rattle.rank_order.specs.Marks.{is_marked, AreMarks, IsLevel}
-use Rattle.propagate.specs.Recent.{is_met}
 use Rattle.propagate.specs.Reach.{Stages, IsChange, touched}
 use Rattle.rank_order.proofs.Marking.{none_marked, marks_left}
 use Rattle.propagate.proofs.Outcomes.{on_err}
 use Rattle.propagate.proofs.Steps.{IsRankedChange, IsProgress}
 use Rattle.propagate.proofs.Turns.{first_turn, live_feeds, in_time, within_touched, states_in_time, all_in_time, live_places, climbs, level_live, level_results, level_done, level_touched, level_in_graph, ended, touched_all}
 use Rattle.propagate.proofs.Runs.{stays_untouched}
-use Rattle.propagate.proofs.Members.{among_append_right}
-use Rattle.propagate.proofs.Remembered.{is_known, all_still, known_met, met_known, first_among, of_one_rank}
 use Rattle.propagate.proofs.spread.propagate_change.Goals as goal
 
 ranked_change : (old new : PlainGraph) (edited : ℕ → Bool) → IsRanked old.places → IsRanked new.places → IsSound new → IsChange old.places new.places edited → IsRankedChange old.places new.places edited
@@ -43,7 +40,6 @@ loop-alloc-init g c =
           (subst (λ (graph : PlainGraph). (place : ℕ) → is_marked (rank graph.places) marks place ≡ (is_some (stage_at graph.places place) && is_among place c.args.edited.now)) c.requires.order c.in_ok-marks.ensures.marked));
       marks = subst (λ (graph : PlainGraph). AreMarks (rank graph.places) marks) c.requires.order c.in_ok-marks.ensures.marks;
       count = c.in_ok-states.ensures.count;
-      recent = c.new-recent.ensures (is_known stages marks c.new-touched.result.items);
       counted = omega (arith, c.new-touched.ensures.len);
     }
 
@@ -116,24 +112,10 @@ mark_level-requires-clause-within g c κs borrowed =
     let one = level_of stages c.loop-alloc.marks c.take_level.new.self c.take_level.new.level.items c.as_slice-level.result.now c.as_slice-level.ensures.value (c.in_ok-take_level.ensures.level (rank stages) inv.marks) in
     live_places stages c.loop-alloc.states c.as_slice-level.result.now inv.count (level_live law edit inv.progress one)
 
-pub mark_level-requires-clause-level : goal.mark_level-requires-clause-level
-mark_level-requires-clause-level g c κs borrowed =
+pub mark_level-requires-clause-marks : goal.mark_level-requires-clause-marks
+mark_level-requires-clause-marks g c κs borrowed =
     let stages = c.args.graph.now.places in
-    let inv = c.loop-alloc.invariant in
-    let one = level_of stages c.loop-alloc.marks c.take_level.new.self c.take_level.new.level.items c.as_slice-level.result.now c.as_slice-level.ensures.value (c.in_ok-take_level.ensures.level (rank stages) inv.marks) in
-    of_one_rank stages c.as_slice-level.result.now (is_marked (rank stages) c.loop-alloc.marks) (is_marked (rank stages) c.take_level.new.self) one
-
-pub mark_level-requires-clause-recent : goal.mark_level-requires-clause-recent
-mark_level-requires-clause-recent g c κs borrowed =
-    let stages = c.args.graph.now.places in
-    let inv = c.loop-alloc.invariant in
-    let one = level_of stages c.loop-alloc.marks c.take_level.new.self c.take_level.new.level.items c.as_slice-level.result.now c.as_slice-level.ensures.value (c.in_ok-take_level.ensures.level (rank stages) inv.marks) in
-    let filled : 0 < length c.loop-alloc.marks = let differ : length c.loop-alloc.marks ≢ 0 = λ none. true≢false (sym (c.is_empty.ensures.1 none) ∙ c.loop-alloc-test.true) in omega arith in
-    let some : 0 < length c.as_slice-level.result.now = omega (arith, c.in_ok-take_level.ensures.some filled, ap length c.as_slice-level.ensures.value) in
-    let first = slice_index c.as_slice-level.result.now 0 in
-    all_still (is_known stages c.loop-alloc.marks c.loop-alloc.touched.items) (is_met (rank stages) c.take_level.new.self (rank stages first)) c.loop-alloc.recent
-    (λ place. known_met stages c.loop-alloc.marks c.take_level.new.self c.loop-alloc.touched.items c.as_slice-level.result.now first place one inv.progress.before (first_among c.as_slice-level.result.now some))
-    inv.recent
+    marks_left c.loop-alloc.marks c.take_level.new.self c.in_ok-take_level.ensures.left (rank stages) c.loop-alloc.invariant.marks
 
 pub write_level-requires-clause-within : goal.write_level-requires-clause-within
 write_level-requires-clause-within g c κs borrowed =
@@ -211,9 +193,6 @@ loop-alloc-preserved g c =
     let edit = ranked_change c.args.old.now c.args.graph.now (λ place. is_among place c.args.edited.now) c.requires.old_ranked c.requires.ranked c.requires.sound c.requires.change in
     let one = level_of stages c.loop-alloc.marks c.take_level.new.self c.take_level.new.level.items c.as_slice-level.result.now c.as_slice-level.ensures.value (c.in_ok-take_level.ensures.level (rank stages) inv.marks) in
     let step = (g.O.StageOps.step c.args.ops.now c.args.graph.now.mode) in
-    let level = c.as_slice-level.result.now in
-    let filled : 0 < length c.loop-alloc.marks = let differ : length c.loop-alloc.marks ≢ 0 = λ none. true≢false (sym (c.is_empty.ensures.1 none) ∙ c.loop-alloc-test.true) in omega arith in
-    let some : 0 < length c.as_slice-level.result.now = omega (arith, c.in_ok-take_level.ensures.some filled, ap length c.as_slice-level.ensures.value) in
     let same = level_results law edit inv.progress one c.in_ok-results.results.items c.in_ok-results.ensures.states in
     record {
       progress =
@@ -223,12 +202,6 @@ loop-alloc-preserved g c =
           (c.in_ok-mark_level.ensures.marked (at step stages) (c.as_slice.ensures.value ∙ same)) (c.in_ok-write_level.ensures.states (at step stages) (c.as_mut_slice.ensures.value ∙ same)));
       marks = c.in_ok-mark_level.ensures.marks (marks_left c.loop-alloc.marks c.take_level.new.self c.in_ok-take_level.ensures.left (rank stages) inv.marks);
       count = c.in_ok-write_level.ensures.count ∙ inv.count;
-      recent =
-          all_still (is_met (rank stages) c.mark_level.new.marks (rank stages (slice_index level 0))) (is_known stages c.mark_level.new.marks c.extend_from_slice.new.self.items) c.mark_level.new.recent
-          (λ place. met_known stages c.mark_level.new.marks c.extend_from_slice.new.self.items (slice_index level 0) place
-          (subst (λ (computed : List ℕ). is_among (slice_index level 0) computed ≡ true) (sym c.in_ok-extend_from_slice.ensures.items)
-          (among_append_right (slice_index level 0) c.loop-alloc.touched.items level (first_among level some))))
-          c.in_ok-mark_level.ensures.recent;
       counted = omega (arith, inv.counted, c.in_ok-results.ensures.counted, c.in_ok-extend_from_slice.ensures.len);
     }
 

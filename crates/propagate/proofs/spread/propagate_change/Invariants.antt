@@ -3,9 +3,7 @@ use Rattle.stage_graph.specs.Walk.{rank}
 use Rattle.stage_ops.specs.States.{state_at}
 use Rattle.rank_order.specs.Lists.{is_among}
 use Rattle.rank_order.specs.Marks.{AreMarks, is_marked}
-use Rattle.propagate.specs.Recent.{AllPass}
 use Rattle.propagate.proofs.Steps.{IsProgress}
-use Rattle.propagate.proofs.Remembered.{is_known}
 use Rattle.propagate.proofs.spread.propagate_change.Given as goal
 
 abbrev pub invariant-loop-alloc : goal.invariant-loop-alloc
@@ -15,7 +13,6 @@ invariant-loop-alloc g l =
       progress : IsProgress (g.O.StageOps.step l.ops l.graph.mode) l.old.places stages (λ place. is_among place l.edited) l.touched.items (is_marked (rank stages) l.marks) (state_at l.states);
       marks : AreMarks (rank stages) l.marks;
       count : length l.states ≡ length stages;
-      recent : AllPass (is_known stages l.marks l.touched.items) l.recent;
       counted : l.meter ≡ l.fn.meter + vec_len l.touched;
     }
 

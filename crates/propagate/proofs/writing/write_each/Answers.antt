@@ -1,4 +1,4 @@
-use Rattle.std.proofs.Common.{◌<◌, length, sym, ap, ◌∙◌, arith}
+use Rattle.std.proofs.Common.{◌<◌, length, sym, ◌∙◌, arith}
 use Rattle.std.proofs.Math.ListN.{length-set}
 use Rattle.propagate.proofs.Writes.{drop_set, written_none, written_some, written_end}
 use Rattle.propagate.proofs.writing.write_each.Goals as goal

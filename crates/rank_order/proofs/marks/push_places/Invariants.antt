@@ -1,5 +1,6 @@
 use Rattle.std.proofs.Common.{◌≡◌, ◌+◌, ◌++◌, ◌≤◌, map, take, heap_items, vec_len, vec_capacity}
-use Rattle.rank_order.specs.MarkHeaps.{marks_in, place_of}
+use Rattle.rank_order.specs.Marks.{place_of}
+use Rattle.rank_order.specs.MarkHeaps.{marks_in}
 use Rattle.rank_order.proofs.marks.push_places.Given as goal
 
 abbrev pub invariant-loop-mark : goal.invariant-loop-mark

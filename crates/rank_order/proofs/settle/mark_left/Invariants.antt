@@ -8,5 +8,5 @@ invariant-loop-place g l =
     let before = slice_index (g.K.Keeps.items l.before) in
     record {
       marked : (place : ℕ) → is_marked before l.marks place ≡ (is_marked before l.fn.marks place || (is_among place (take l.place-index l.places) && not (is_among place l.out)));
-      marks : AreMarks before l.fn.marks → AreMarks before l.marks;
+      marks : AreMarks before l.marks;
     }

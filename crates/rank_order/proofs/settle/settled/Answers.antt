@@ -5,7 +5,7 @@ use Rattle.stage_graph.specs.Plain.{feeds_at}
 use Rattle.rank_order.specs.Lists.{is_among}
 use Rattle.rank_order.specs.Marks.{is_marked, IsFirst}
 use Rattle.rank_order.specs.Ranking.{feeds_left}
-use Rattle.rank_order.proofs.Marking.{none_marked, no_marks, marks_left}
+use Rattle.rank_order.proofs.Marking.{none_marked, marks_left}
 use Rattle.rank_order.proofs.Listed.{among_dependents}
 use Rattle.rank_order.proofs.Members.{among_contains}
 use Rattle.rank_order.proofs.PutBack.{left_dependent, traced_in}
@@ -22,7 +22,7 @@ loop-turn-init g c =
           (is_marked before c.mark_left.new.marks)
           (λ place. only_these (is_marked before c.new-marks.result place) (is_marked before c.mark_left.new.marks place) (is_among place c.args.moved.now) (none_marked c.new-marks.result (ap length c.new-marks.ensures) (before place) place) (c.in_ok-mark_left.ensures.marked place))
           c.requires.moved c.requires.small);
-      marks = c.in_ok-mark_left.ensures.marks (no_marks c.new-marks.result (ap length c.new-marks.ensures) before);
+      marks = c.in_ok-mark_left.ensures.marks;
       long = rw c.in_ok-ranks.ensures c.requires.long;
     }
 
@@ -136,6 +136,6 @@ loop-turn-preserved g c =
           (λ same. c.if-rank-was.false (c.rank_left-rank.ensures ∙ same ∙ kept ∙ sym c.rank_at-was.ensures)) its_dependents c.in_default-first_stop.ensures.none
           (λ other. ap (λ xs. slice_index xs other) c.in_ok-write.ensures.ok ∙ rank_set ranks place rank within other ∙ ap (λ r. if other == place then r else slice_index ranks other) c.rank_left-rank.ensures)
           c.in_ok-mark_left-2.ensures.marked);
-      marks = c.in_ok-mark_left-2.ensures.marks (marks_left c.loop-turn.marks c.pop_first.new.self c.in-Some.ensures.left before inv.marks);
+      marks = c.in_ok-mark_left-2.ensures.marks;
       long = ap length c.in_ok-write.ensures.ok ∙ length-set ranks place rank ∙ inv.long;
     }

@@ -1,11 +1,10 @@
 use Rattle.std.proofs.Common.{◌∷◌, [], ◌++◌, take}
 use Rattle.std.specs.Prelude.{filter_map}
 use Rattle.json.specs.Token.{begin_array}
-use Rattle.report_json.specs.declared.entry.Entry.TheVariants.{Step}
-use Rattle.report_json.specs.Entries.{entry_at}
+use Rattle.report_json.specs.Entries.{entry_at, step_entry}
 use Rattle.report_json.specs.Tokens.{TellsItems}
 use Rattle.report_json.proofs.line_path.push_steps.Given as goal
 
 -- those so far
 abbrev pub invariant-loop-place : goal.invariant-loop-place
-invariant-loop-place g l = TellsItems (filter_map (entry_at Step l.version l.version) (take l.place-index l.places)) (l.fn.line ++ begin_array ∷ []) l.line
+invariant-loop-place g l = TellsItems (filter_map (entry_at step_entry l.version l.version) (take l.place-index l.places)) (l.fn.line ++ begin_array ∷ []) l.line

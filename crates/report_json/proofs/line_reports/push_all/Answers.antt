@@ -2,8 +2,7 @@ use Rattle.std.proofs.Common.{◌∷◌, [], ap, codes, refl, ◌∙◌}
 use Rattle.stage_graph.specs.Plain.{PlainGraph}
 use Rattle.version_store.specs.Plain.{parent_of}
 use Rattle.report_text.specs.Texts.{mode_text}
-use Rattle.report_json.specs.declared.entry.Entry.TheVariants.{State}
-use Rattle.report_json.specs.Entries.{entries}
+use Rattle.report_json.specs.Entries.{entries, state_entry}
 use Rattle.report_json.specs.Json.{count, optional, text}
 use Rattle.report_json.specs.Reports.{all_members, of_all_places}
 use Rattle.report_json.proofs.Pushed.{both_rows, member_is, named_told, next_row, one_row, report_told}
@@ -13,7 +12,7 @@ pub returns : goal.returns
 returns g c =
     let version = c.args.version.now in
     report_told c.end_object.result c.args.number (all_members version)
-    ((codes "mode", text (mode_text version.graph.mode)) ∷ (codes "parent", optional count (parent_of version)) ∷ (codes "report", text (codes "all")) ∷ (codes "stages", entries State version version (of_all_places version)) ∷ (codes "version", count version.number) ∷ [])
+    ((codes "mode", text (mode_text version.graph.mode)) ∷ (codes "parent", optional count (parent_of version)) ∷ (codes "report", text (codes "all")) ∷ (codes "stages", entries state_entry version version (of_all_places version)) ∷ (codes "version", count version.number) ∷ [])
     _ _ _ _ refl refl (λ line. refl) (λ line. refl) c.in_ok-begin_object.ensures
     (both_rows _ _ _ _ _ c.in_ok-push_number.ensures
     (next_row _ _ _ _ _ _

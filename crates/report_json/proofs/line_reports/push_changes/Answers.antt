@@ -1,8 +1,7 @@
 use Rattle.std.proofs.Common.{◌∷◌, [], ◌∙◌, ap, codes, refl}
 use Rattle.version_store.specs.Plain.{parent_of}
 use Rattle.version_store.specs.Queries.{touched_of}
-use Rattle.report_json.specs.declared.entry.Entry.TheVariants.{Change}
-use Rattle.report_json.specs.Entries.{entries}
+use Rattle.report_json.specs.Entries.{change_entry, entries}
 use Rattle.report_json.specs.Json.{count, optional, text}
 use Rattle.report_json.specs.Reports.{changes_members}
 use Rattle.report_json.proofs.Pushed.{both_rows, member_is, named_told, next_row, one_row, report_told}
@@ -12,7 +11,7 @@ pub returns : goal.returns
 returns g c =
     let version = c.args.version.now in
     report_told c.end_object.result c.args.number (changes_members version)
-    ((codes "parent", optional count (parent_of version)) ∷ (codes "report", text (codes "changes")) ∷ (codes "stages", entries Change version version (touched_of version)) ∷ (codes "version", count version.number) ∷ [])
+    ((codes "parent", optional count (parent_of version)) ∷ (codes "report", text (codes "changes")) ∷ (codes "stages", entries change_entry version version (touched_of version)) ∷ (codes "version", count version.number) ∷ [])
     _ _ _ _ refl refl (λ line. refl) (λ line. refl) c.in_ok-begin_object.ensures
     (both_rows _ _ _ _ _ c.in_ok-push_number.ensures
     (next_row _ _ _ _ _ _
@@ -20,6 +19,6 @@ returns g c =
     (next_row _ _ _ _ _ _
     (one_row _ _ _ _ c.in_ok-push_parent.ensures)
     c.in_ok-text.ensures)
-    (member_is _ _ _ _ _ (ap (entries Change version version) c.touched.ensures.touched) (named_told _ _ _ _ _ c.in_ok-name.ensures c.in_ok-push_entries.ensures)))
+    (member_is _ _ _ _ _ (ap (entries change_entry version version) c.touched.ensures.touched) (named_told _ _ _ _ _ c.in_ok-name.ensures c.in_ok-push_entries.ensures)))
     (member_is _ _ _ _ _ (ap count (c.from.ensures ∙ c.number.ensures)) c.in_ok-count.ensures)))
     c.end_object.ensures

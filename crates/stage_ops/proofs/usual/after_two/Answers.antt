@@ -22,8 +22,8 @@ returns g c =
     let one = c.in_ok-first.first in
     let other = c.in_ok-second.second in
     let trigger_is = c.max-trigger.ensures ∙ ap (max one.moment) c.max.ensures in
-    let is = c.return_after.ensures ∙ ap (λ trigger. return_after stage trigger c.in_ok-value.value) trigger_is in
+    let is = c.return_after.ensures ∙ ap (λ trigger. return_after stage trigger c.in_ok-own.own) trigger_is in
     λ mode.
-    c.in_ok-value.ensures inputs c.args.first c.args.second one.moment other.moment c.requires.both
+    c.in_ok-own.ensures inputs c.args.first c.args.second one.moment other.moment c.requires.both
     (at_place inputs c.args.first one c.in_ok-first.ensures.source) (at_place inputs c.args.second other c.in_ok-second.ensures.source) mode
-    ∙ sym (ap (λ (returned : Returned). Completes (as_done returned)) is)
+    ∙ sym (ap (λ (returned : Returned). Completes (as_done mode returned)) is)

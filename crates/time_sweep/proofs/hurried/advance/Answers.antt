@@ -1,4 +1,4 @@
-use Rattle.std.proofs.Common.{◌≡◌, ◌∙◌, ◌++◌, ◌∷◌, [], ◌||◌, ◌&&◌, Bool, sym, ap, subst, length, arith}
+use Rattle.std.proofs.Common.{◌∙◌, ◌++◌, ◌∷◌, [], ◌||◌, ◌&&◌, Bool, ap, subst, arith}
 use Rattle.std.specs.Prelude.{is_some}
 use Rattle.stage_graph.specs.Plain.{feeds_at}
 use Rattle.stage_graph.specs.Sound.{IsSound}
@@ -31,13 +31,13 @@ returns-clause-list g c =
     let changes = c.args.changes.now in
     c.in_ok-set.ensures.list
     ∙ ap (λ (state : State). changes.list.items ++ (record { place = c.args.place; state = state }) ∷ [])
-    c.in_ok-state.ensures
+    c.in_ok-state.ensures.state
 
 pub returns-clause-marked : goal.returns-clause-marked
 returns-clause-marked g c other =
     let changes = c.args.changes.now in
     let places = c.args.version.now.graph.places in
-    let state_is = c.in_ok-state.ensures in
+    let state_is = c.in_ok-state.ensures.state in
     let told_is = c.differs-is_told.ensures
     ∙ ap (λ (was : State). differ (seen_of was) (seen_of c.in_ok-state.state)) c.at.ensures
     ∙ ap (λ (now : State). differ (seen_of (state_in c.args.before.now changes.at.items changes.list.items c.args.place)) (seen_of now)) state_is in

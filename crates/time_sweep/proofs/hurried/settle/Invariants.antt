@@ -1,4 +1,4 @@
-use Rattle.std.proofs.Common.{◌≡◌, ◌-◌, length}
+use Rattle.std.proofs.Common.{◌≡◌, ◌+◌, ◌-◌, length}
 use Rattle.std.specs.Prelude.{is_some}
 use Rattle.stage_graph.specs.Walk.{rank}
 use Rattle.stage_ops.specs.Java.{java_step}
@@ -17,6 +17,7 @@ invariant-loop-place g l =
           (is_marked (rank graph.places) l.marks) (state_in l.before l.changes.at.items l.changes.list.items);
       marks : AreMarks (rank graph.places) l.marks;
       each : length l.changes.at.items ≡ length graph.places;
+      counted : l.meter ≡ l.fn.meter + length l.changes.list.items;
     }
 
 -- each turn computes one more place

@@ -1,7 +1,3 @@
-use Rattle.std.proofs.Common.{◌∙◌, Some, subst, sym, ap}
-use Rattle.std.specs.Prelude.{IfSome}
-use Rattle.stage_graph.specs.Sound.{IsSoundStage}
-use Rattle.time_sweep.specs.declared.standing.Standing.{Standing}
 use Rattle.time_sweep.proofs.Stands.{its_sound_one, its_stage_none, its_stage_one}
 use Rattle.time_sweep.proofs.hurried.stage_at.Goals as goal
 

@@ -13,12 +13,12 @@ compute-state-requires-clause-sound g c =
     let now = c.args.now.now in
     subst (λ (count : ℕ). IsSoundAmong count c.args.stage.now) (sym (states_long now.before.now now.changes.now.at.items now.changes.now.list.items)) c.requires.sound
 
-pub returns : goal.returns
-returns g c =
+pub returns-clause-state : goal.returns-clause-state
+returns-clause-state g c =
     let now = c.args.now.now in
-    IfOk-weaker c.new-2.result _ _
+    IfOk-weaker c.new.result _ _
     (λ kept stored. stored
     ∙ c.compute-state.ensures
     ∙ ap (λ (mode : Mode). java_step mode c.args.stage.now (seen_at (state_at (states_in now.before.now now.changes.now.at.items now.changes.now.list.items)))) c.mode.ensures
     ∙ ap (λ (seen : ℕ → Option Completion). java_step c.args.graph.now.mode c.args.stage.now seen) (sees_same now.before.now now.changes.now.at.items now.changes.now.list.items c.requires.each))
-    c.new-2.ensures
+    c.new.ensures

@@ -16,5 +16,5 @@ invariant-loop-dependent g l =
     record {
       marked : (other : ℕ) → is_marked order l.marks other
           ≡ (is_marked order l.fn.marks other || among_readers (λ s. is_some (rank_in l.ranks s) && has_read stages (state_at l.before) l.place s) (take l.dependent-index l.dependents) other);
-      marks : AreMarks order l.fn.marks → AreMarks order l.marks;
+      marks : AreMarks order l.marks;
     }

@@ -1,4 +1,4 @@
-use Rattle.std.proofs.Common.{◌∙◌, ℕ, ap, arith, length, sym}
+use Rattle.std.proofs.Common.{ap, arith, length}
 use Rattle.stage_graph.specs.Plain.{PlainGraph}
 use Rattle.time_sweep.proofs.Stands.{all_places, none_first, one_more}
 use Rattle.time_sweep.proofs.standing.standing_of.Goals as goal

@@ -3,4 +3,4 @@ use Rattle.json_trees.proofs.Holding.{boolean_told}
 use Rattle.json_trees.proofs.tree.Tree.as_bool.Goals as goal
 
 pub returns : goal.returns
-returns c = c.as_bool.ensures ∙ boolean_told c.first.result.now c.args.self.now c.first.ensures
+returns c = c.as_bool.ensures c.first.result.1.now ∙ boolean_told c.first.result.1.now c.first.result.0.now c.args.self.now c.first.ensures

@@ -1,7 +1,9 @@
-use Rattle.std.proofs.Common.{subst}
-use Rattle.json_trees.proofs.Holding.{FirstTells, tells}
+use Rattle.std.proofs.Common.{get_or}
+use Rattle.json_trees.specs.declared.node.Node.TheVariants as node
+use Rattle.json_trees.proofs.Holding.{node_read, tells}
 use Rattle.json_trees.proofs.tree.Tree.first.Goals as goal
 
 pub returns : goal.returns
 returns c =
-    subst (λ n. FirstTells n c.args.self.now) c.index-self-0.is (tells c.self.inside.nodes.now c.index-self-0.result c.args.self.now c.self.invariant c.self.view_is c.index-self-0.is)
+    let nodes = c.self.inside.nodes.now in
+    tells c.self.inside.texts.now nodes (get_or nodes 0 node.Null) c.args.self.now c.self.invariant c.self.view_is (node_read nodes 0 node.Null)

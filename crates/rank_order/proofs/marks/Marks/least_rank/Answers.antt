@@ -9,4 +9,4 @@ returns-clause-some c =
     let first = c.in_ok-first.first.now in
     let some : 0 < length items = search rules in
     subst (λ (marks : List (ℕ × ℕ)). IsLeastRank marks (first.0.rank)) c.self.view_is
-    (least_is items first some c.in_ok-first.ensures.lookup (c.in_ok-first.ensures.greatest c.self.invariant))
+    (least_is items first some c.in_ok-first.ensures.lookup (c.in_ok-first.ensures.greatest c.self.invariant.order))

@@ -1,12 +1,9 @@
 use Rattle.std.proofs.Common.{◌≡◌, ℕ, ◌<◌, List, ◌++◌, map, length, inl, ap, sym, ◌∙◌, subst, rules, arith}
-use Rattle.std.specs.Prelude.{AllPairs, IsPermutation, nat_eq}
-use Rattle.std.specs.List.{dedup}
-use Rattle.std.specs.List.Sorted.{IsStrictlyIncreasing}
-use Rattle.std.proofs.lemmas.List.Filters.{dedup_is}
+use Rattle.std.specs.Prelude.{AllPairs, IsPermutation}
 use Rattle.std.proofs.lemmas.List.Kept.{AllPairs-from_increasing}
-use Rattle.std.proofs.lemmas.Map.Keys.{IsStrictlyIncreasing-dedup}
-use Rattle.rank_order.specs.Marks.{is_marked, IsLevel}
-use Rattle.rank_order.specs.MarkHeaps.{place_of}
+use Rattle.std.proofs.lemmas.List.Sorted.{IsNonDecreasingBy-from_sort}
+use Rattle.rank_order.specs.Marks.{is_marked, place_of, IsLevel}
+use Rattle.rank_order.proofs.Places.{ascends}
 use Rattle.rank_order.proofs.MarkHeaps.{some_level, whole_level}
 use Rattle.rank_order.proofs.Marking.{IsTaking, taking_more, stays}
 use Rattle.rank_order.proofs.marks.Marks.take_level.Goals as goal
@@ -31,24 +28,21 @@ loop-place-preserved c =
     }
 
 -- the places of all marks, in the order of the heap
-places : (c : goal.After-dedup) → c.take_all.new.level.items ≡ map place_of c.args.self.now
+places : (c : goal.After-sort_unstable) → c.take_all.new.level.items ≡ map place_of c.args.self.now
 places c = c.take_all.ensures.places ∙ ap (λ (items : List ℕ). items ++ map place_of c.args.self.now) (c.in_ok-reserve.ensures.items ∙ c.clear.ensures.items)
 
-moved : (c : goal.After-dedup) → IsPermutation (map place_of c.args.self.now) c.sort_unstable.new.self.items
+moved : (c : goal.After-sort_unstable) → IsPermutation (map place_of c.args.self.now) c.sort_unstable.new.self.items
 moved c = subst (λ items. IsPermutation items c.sort_unstable.new.self.items) (places c) c.sort_unstable.ensures.permutation
-
-once : (c : goal.After-dedup) → c.dedup.new.self.items ≡ dedup nat_eq c.sort_unstable.new.self.items
-once c = dedup_is _ _ _ c.dedup.ensures.filtered
 
 pub returns-then-have_rank-clause-some : goal.returns-then-have_rank-clause-some
 returns-then-have_rank-clause-some c = λ some.
-    let more : 0 < length c.dedup.new.self.items =
-    some_level c.args.self.now c.in-Some.rank c.sort_unstable.new.self.items c.dedup.new.self.items (c.have_rank.ensures c.if-have_rank.true) (moved c) (once c) c.in-Some.ensures.some in
+    let more : 0 < length c.sort_unstable.new.self.items =
+    some_level c.args.self.now c.in-Some.rank c.sort_unstable.new.self.items (c.have_rank.ensures c.if-have_rank.true) (moved c) c.in-Some.ensures.some in
     search rules
 
 pub returns-then-have_rank-clause-level : goal.returns-then-have_rank-clause-level
 returns-then-have_rank-clause-level c = λ ranks are.
-    let ascends : AllPairs (λ one other. one < other) c.dedup.new.self.items =
-    AllPairs-from_increasing c.dedup.new.self.items (subst IsStrictlyIncreasing (sym (once c)) (IsStrictlyIncreasing-dedup c.sort_unstable.new.self.items c.sort_unstable.ensures.sorted)) in
-    subst (λ (marks : List (ℕ × ℕ)). IsLevel ranks (is_marked ranks c.args.self.now) c.dedup.new.self.items (is_marked ranks marks)) (sym c.take_all.ensures.none)
-    (whole_level c.args.self.now c.in-Some.rank c.sort_unstable.new.self.items c.dedup.new.self.items (c.have_rank.ensures c.if-have_rank.true) (moved c) (once c) ascends ranks are)
+    let rises : AllPairs (λ one other. one < other) c.sort_unstable.new.self.items =
+    AllPairs-from_increasing c.sort_unstable.new.self.items (ascends (map place_of c.args.self.now) c.sort_unstable.new.self.items (moved c) (IsNonDecreasingBy-from_sort (λ (x : ℕ). x) c.sort_unstable.new.self.items c.sort_unstable.ensures.sorted) c.take_all.ensures.once) in
+    subst (λ (marks : List (ℕ × ℕ)). IsLevel ranks (is_marked ranks c.args.self.now) c.sort_unstable.new.self.items (is_marked ranks marks)) (sym c.take_all.ensures.none)
+    (whole_level c.args.self.now c.in-Some.rank c.sort_unstable.new.self.items (c.have_rank.ensures c.if-have_rank.true) (moved c) rises ranks are)
