@@ -21,6 +21,10 @@ class Goal:
     def __str__(self):
         return f"{self.function}, clause {self.clause} ({self.name})"
 
+    def is_of(self, function):
+        """Whether it is a goal of the function. In a cycle of calls, which has a name of its own, a goal's name begins with that of its function."""
+        return self.function == function or self.name.startswith(f"{function}-")
+
 
 def clause_of(name):
     """The clause that a goal belongs to: its name, `ensures` where the function's has none, `invariant`, `safety`, or `requires`
@@ -31,13 +35,15 @@ def clause_of(name):
         return "invariant"
     if "-clause-" in name:
         return name.rpartition("-clause-")[2]
+    if re.search(r"-(preserved|init)\b", name):
+        return "invariant"
     if name.startswith("loop") or "-loop-" in name:
-        return "invariant" if re.search(r"-(preserved|init)\b", name) else "safety"
+        return "safety"
     return "ensures" if name.startswith("returns") else "safety"
 
 
 def goal_of(function, name, lost=False):
-    """The goal of this name. In a cycle of calls a goal's name begins with that of its function."""
+    """The goal of this name, which may begin with that of its function."""
     function = function.split("::")[-1].lstrip("+")
     own = name.removeprefix(f"{function}-")
     return Goal(function, clause_of(own), name, lost)

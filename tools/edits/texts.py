@@ -2,11 +2,13 @@
 import hashlib
 import os
 import re
+from dataclasses import dataclass
 from functools import cache
 from glob import glob
 
 WORD = re.compile(r"[^\W\d][\w-]*")
 GHOST_USE = re.compile(r"^\s*(?:pub )?(?:ghost )?use (Rattle\.(\w+)\.specs\.[\w.]+)\.\{([^}]*)\}", re.M)
+OWNER = re.compile(r"^(?:pub )?(?:unsafe )?(?:trait (?P<trait>\w+)|impl(?:<[^>]*>)? (?:(?:\w+::)*(?P<of>\w+)(?:<.*>)? for )?&?(?P<type>\w+))")
 HEAD = re.compile(r"^(?P<indent> *)(?:pub(?:\(\w+\))? )?(?:const )?(?:unsafe )?fn (?P<name>\w+)", re.M)
 SIGNATURE = re.compile(r"^(?:(?:pub|abbrev|unfoldable|opaque|infix\w*) )*(?:record |data )?(?:pub )?([^\s:{}()\[\],]+)(?: [^:=\n]*)?:(?=\s|$)")
 
@@ -17,15 +19,34 @@ def text_of(path):
         return source.read()
 
 
+@dataclass(frozen=True)
+class Function:
+    """A function of a source text: its name, what it belongs to as a check names that, and its text from its head to its end."""
+
+    name: str
+    owner: str
+    text: str
+
+    @property
+    def path(self):
+        return f"{self.owner}::{self.name}" if self.owner else self.name
+
+
+def owner_of(found):
+    """What a check calls a trait, or an impl: that of a trait has the type's name, with a capital, and then the trait's."""
+    return found["trait"] or (found["type"][0].upper() + found["type"][1:] + found["of"] if found["of"] else found["type"])
+
+
 def functions(text):
-    """Each function of a source text: its name, and its text from its head to its end. A laid out function ends with a brace that
-    stands as far in as its head."""
-    lines = text.split("\n")
+    """Each function of a source text. A laid out function ends with a brace that stands as far in as its head."""
+    lines, owner = text.split("\n"), ""
     for at, line in enumerate(lines):
-        head = HEAD.match(line)
+        head, outer = HEAD.match(line), OWNER.match(line)
+        if outer:
+            owner = owner_of(outer)
         if head:
             ends = (it for it in range(at, len(lines)) if lines[it] == f"{head['indent']}}}" or it == at and line.endswith(("}", ";")))
-            yield head["name"], "\n".join(lines[at : next(ends, len(lines)) + 1])
+            yield Function(head["name"], owner if head["indent"] else "", "\n".join(lines[at : next(ends, len(lines)) + 1]))
 
 
 def definitions(text):
@@ -83,15 +104,15 @@ def deciding(top, edit):
     folder, last = f"{top}/crates/{edit.crate}", edit.function.split("::")[-1]
     sources = sorted(glob(f"{folder}/src/**/*.rt", recursive=True))
     turned = [f"{folder}/{file}" for file in edit.files()]
-    refusing = [it for it in turned if it.endswith(".rt") and any(name == last for name, _ in functions(text_of(it)))] or sources
+    refusing = [it for it in turned if it.endswith(".rt") and any(fn.name == last for fn in functions(text_of(it)))] or sources
     parts = []
     for source in dict.fromkeys([*refusing, *turned]):
         if not source.endswith(".rt"):
             parts += [text for name, text in sorted(definitions_of(source).items()) if any(old in text for _, old, _ in edit.pairs)]
             continue
-        for name, text in functions(text_of(source)):
-            if name == last and source in refusing or any(old in text for _, old, _ in edit.pairs):
-                parts += [f"{os.path.relpath(source, top)}: {text}", *named_definitions(top, text, source)]
+        for fn in functions(text_of(source)):
+            if fn.name == last and source in refusing or any(old in fn.text for _, old, _ in edit.pairs):
+                parts += [f"{os.path.relpath(source, top)}: {fn.text}", *named_definitions(top, fn.text, source)]
     return [*dict.fromkeys(parts), edit.words]
 
 

@@ -5,11 +5,13 @@ import shutil
 import subprocess
 import sys
 import tempfile
+from glob import glob
 from importlib.machinery import SourceFileLoader
 from importlib.util import module_from_spec, spec_from_loader
 
 from edits.edit import BadEdit
 from edits.goals import open_goals
+from edits.texts import functions, text_of
 
 
 def toolchain():
@@ -61,34 +63,37 @@ class Bench:
             texts = edit.texts(self.crate.folder)
         except (BadEdit, OSError) as why:
             return str(why)
-        status, said = self.check(texts, edit.function)
+        status, said = self.check(texts, path_of(self.crate.folder, edit))
         if "has no function" in said:
-            # a method of a trait's impl stands under a name that the impl is given, and not under its type
+            # one that a macro writes, or of a type that the source names in another way
             status, said = self.check(texts, edit.function.split("::")[-1])
-        elif "several functions are named" in said:
-            status, said = self.check(texts, f"{module_of(first_file(edit))}{edit.function}")
 
-        def text_of(path):
-            if path in texts:
-                return texts[path]
-            with open(f"{self.crate.folder}/{path}", encoding="utf-8") as source:
-                return source.read()
+        def text_after(path):
+            return texts[path] if path in texts else text_of(f"{self.crate.folder}/{path}")
 
         if status == 0:
             return "not refused: the function is still proved"
         if status != 1:
             return f"not tried: {first_error(said)}"
-        goals = open_goals(said, text_of)
+        goals = open_goals(said, text_after)
         function = edit.function.split("::")[-1]
-        if any((it.function, it.clause) == (function, edit.clause) and not it.lost for it in goals):
+        if any(it.is_of(function) and it.clause == edit.clause and not it.lost for it in goals):
             return None
         told = "; ".join(f"{it}{', a name that is lost' if it.lost else ''}" for it in goals[:4])
         return f"refused elsewhere: {told or first_error(said)}"
 
 
-def first_file(edit):
-    """The first file that the edit changes."""
-    return next(iter(edit.files()))
+def path_of(folder, edit):
+    """The path by which a check names the function that is to refuse the edit; what the edit says where the sources don't tell."""
+    *owner, name = edit.function.split("::")
+    found = []
+    for source in sorted(glob(f"{folder}/src/**/*.rt", recursive=True)):
+        file = os.path.relpath(source, folder)
+        found += [(file, fn) for fn in functions(text_of(source)) if fn.name == name and fn.owner.startswith("".join(owner[-1:]))]
+    near = [(file, fn) for file, fn in found if file in edit.files()]
+    turned = [(file, fn) for file, fn in near if any(old in fn.text for path, old, _ in edit.pairs if path == file)]
+    one = next((it[0] for it in (turned, near, found) if len(it) == 1), None)
+    return f"{module_of(one[0])}{one[1].path}" if one else edit.function
 
 
 def module_of(file):
