@@ -42,6 +42,8 @@ pub(crate) enum Choice {
     Scope,
     /// The unit of an imported recording's ticks.
     Unit,
+    /// Whether something of a trace is inferred, or taken as it is told.
+    Inferred,
 }
 
 static FORMS: [&str; 2] = ["text", "json"];
@@ -51,6 +53,8 @@ static PICTURES: [&str; 2] = ["svg", "trace"];
 static SCOPES: [&str; 2] = ["all", "path"];
 
 static UNITS: [&str; 3] = ["us", "ns", "ms"];
+
+static INFERRED: [&str; 2] = ["inferred", "as-told"];
 
 /// The argument as clap has it.
 pub(crate) fn arg_of<'a>(alloc: Global, argument: Argument) -> Result<Arg<'a>, AllocError> {
@@ -86,5 +90,6 @@ fn one_of<'a>(arg: Arg<'a>, choice: Choice) -> Arg<'a> {
         Choice::Picture => arg.value_parser(&PICTURES[..]).default_value("svg"),
         Choice::Scope => arg.value_parser(&SCOPES[..]).default_value("all"),
         Choice::Unit => arg.value_parser(&UNITS[..]).default_value("us"),
+        Choice::Inferred => arg.value_parser(&INFERRED[..]).default_value("inferred"),
     }
 }

@@ -66,6 +66,18 @@ const UNIT: Argument = Argument {
     takes: Takes::OneOf("UNIT", Choice::Unit),
 };
 
+const CLOCKS: Argument = Argument {
+    name: "clocks",
+    help: "whether clocks that a trace contradicts are moved",
+    takes: Takes::OneOf("HOW", Choice::Inferred),
+};
+
+const CALLS: Argument = Argument {
+    name: "calls",
+    help: "whether calls may have been tried again or given up",
+    takes: Takes::OneOf("HOW", Choice::Inferred),
+};
+
 const TOP: Argument = Argument {
     name: "top",
     help: "print the first N stages alone",
@@ -255,7 +267,7 @@ fn command_of<'a>(alloc: Global, name: Subcommand) -> Result<Command<'a>, AllocE
             "import",
             "Writes the recording that a trace makes, from OTLP/JSON or Jaeger JSON",
             "Examples:\n  whatif import examples/order.otlp.trace\n  whatif import examples/order.otlp.trace | whatif explain - shop.GET-order\n\nWhat is inferred of a trace, and what can't be known: docs/TRACES.md.",
-            &[TRACE_ID, UNIT, QUIET_IMPORT, TRACE],
+            &[TRACE_ID, UNIT, CLOCKS, CALLS, QUIET_IMPORT, TRACE],
         ),
     }
 }

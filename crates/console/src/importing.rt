@@ -1,28 +1,33 @@
 //! Why a trace makes no recording.
 use crate::explaining::{told, value_of};
 use crate::fault::Fault;
+use crate::guesses::tell_notes;
 use crate::voice::Voice;
-use diagnosis::{TraceKind, beginning_of, json_fault, trace_kind};
+use diagnosis::{beginning_of, json_fault};
 use std::alloc::{AllocError, Global};
 use std::str;
-use trace_family::FamilyFault;
-use trace_import::{ImportFault, Options};
-use trace_spans::Fault as TraceFault;
+use std::fmt::Write;
+use trace_import::{ImportFault, Note, Options, Unit};
+use trace_relations::RelationsFault;
+use trace_spans::{Fault as TraceFault, Why, list_traces};
 
-/// The end of an import, with the explanation of a trace that makes no recording.
+/// The end of an import: what was guessed is told, or why a trace makes no recording.
 pub fn imported(
     alloc: Global,
     voice: Voice<'_>,
     trace: &[u8],
     options: Options<'_>,
-    end: Result<(), ImportFault>,
+    end: Result<Vec<Note>, ImportFault>,
 ) -> Result<(), Fault> {
     match end {
-        Ok(()) => Ok(()),
+        Ok(notes) => {
+            tell_notes(voice, options.unit, &notes);
+            Ok(())
+        }
         Err(ImportFault::Write) => Err(Fault::Write(None)),
         Err(ImportFault::Memory) => Err(Fault::Memory),
         Err(ImportFault::Refused(TraceFault::Memory)) => Err(Fault::Memory),
-        Err(ImportFault::Unticked(FamilyFault::Memory)) => Err(Fault::Memory),
+        Err(ImportFault::Unticked(RelationsFault::Memory)) => Err(Fault::Memory),
         Err(fault) => {
             // (where memory is out nothing is told)
             let why = why_not_imported(alloc, voice, trace, options, &fault).unwrap_or(None);
@@ -44,7 +49,7 @@ fn why_not_imported(
     }
     match fault {
         ImportFault::Refused(fault) => why_refused(alloc, voice, trace, options, fault),
-        ImportFault::Unticked(fault) => why_unticked(voice, fault),
+        ImportFault::Unticked(fault) => why_unticked(voice, options.unit, fault),
         ImportFault::TooManyStages => told(
             voice,
             "its recording would have more than 65536 stages",
@@ -63,55 +68,62 @@ fn why_refused(
     fault: &TraceFault,
 ) -> Result<Option<String>, AllocError> {
     match fault {
-        TraceFault::TooLong => told(voice, "it has more than 268435456 bytes"),
         TraceFault::Json => why_no_json(alloc, voice, trace),
-        TraceFault::NotATrace => why_no_trace(alloc, voice, trace),
-        TraceFault::Shape(member) => {
-            told(
-                voice,
-                format_args!("a member \"{member}\" is missing or has a wrong form"),
-            )
-        }
-        TraceFault::SeveralTraces(_) => {
-            told(
-                voice,
-                "it has several traces: choose one of them by --trace ID",
-            )
-        }
+        TraceFault::NotATrace(_) => why_no_trace(alloc, voice, trace, fault),
+        TraceFault::SeveralTraces(_) => why_several(alloc, voice, trace, fault),
         TraceFault::NoTrace => match options.trace {
             Some(id) => told(voice, format_args!("it has no span of the trace \"{id}\"")),
-            None => told(voice, "it has no span"),
+            None => told(voice, Why(fault)),
         },
         TraceFault::Memory => Ok(None),
+        fault => told(voice, Why(fault)),
+    }
+}
+
+/// What would do where a tick is too late.
+fn coarser(unit: Unit) -> &'static str {
+    match unit {
+        Unit::Nanosecond => "a coarser unit helps, as --unit us or --unit ms",
+        Unit::Microsecond => "a coarser unit helps, as --unit ms",
+        Unit::Millisecond => "one of the two has a wrong time",
     }
 }
 
 /// Why a trace has no ticks.
-fn why_unticked(voice: Voice<'_>, fault: &FamilyFault) -> Result<Option<String>, AllocError> {
+fn why_unticked(
+    voice: Voice<'_>,
+    unit: Unit,
+    fault: &RelationsFault,
+) -> Result<Option<String>, AllocError> {
     match fault {
-        FamilyFault::NoTime(span) => {
-            let span = span.as_str();
+        RelationsFault::NoTime(span) => {
+            let id = span.id.as_str();
+            let name = span.name.as_str();
             told(
                 voice,
-                format_args!("the span {span} has neither a start nor an end"),
+                format_args!("the span {id} (\"{name}\") has neither a start nor an end"),
             )
         }
-        FamilyFault::TooLate(span) => {
-            let span = span.as_str();
+        RelationsFault::TooLate(late) => {
+            let id = late.span.id.as_str();
+            let name = late.span.name.as_str();
+            let first_id = late.first.id.as_str();
+            let first_name = late.first.name.as_str();
+            let remedy = coarser(unit);
             told(
                 voice,
                 format_args!(
-                    "the span {span} starts or ends more than 1099511627776 ticks after the first one: a coarser unit helps, as --unit ms"
+                    "the span {id} (\"{name}\") starts or ends more than 1099511627776 ticks after the first one, {first_id} (\"{first_name}\"): {remedy}"
                 ),
             )
         }
-        FamilyFault::TooManyStages => {
+        RelationsFault::TooManyStages => {
             told(
                 voice,
                 "it has more than 65536 spans, so its recording would have too many stages",
             )
         }
-        FamilyFault::Memory => Ok(None),
+        RelationsFault::Memory => Ok(None),
     }
 }
 
@@ -146,11 +158,29 @@ fn bad_line(alloc: Global, trace: &[u8]) -> Result<Option<usize>, AllocError> {
     Ok(None)
 }
 
+/// That a file has several traces, and which.
+fn why_several(
+    alloc: Global,
+    voice: Voice<'_>,
+    trace: &[u8],
+    fault: &TraceFault,
+) -> Result<Option<String>, AllocError> {
+    let why = Why(fault);
+    let mut text: String = format!(in alloc; "{why}")?;
+    if let Ok(rows) = list_traces(alloc, trace) {
+        for row in rows.as_slice() {
+            write!(text, "\n{row}")?;
+        }
+    }
+    told(voice, text.as_str())
+}
+
 /// That a file is no trace, and what it may be.
 fn why_no_trace(
     alloc: Global,
     voice: Voice<'_>,
     trace: &[u8],
+    fault: &TraceFault,
 ) -> Result<Option<String>, AllocError> {
     let value = value_of(alloc, trace)?;
     if value
@@ -162,11 +192,5 @@ fn why_no_trace(
             "it looks like a recording: whatif report takes it as it is",
         );
     }
-    if let Some(kind @ TraceKind::Zipkin) = value.as_ref().and_then(|value| trace_kind(value)) {
-        return told(voice, kind);
-    }
-    told(
-        voice,
-        "a trace has \"resourceSpans\", in OTLP/JSON, or \"data\", in Jaeger's JSON, in its outermost object",
-    )
+    told(voice, Why(fault))
 }

@@ -6,6 +6,7 @@ mod checking;
 mod explaining;
 mod fault;
 mod file_name;
+mod guesses;
 mod importing;
 mod input;
 mod json_refusal;

@@ -10,14 +10,14 @@ use Rattle.recording.specs.Reads.{IsNamed}
 use Rattle.recording.specs.RecordingOf.{named}
 use Rattle.recording.specs.declared.fault.Fault.{Fault}
 use Rattle.recording.specs.declared.fault.Fault.TheVariants.{TooLong, Json, Shape, ListSize, Refused, Cycle, Memory}
-use Rattle.trace_events.specs.Moments.{AreMoments, At}
-use Rattle.trace_family.specs.Family.{PlainFamily}
-use Rattle.trace_family.specs.declared.unit.Unit.{Unit as TickUnit}
+use Rattle.trace_stages.specs.Moments.{AreMoments, At}
+use Rattle.trace_relations.specs.Relations.{PlainRelations}
+use Rattle.trace_relations.specs.declared.unit.Unit.{Unit as TickUnit}
 use Rattle.trace_import.specs.Imported.{IsMadeFrom}
-use Rattle.trace_names.specs.Names.{names}
+use Rattle.trace_stages.specs.Names.{names}
 use Rattle.trace_spans.specs.declared.span.Span.{Span}
 use Rattle.trace_spans.specs.declared.trace.Trace.{Trace}
-use Rattle.trace_stages.specs.ByStart.{AreByStart}
+use Rattle.trace_relations.specs.ByStart.{AreByStart}
 use Rattle.trace_stages.specs.Naming.{PlainStage, plain_stages}
 use Rattle.trace_stages.specs.StagesOf.{stages_by}
 use Rattle.trace_stages.specs.declared.stage.Action.{Action}
@@ -63,19 +63,19 @@ same_specs spans all (stage ∷ stages) =
 
 -- ---- imports
 
-module _ (bytes : List ℕ) (wanted : Option (List ℕ)) (unit : TickUnit) (trace : Trace) (family : PlainFamily) (stages : Stages) (names_by : List ℕ) (text : List ℕ) (made : IsMadeFrom bytes wanted unit trace family stages) (few : length stages.0.items ≤ 65536) (by_start : AreByStart family.intervals names_by) (is_named : named text ≡ Ok (graph_of (specs_of trace names_by stages))) where
+module _ (bytes : List ℕ) (wanted : Option (List ℕ)) (unit : TickUnit) (trace : Trace) (relations : PlainRelations) (stages : Stages) (names_by : List ℕ) (text : List ℕ) (made : IsMadeFrom bytes wanted unit trace relations stages) (few : length stages.0.items ≤ 65536) (by_start : AreByStart relations.intervals names_by) (is_named : named text ≡ Ok (graph_of (specs_of trace names_by stages))) where
   abbrev graph : PlainGraph
   graph = graph_of (specs_of trace names_by stages)
 
-  faithful_with : (moments : List At) (places : List ℕ) → AreMoments family.intervals moments → AreByStart family.intervals places → plain_stages stages.0.items ≡ stages_by trace.spans family moments places → IsFaithful bytes wanted unit text
+  faithful_with : (moments : List At) (places : List ℕ) → AreMoments relations.intervals moments → AreByStart relations.intervals places → plain_stages stages.0.items ≡ stages_by trace.spans relations moments places → IsFaithful bytes wanted unit text
   faithful_with moments places are toured is =
       let all = names trace.spans names_by in
-      let loads = import_loaded unit trace.spans family stages names_by made.stand made.stages_are by_start few in
-      let ordered_loads : loaded Computed (map (imported_spec trace.spans all) (stages_by trace.spans family moments places)) ≡ Ok graph = ap (λ (l : List PlainStage). loaded Computed (map (imported_spec trace.spans all) l)) (sym is) ∙ loads in
-      let faithful_loads : loaded Computed (map (spec_of (stage_name all) (exception_name trace.spans)) (stages_by trace.spans family moments places)) ≡ Ok graph = ap (loaded Computed) (sym (same_specs trace.spans all (stages_by trace.spans family moments places))) ∙ ordered_loads in
+      let loads = import_loaded unit trace.spans relations stages names_by made.stand made.stages_are by_start few in
+      let ordered_loads : loaded Computed (map (imported_spec trace.spans all) (stages_by trace.spans relations moments places)) ≡ Ok graph = ap (λ (l : List PlainStage). loaded Computed (map (imported_spec trace.spans all) l)) (sym is) ∙ loads in
+      let faithful_loads : loaded Computed (map (spec_of (stage_name all) (exception_name trace.spans)) (stages_by trace.spans relations moments places)) ≡ Ok graph = ap (loaded Computed) (sym (same_specs trace.spans all (stages_by trace.spans relations moments places))) ∙ ordered_loads in
       record {
         trace = trace;
-        family = family;
+        relations = relations;
         stages = stages;
         made = made;
         moments = moments;
@@ -83,8 +83,8 @@ module _ (bytes : List ℕ) (wanted : Option (List ℕ)) (unit : TickUnit) (trac
         ordered = is;
         graph = graph;
         read = is_named;
-        ranked = no_circle unit trace.spans family moments places made.stand are toured (stage_name all) (imported_spec trace.spans all) (λ stage. record { name = refl; sources = refl; inner = refl }) Computed graph ordered_loads;
-        complete = faithful unit trace.spans family moments places made.stand are toured (stage_name all) (exception_name trace.spans) graph faithful_loads;
+        ranked = no_circle unit trace.spans relations moments places made.stand are toured (stage_name all) (imported_spec trace.spans all) (λ stage. record { name = refl; sources = refl; inner = refl }) Computed graph ordered_loads;
+        complete = faithful unit trace.spans relations moments places made.stand are toured (stage_name all) (exception_name trace.spans) graph faithful_loads;
       }
 
 pub import_faithful : EachImportIsFaithful

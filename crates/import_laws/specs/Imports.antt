@@ -9,9 +9,9 @@ use Rattle.stage_graph.specs.Plain.{PlainGraph}
 use Rattle.stage_graph.specs.Walk.{IsRanked}
 use Rattle.stage_ops.specs.Evaluation.{at}
 use Rattle.stage_ops.specs.Java.{java_step}
-use Rattle.trace_events.specs.Moments.{At}
-use Rattle.trace_family.specs.Family.{PlainFamily}
-use Rattle.trace_family.specs.declared.unit.Unit.{Unit as TickUnit}
+use Rattle.trace_stages.specs.Moments.{At}
+use Rattle.trace_relations.specs.Relations.{PlainRelations}
+use Rattle.trace_relations.specs.declared.unit.Unit.{Unit as TickUnit}
 use Rattle.trace_import.specs.Imported.{IsMadeFrom, IsTextOf}
 use Rattle.trace_spans.specs.declared.trace.Trace.{Trace}
 use Rattle.trace_stages.specs.Naming.{plain_stages}
@@ -19,7 +19,7 @@ use Rattle.trace_stages.specs.StagesOf.{stages_by}
 use Rattle.trace_stages.specs.declared.stage.Stages.{Stages}
 use Rattle.trace_text.specs.Texts.{exception_name}
 use Rattle.trace_text.specs.Written.{longest}
-use Rattle.trace_walk.specs.declared.stage.StageId.{StageId}
+use Rattle.trace_stages.specs.declared.walk.stage_id.StageId.{StageId}
 use Rattle.trace_faithful.specs.Circles.{trace_stages}
 use Rattle.trace_faithful.specs.Faithful.{CompletesAs}
 
@@ -36,24 +36,24 @@ EachImportIsAccepted =
     → (answer : Result PlainGraph Fault) → IsNamed answer (named text) → IsGraph answer
 
 -- each stage of the graph completes as its span did
-abbrev pub AreFaithful : Trace → PlainFamily → List At → List ℕ → PlainGraph → Type 0
-AreFaithful trace family moments places graph =
-    (position : ℕ) (stage : StageId) → slice_get (trace_stages trace.spans family moments places) position ≡ Some stage
-    → CompletesAs (exception_name trace.spans) trace.spans family stage (at (java_step Computed) graph.places position).done
+abbrev pub AreFaithful : Trace → PlainRelations → List At → List ℕ → PlainGraph → Type 0
+AreFaithful trace relations moments places graph =
+    (position : ℕ) (stage : StageId) → slice_get (trace_stages trace.spans relations moments places) position ≡ Some stage
+    → CompletesAs (exception_name trace.spans) trace.spans relations stage (at (java_step Computed) graph.places position).done
 
 -- the graph that is read from a text, of a trace's stages in the order of the text
 pub record IsFaithful (bytes : List ℕ) (wanted : Option (List ℕ)) (unit : TickUnit) (text : List ℕ) : Type 0 where
   pub trace : Trace
-  pub family : PlainFamily
+  pub relations : PlainRelations
   pub stages : Stages
-  pub made : IsMadeFrom bytes wanted unit trace family stages
+  pub made : IsMadeFrom bytes wanted unit trace relations stages
   pub moments : List At
   pub places : List ℕ
-  pub ordered : plain_stages stages.0.items ≡ stages_by trace.spans family moments places
+  pub ordered : plain_stages stages.0.items ≡ stages_by trace.spans relations moments places
   pub graph : PlainGraph
   pub read : named text ≡ Ok graph
   pub ranked : IsRanked graph.places
-  pub complete : AreFaithful trace family moments places graph
+  pub complete : AreFaithful trace relations moments places graph
 
 -- so it is with each text that an import writes
 abbrev pub EachImportIsFaithful : Type 0

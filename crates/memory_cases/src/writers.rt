@@ -18,7 +18,7 @@ use stage_graph::Graph;
 use std::alloc::Global;
 use std::marker::PhantomData;
 use text_io::{CountedReader, CountedWriter};
-use trace_import::{ImportFault, Options, Unit, import};
+use trace_import::{AsTold, ImportFault, Note, Options, Unit, import};
 use version_store::StateRepresentation;
 
 /// What is written, and of what.
@@ -65,9 +65,9 @@ fn stage_report_named(word: &str) -> StageReport {
 }
 
 /// The number of an import's refusal.
-fn refusal_of_import(answer: &Result<(), ImportFault>) -> Option<u32> {
+fn refusal_of_import(answer: &Result<Vec<Note>, ImportFault>) -> Option<u32> {
     match answer {
-        Ok(()) => None,
+        Ok(_) => None,
         Err(fault) => Some(fault.number()),
     }
 }
@@ -97,6 +97,10 @@ fn imported(alloc: Global, trace: &str, sink: &mut CountedWriter<Vec<u8>>) -> Op
     let options = Options {
         trace: None,
         unit: Unit::Microsecond,
+        as_told: AsTold {
+            clocks: false,
+            calls: false,
+        },
     };
     let answer = import(alloc, trace.as_bytes(), options, sink);
     refusal_of_import(&answer)

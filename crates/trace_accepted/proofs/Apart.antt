@@ -1,85 +1,150 @@
 -- No two stages have one name.
-use Rattle.std.proofs.Common.{◌≡◌, ℕ, ◌+◌, ◌<◌, ◌≤◌, List, [], ◌++◌, Bool, true, false, cond, codes, decimal, get_or, length, Some, refl, sym, ap, ◌∙◌, subst, arith, append-nil}
-use Rattle.std.specs.Prelude.{nat_lt, slice_get}
+use Rattle.std.proofs.Common.{◌≡◌, ℕ, ◌+◌, ◌-◌, ◌<◌, ◌≤◌, List, [], ◌∷◌, ◌++◌, Bool, true, false, cond, codes, decimal, get_or, length, Some, refl, sym, ap, ◌∙◌, arith}
+use Rattle.std.specs.Prelude.{nat_eq, nat_lt, slice_get}
 use Rattle.std.proofs.lemmas.Bool.Decides.{nat_tests}
 use Rattle.std.proofs.lemmas.Fmt.{decimal_injective}
-use Rattle.trace_names.specs.Apart.{AreApart, IsEnding}
+use Rattle.trace_stages.specs.Apart.{AreApart, IsEnding}
 use Rattle.trace_stages.specs.Naming.{counted, name_of}
 use Rattle.trace_stages.specs.Scene.{PlainScene, entry_at}
 use Rattle.trace_stages.specs.declared.stage.StageName.{StageName}
 use Rattle.trace_stages.specs.declared.stage.StageName.TheVariants as named
-use Rattle.trace_text.specs.Texts.{join_name, name_at, stage_name, text_or_none}
-use Rattle.trace_walk.specs.declared.stage.StageId.{StageId}
-use Rattle.trace_walk.specs.declared.stage.StageId.TheVariants.{Start, Whole, Entry, Join}
-use Rattle.trace_accepted.proofs.Wellnamed.{place_named}
+use Rattle.trace_stages.specs.declared.walk.stage_id.StageId.{StageId}
+use Rattle.trace_stages.specs.declared.walk.stage_id.StageId.TheVariants.{Start, Whole, Entry, Join, Work, Tried, Limit, Answer}
+use Rattle.trace_import.specs.StageNames.{stage_name, text_or_none}
+use Rattle.trace_accepted.proofs.Wellnamed.{ending_of, number_in, place_named, spelled}
 
 -- ---- what is put after names
 
-abbrev ending_of : StageName → List ℕ
-ending_of (named.Start place) = codes ".start"
-ending_of (named.Whole place) = []
-ending_of (named.Join place number) = join_name number
+-- the number behind an ending
+abbrev digits_of : ℕ → List ℕ
+digits_of number = cond (nat_lt 1 number) (codes "-" ++ decimal number) []
 
-join_ending : (b : Bool) (number : ℕ) → IsEnding (cond b (codes ".join-" ++ decimal number) (codes ".join"))
-join_ending true number = (refl, refl)
-join_ending false number = (refl, refl)
+count_ending : (b : Bool) (digits : List ℕ) → IsEnding (cond b (codes ".join" ++ codes "-" ++ digits) (codes ".join"))
+count_ending true digits = (refl, refl)
+count_ending false digits = (refl, refl)
+
+work_ending : (b : Bool) (digits : List ℕ) → IsEnding (cond b (codes ".work" ++ codes "-" ++ digits) (codes ".work"))
+work_ending true digits = (refl, refl)
+work_ending false digits = (refl, refl)
 
 is_ending : (name : StageName) → IsEnding (ending_of name)
-is_ending (named.Start place) = (refl, refl)
 is_ending (named.Whole place) = tt
-is_ending (named.Join place number) = join_ending (nat_lt 1 number) number
+is_ending (named.Join place number) = count_ending (nat_lt 1 number) (decimal number)
+is_ending (named.Work place number) = work_ending (nat_lt 1 number) (decimal number)
+is_ending (named.Start place) = (refl, refl)
+is_ending (named.Tried place) = (refl, refl)
+is_ending (named.Limit place) = (refl, refl)
+is_ending (named.Answer place) = (refl, refl)
 
-spelled : (names : List (List ℕ)) (name : StageName) → name_at names (place_named name) ++ ending_of name ≡ stage_name names name
-spelled names (named.Start place) = refl
-spelled names (named.Whole place) = append-nil (name_at names place)
-spelled names (named.Join place number) = refl
+-- the first letter of an ending tells what kind of name it is
+abbrev letter : StageName → ℕ
+letter (named.Start place) = 115
+letter (named.Whole place) = 0
+letter (named.Join place number) = 106
+letter (named.Work place number) = 119
+letter (named.Tried place) = 116
+letter (named.Limit place) = 108
+letter (named.Answer place) = 97
 
-start_no_join : (b : Bool) (digits : List ℕ) → codes ".start" ≡ cond b (codes ".join-" ++ digits) (codes ".join") → ⊥
-start_no_join true digits e = let second : ◌≡◌ {A = ℕ} 115 106 = ap (λ (l : List ℕ). get_or l 1 0) e in omega arith
-start_no_join false digits e = let second : ◌≡◌ {A = ℕ} 115 106 = ap (λ (l : List ℕ). get_or l 1 0) e in omega arith
+abbrev stem_of : ℕ → List ℕ
+stem_of code =
+    cond (nat_eq code 115) (codes ".start")
+    (cond (nat_eq code 106) (codes ".join")
+    (cond (nat_eq code 119) (codes ".work")
+    (cond (nat_eq code 116) (codes ".tried")
+    (cond (nat_eq code 108) (codes ".limit")
+    (cond (nat_eq code 97) (codes ".answer") [])))))
 
-none_no_join : (b : Bool) (digits : List ℕ) → [] ≡ cond b (codes ".join-" ++ digits) (codes ".join") → ⊥
-none_no_join true digits e = cc
-none_no_join false digits e = cc
+abbrev built : ℕ → ℕ → ℕ → StageName
+built code place number =
+    cond (nat_eq code 115) (named.Start place)
+    (cond (nat_eq code 106) (named.Join place number)
+    (cond (nat_eq code 119) (named.Work place number)
+    (cond (nat_eq code 116) (named.Tried place)
+    (cond (nat_eq code 108) (named.Limit place)
+    (cond (nat_eq code 97) (named.Answer place) (named.Whole place))))))
 
-no_tail : (digits : List ℕ) → codes ".join-" ++ digits ≡ codes ".join" → ⊥
-no_tail digits e = cc
+join_letter : (b : Bool) (digits : List ℕ) → get_or (cond b (codes ".join" ++ codes "-" ++ digits) (codes ".join")) 1 0 ≡ 106
+join_letter true digits = refl
+join_letter false digits = refl
+
+work_letter : (b : Bool) (digits : List ℕ) → get_or (cond b (codes ".work" ++ codes "-" ++ digits) (codes ".work")) 1 0 ≡ 119
+work_letter true digits = refl
+work_letter false digits = refl
+
+letter_is : (name : StageName) → get_or (ending_of name) 1 0 ≡ letter name
+letter_is (named.Start place) = refl
+letter_is (named.Whole place) = refl
+letter_is (named.Join place number) = join_letter (nat_lt 1 number) (decimal number)
+letter_is (named.Work place number) = work_letter (nat_lt 1 number) (decimal number)
+letter_is (named.Tried place) = refl
+letter_is (named.Limit place) = refl
+letter_is (named.Answer place) = refl
+
+join_stem : (b : Bool) (digits : List ℕ) → cond b (codes ".join" ++ codes "-" ++ digits) (codes ".join") ≡ codes ".join" ++ cond b (codes "-" ++ digits) []
+join_stem true digits = refl
+join_stem false digits = refl
+
+work_stem : (b : Bool) (digits : List ℕ) → cond b (codes ".work" ++ codes "-" ++ digits) (codes ".work") ≡ codes ".work" ++ cond b (codes "-" ++ digits) []
+work_stem true digits = refl
+work_stem false digits = refl
+
+stem_is : (name : StageName) → ending_of name ≡ stem_of (letter name) ++ digits_of (number_in name)
+stem_is (named.Start place) = refl
+stem_is (named.Whole place) = refl
+stem_is (named.Join place number) = join_stem (nat_lt 1 number) (decimal number)
+stem_is (named.Work place number) = work_stem (nat_lt 1 number) (decimal number)
+stem_is (named.Tried place) = refl
+stem_is (named.Limit place) = refl
+stem_is (named.Answer place) = refl
+
+built_is : (name : StageName) → built (letter name) (place_named name) (number_in name) ≡ name
+built_is (named.Start place) = refl
+built_is (named.Whole place) = refl
+built_is (named.Join place number) = refl
+built_is (named.Work place number) = refl
+built_is (named.Tried place) = refl
+built_is (named.Limit place) = refl
+built_is (named.Answer place) = refl
+
+cancelled : (xs a b : List ℕ) → xs ++ a ≡ xs ++ b → a ≡ b
+cancelled [] a b h = h
+cancelled (x ∷ xs) a b h = let rest : xs ++ a ≡ xs ++ b = cc in cancelled xs a b rest
 
 only_one : (n : ℕ) → 0 < n → nat_lt 1 n ≡ false → n ≡ 1
 only_one n some e = grind (arith, nat_tests)
 
-same_number : (n m : ℕ) (b a : Bool) → nat_lt 1 n ≡ b → nat_lt 1 m ≡ a → 0 < n → 0 < m → n < 100000 → m < 100000 → cond b (codes ".join-" ++ decimal n) (codes ".join") ≡ cond a (codes ".join-" ++ decimal m) (codes ".join") → n ≡ m
-same_number n m true true at also some more low lower e = let digits : decimal n ≡ decimal m = cc in decimal_injective n m (omega arith) (omega arith) digits
-same_number n m true false at also some more low lower e = absurd (no_tail (decimal n) e)
-same_number n m false true at also some more low lower e = absurd (no_tail (decimal m) (sym e))
+no_digits : (digits : List ℕ) → codes "-" ++ digits ≡ [] → ⊥
+no_digits digits e = cc
+
+same_digits : (x y : List ℕ) → codes "-" ++ x ≡ codes "-" ++ y → x ≡ y
+same_digits x y e = cc
+
+same_number : (n m : ℕ) (b a : Bool) → nat_lt 1 n ≡ b → nat_lt 1 m ≡ a → 0 < n → 0 < m → n < 100000 → m < 100000 → cond b (codes "-" ++ decimal n) [] ≡ cond a (codes "-" ++ decimal m) [] → n ≡ m
+same_number n m true true at also some more low lower e = decimal_injective n m (omega arith) (omega arith) (same_digits (decimal n) (decimal m) e)
+same_number n m true false at also some more low lower e = absurd (no_digits (decimal n) e)
+same_number n m false true at also some more low lower e = absurd (no_digits (decimal m) (sym e))
 same_number n m false false at also some more low lower e = only_one n some at ∙ sym (only_one m more also)
 
 -- ---- names
 
--- a join has a number of its own from 1 on
+-- a name has a number from 1 on
 abbrev pub IsCounted : StageName → Type 0
-IsCounted (named.Start place) = Unit {0}
-IsCounted (named.Whole place) = Unit {0}
-IsCounted (named.Join place number) = (0 < number) × (number < 100000)
+IsCounted name = (0 < number_in name) × (number_in name < 100000)
 
 same_ends : (name other : StageName) → IsCounted name → IsCounted other → place_named name ≡ place_named other → ending_of name ≡ ending_of other → name ≡ other
-same_ends (named.Start p) (named.Start q) a b places ends = ap named.Start places
-same_ends (named.Start p) (named.Whole q) a b places ends = absurd cc
-same_ends (named.Start p) (named.Join q m) a b places ends = absurd (start_no_join (nat_lt 1 m) (decimal m) ends)
-same_ends (named.Whole p) (named.Start q) a b places ends = absurd cc
-same_ends (named.Whole p) (named.Whole q) a b places ends = ap named.Whole places
-same_ends (named.Whole p) (named.Join q m) a b places ends = absurd (none_no_join (nat_lt 1 m) (decimal m) ends)
-same_ends (named.Join p n) (named.Start q) a b places ends = absurd (start_no_join (nat_lt 1 n) (decimal n) (sym ends))
-same_ends (named.Join p n) (named.Whole q) a b places ends = absurd (none_no_join (nat_lt 1 n) (decimal n) (sym ends))
-same_ends (named.Join p n) (named.Join q m) a b places ends =
-    let numbers = same_number n m (nat_lt 1 n) (nat_lt 1 m) refl refl a.0 b.0 a.1 b.1 ends in
-    ap (λ place. named.Join place n) places ∙ ap (named.Join q) numbers
+same_ends name other a b places ends =
+    let letters : letter name ≡ letter other = sym (letter_is name) ∙ ap (λ (l : List ℕ). get_or l 1 0) ends ∙ letter_is other in
+    let digits : digits_of (number_in name) ≡ digits_of (number_in other) =
+    cancelled (stem_of (letter name)) (digits_of (number_in name)) (digits_of (number_in other)) (sym (stem_is name) ∙ ends ∙ stem_is other ∙ ap (λ code. stem_of code ++ digits_of (number_in other)) (sym letters)) in
+    let numbers = same_number (number_in name) (number_in other) (nat_lt 1 (number_in name)) (nat_lt 1 (number_in other)) refl refl a.0 b.0 a.1 b.1 digits in
+    sym (built_is name) ∙ ap (λ code. built code (place_named name) (number_in name)) letters ∙ ap (λ place. built (letter other) place (number_in name)) places ∙ ap (built (letter other) (place_named other)) numbers ∙ built_is other
 
 pub same_name : (names : List (List ℕ)) → AreApart names → (name other : StageName) (own others : List ℕ) → slice_get names (place_named name) ≡ Some own → slice_get names (place_named other) ≡ Some others → IsCounted name → IsCounted other
     → stage_name names name ≡ stage_name names other → name ≡ other
 same_name names apart name other own others at also a b e =
     let whole : own ++ ending_of name ≡ others ++ ending_of other =
-    ap (λ o. text_or_none o ++ ending_of name) (sym at) ∙ spelled names name ∙ e ∙ sym (spelled names other) ∙ ap (λ o. text_or_none o ++ ending_of other) also in
+    ap (λ o. text_or_none o ++ ending_of name) (sym at) ∙ sym (spelled names name) ∙ e ∙ spelled names other ∙ ap (λ o. text_or_none o ++ ending_of other) also in
     let same = apart (place_named name) (place_named other) own others (ending_of name) (ending_of other) at also (is_ending name) (is_ending other) whole in
     same_ends name other a b same.0 same.1
 
@@ -89,78 +154,52 @@ module _ (scene : PlainScene) where
   abbrev entries_of : ℕ → ℕ
   entries_of place = length (entry_at scene.entries place).joins
 
-  -- the numbers of joins are small
+  -- the numbers of joins and of own work are small
   abbrev pub IsSmall : StageId → Type 0
-  IsSmall (Start place) = Unit {0}
-  IsSmall (Whole place) = Unit {0}
   IsSmall (Entry span number) = (number < entries_of span) × (entries_of span ≤ 100)
-  IsSmall (Join span number) = (number ≤ 65536) × (entries_of span ≤ 100)
-
-  counted_small : (k : ℕ) → k < 100000 → counted k ≡ k
-  counted_small k low = omega arith
+  IsSmall (Join span number) = (number ≤ 66_000) × (entries_of span ≤ 100)
+  IsSmall (Work span number) = number ≤ 65_536
+  IsSmall other = Unit {0}
 
   pub small_counted : (id : StageId) → IsSmall id → IsCounted (name_of scene id)
-  small_counted (Start place) h = tt
-  small_counted (Whole place) h = tt
   small_counted (Entry span number) h = (omega arith, omega arith)
   small_counted (Join span number) h = (omega arith, omega arith)
+  small_counted (Work span number) h = (omega arith, omega arith)
+  small_counted other h = (omega arith, omega arith)
 
-  same_joins : (p q n m : ℕ) → named.Join p n ≡ named.Join q m → (p ≡ q) × (n ≡ m)
-  same_joins p q n m e = (cc, cc)
+  -- the stage that a name is of
+  abbrev id_of : StageName → StageId
+  id_of (named.Start place) = Start place
+  id_of (named.Whole place) = Whole place
+  id_of (named.Tried place) = Tried place
+  id_of (named.Limit place) = Limit place
+  id_of (named.Answer place) = Answer place
+  id_of (named.Work place number) = Work place (number - 1)
+  id_of (named.Join place number) = cond (nat_lt (number - 1) (entries_of place)) (Entry place (number - 1)) (Join place (number - 1 - entries_of place))
 
-  same_starts : (p q : ℕ) → named.Start p ≡ named.Start q → p ≡ q
-  same_starts p q e = cc
+  less_one : (k : ℕ) → k < 100000 → counted (k + 1) - 1 ≡ k
+  less_one k low = omega arith
 
-  same_wholes : (p q : ℕ) → named.Whole p ≡ named.Whole q → p ≡ q
-  same_wholes p q e = cc
+  below_test : (k most : ℕ) → k < most → nat_lt k most ≡ true
+  below_test k most low = grind (arith, nat_tests)
 
-  start_whole : (p q : ℕ) → named.Start p ≡ named.Whole q → ⊥
-  start_whole p q e = cc
+  above_test : (k most : ℕ) → most ≤ k → nat_lt k most ≡ false
+  above_test k most low = grind (arith, nat_tests)
 
-  start_join : (p q m : ℕ) → named.Start p ≡ named.Join q m → ⊥
-  start_join p q m e = cc
+  entry_named : (span k number : ℕ) → k ≡ number → number < entries_of span → cond (nat_lt k (entries_of span)) (Entry span k) (Join span (k - entries_of span)) ≡ Entry span number
+  entry_named span k number e low =
+      ap (λ b. cond b (Entry span k) (Join span (k - entries_of span))) (below_test k (entries_of span) (omega arith)) ∙ ap (Entry span) e
 
-  whole_join : (p q m : ℕ) → named.Whole p ≡ named.Join q m → ⊥
-  whole_join p q m e = cc
+  join_named : (span k number : ℕ) → k ≡ number + entries_of span → cond (nat_lt k (entries_of span)) (Entry span k) (Join span (k - entries_of span)) ≡ Join span number
+  join_named span k number e =
+      ap (λ b. cond b (Entry span k) (Join span (k - entries_of span))) (above_test k (entries_of span) (omega arith)) ∙ ap (Join span) (omega arith)
 
-  one_less : (n m : ℕ) → n < 100000 → m < 100000 → counted n ≡ counted m → n ≡ m
-  one_less n m low lower e = omega arith
+  named_id : (id : StageId) → IsSmall id → id_of (name_of scene id) ≡ id
+  named_id (Entry span number) h = entry_named span (counted (number + 1) - 1) number (less_one number (omega arith)) h.0
+  named_id (Join span number) h = join_named span (counted (number + entries_of span + 1) - 1) number (less_one (number + entries_of span) (omega arith))
+  named_id (Work span number) h = ap (Work span) (less_one number (omega arith))
+  named_id other h = refl
 
   -- a name is of one stage
   pub same_id : (id other : StageId) → IsSmall id → IsSmall other → name_of scene id ≡ name_of scene other → id ≡ other
-  same_id (Start p) (Start q) a b e = ap Start (same_starts p q e)
-  same_id (Start p) (Whole q) a b e = absurd (start_whole p q e)
-  same_id (Start p) (Entry q m) a b e = absurd (start_join p q _ e)
-  same_id (Start p) (Join q m) a b e = absurd (start_join p q _ e)
-  same_id (Whole p) (Start q) a b e = absurd (start_whole q p (sym e))
-  same_id (Whole p) (Whole q) a b e = ap Whole (same_wholes p q e)
-  same_id (Whole p) (Entry q m) a b e = absurd (whole_join p q _ e)
-  same_id (Whole p) (Join q m) a b e = absurd (whole_join p q _ e)
-  same_id (Entry p n) (Start q) a b e = absurd (start_join q p _ (sym e))
-  same_id (Entry p n) (Whole q) a b e = absurd (whole_join q p _ (sym e))
-  same_id (Entry p n) (Entry q m) a b e =
-      let both = same_joins p q _ _ e in
-      let numbers : n + 1 ≡ m + 1 = one_less (n + 1) (m + 1) (omega arith) (omega arith) both.1 in
-      let number : n ≡ m = omega arith in
-      ap (λ s. Entry s n) both.0 ∙ ap (Entry q) number
-  same_id (Entry p n) (Join q m) a b e =
-      let both = same_joins p q _ _ e in
-      let place : p ≡ q = both.0 in
-      let numbers : n + 1 ≡ m + entries_of q + 1 = one_less (n + 1) (m + entries_of q + 1) (omega arith) (omega arith) both.1 in
-      let low : n < entries_of q = subst (λ (s : ℕ). n < entries_of s) place a.0 in
-      absurd (omega arith)
-  same_id (Join p n) (Start q) a b e = absurd (start_join q p _ (sym e))
-  same_id (Join p n) (Whole q) a b e = absurd (whole_join q p _ (sym e))
-  same_id (Join p n) (Entry q m) a b e =
-      let both = same_joins p q _ _ e in
-      let place : p ≡ q = both.0 in
-      let numbers : n + entries_of p + 1 ≡ m + 1 = one_less (n + entries_of p + 1) (m + 1) (omega arith) (omega arith) both.1 in
-      let low : m < entries_of p = subst (λ (s : ℕ). m < entries_of s) (sym place) b.0 in
-      absurd (omega arith)
-  same_id (Join p n) (Join q m) a b e =
-      let both = same_joins p q _ _ e in
-      let place : p ≡ q = both.0 in
-      let numbers : n + entries_of p + 1 ≡ m + entries_of q + 1 = one_less (n + entries_of p + 1) (m + entries_of q + 1) (omega arith) (omega arith) both.1 in
-      let same : entries_of p ≡ entries_of q = ap entries_of place in
-      let number : n ≡ m = omega arith in
-      ap (λ s. Join s n) place ∙ ap (Join q) number
+  same_id id other a b e = sym (named_id id a) ∙ ap id_of e ∙ named_id other b

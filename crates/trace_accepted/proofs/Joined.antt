@@ -4,9 +4,9 @@ use Rattle.std.specs.Prelude.{nat_lt}
 use Rattle.std.specs.List.{AllByRecursion as Each}
 use Rattle.std.proofs.lemmas.Bool.Decides.{nat_tests}
 use Rattle.std.proofs.lemmas.List.{length-append}
-use Rattle.trace_walk.specs.declared.joins.JoinsOf.{JoinsOf}
-use Rattle.trace_walk.specs.declared.stage.StageId.{StageId}
-use Rattle.trace_walk.specs.Joins.{PlainGathering, PlainJoined, finished_with, gathered, join_id, joined_of}
+use Rattle.trace_stages.specs.declared.walk.joins.JoinsOf.{JoinsOf}
+use Rattle.trace_stages.specs.declared.walk.stage_id.StageId.{StageId}
+use Rattle.trace_stages.specs.Joins.{PlainGathering, PlainJoined, finished_with, gathered, join_id, joined_of}
 
 pub each_push : {X : Type 0} (P : X → Type 0) (xs : List X) (x : X) → Each P xs → P x → Each P (xs ++ x ∷ [])
 each_push P [] x h p = (p, tt)

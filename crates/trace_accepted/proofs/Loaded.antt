@@ -2,12 +2,16 @@
 use Rattle.std.proofs.Common.{◌≡◌, ℕ, zero, suc, ◌+◌, ◌<◌, ◌≤◌, List, [], ◌∷◌, Bool, true, false, cond, length, map, nat_lt, Option, Some, None, option_map, is_some, Ok, refl, sym, ap, ◌∙◌, inl, inr, subst, arith, lt-ltb, le-ltb, ltb-true, ltb-false, eq-eqb}
 use Rattle.std.specs.Prelude.{position, slice_get}
 use Rattle.std.specs.List.{AllByRecursion as Each, position_or_len}
+use Rattle.std.specs.Option.{option_to_list}
 use Rattle.std.specs.Str.{bytes_eq}
 use Rattle.std.proofs.lemmas.Bool.{true≢false}
 use Rattle.std.proofs.lemmas.List.{length-map}
 use Rattle.std.proofs.lemmas.Option.{none-some, same_Some, slice_get_within}
 use Rattle.std.proofs.lemmas.Slice.Eq.{bytes_eq-Decides}
+use Rattle.act_expr.specs.ExceptionName.{is_exception_name}
+use Rattle.act_expr.specs.Expression.{conditional, failed, literal, throw}
 use Rattle.act_expr.specs.declared.outcome.Mode.{Mode}
+use Rattle.act_expr.specs.declared.outcome.Value.TheVariants as value
 use Rattle.stage_graph.specs.Checks.{action_fault, are_known, is_name}
 use Rattle.stage_graph.specs.Loading.{first_refused, loaded, refusal_of, stages_from}
 use Rattle.stage_graph.specs.Names.{place_of}
@@ -15,9 +19,11 @@ use Rattle.stage_graph.specs.declared.stage.Spec.{Spec}
 use Rattle.trace_spans.specs.declared.span.Span.{Span}
 use Rattle.trace_stages.specs.Naming.{PlainStage}
 use Rattle.trace_stages.specs.declared.stage.Action.{Action}
-use Rattle.trace_stages.specs.declared.stage.Action.TheVariants.{Null, Throws, ThrowsIfFailed}
-use Rattle.trace_text.specs.Texts.{stage_name}
-use Rattle.trace_accepted.specs.Imported.{imported_action, imported_spec, imported_specs}
+use Rattle.trace_stages.specs.declared.stage.StageName.{StageName}
+use Rattle.trace_stages.specs.declared.stage.Action.TheVariants.{Null, PicksFirst, Throws, ThrowsIfFailed}
+use Rattle.trace_import.specs.Actions.{exception_name, imported_action}
+use Rattle.trace_import.specs.Specs.{imported_spec, imported_specs}
+use Rattle.trace_import.specs.StageNames.{stage_name}
 use Rattle.trace_accepted.proofs.Members.{AreDistinct, IsIn, map_in}
 use Rattle.trace_accepted.proofs.Shaped.{IsShaped}
 
@@ -84,30 +90,43 @@ none_before find place (spec ∷ specs) fine =
     next_place : (p k : ℕ) → p + 1 + k ≡ p + suc k
     next_place p k = omega arith
 
+small_throw : (b : Bool) (name : List ℕ) → action_fault (Some (cond b (throw name) (literal value.Null))) ≡ None
+small_throw true name = refl
+small_throw false name = refl
+
+small_if : (b : Bool) (name : List ℕ) → action_fault (Some (conditional failed (cond b (throw name) (literal value.Null)) (literal value.Null))) ≡ None
+small_if true name = refl
+small_if false name = refl
+
 small : (spans : List Span) (action : Option Action) → action_fault (option_map (imported_action spans) action) ≡ None
 small spans None = refl
 small spans (Some Null) = refl
-small spans (Some (Throws exception)) = refl
-small spans (Some (ThrowsIfFailed exception)) = refl
+small spans (Some PicksFirst) = refl
+small spans (Some (Throws exception)) = small_throw (is_exception_name (exception_name spans exception)) (exception_name spans exception)
+small spans (Some (ThrowsIfFailed exception)) = small_if (is_exception_name (exception_name spans exception)) (exception_name spans exception)
 
 known_all : (specs : List Spec) (found : List (List ℕ)) → Each (λ name. IsIn name (map (λ s. s.name) specs)) found → are_known (place_of specs) found ≡ true
 known_all specs [] h = refl
 known_all specs (name ∷ rest) h = rw (found_name specs name h.0) (known_all specs rest h.1)
 
 none_refused : (spans : List Span) (names : List (List ℕ)) (specs : List Spec) (k : ℕ) (stage : PlainStage) → IsShaped stage → is_name (stage_name names stage.name) ≡ true
-    → Each (λ name. IsIn name (map (λ s. s.name) specs)) (map (stage_name names) stage.sources) → place_of specs (stage_name names stage.name) ≡ Some k → k < 65536 → refusal_of (place_of specs) k (imported_spec spans names stage) ≡ None
-none_refused spans names specs k stage shape good sources at few =
+    → Each (λ name. IsIn name (map (λ s. s.name) specs)) (map (stage_name names) stage.sources) → Each (λ name. IsIn name (map (λ s. s.name) specs)) (map (stage_name names) (option_to_list stage.inner)) → place_of specs (stage_name names stage.name) ≡ Some k → k < 65536 → refusal_of (place_of specs) k (imported_spec spans names stage) ≡ None
+none_refused spans names specs k stage shape good sources inner at few =
     let count = length-map stage.sources (stage_name names) in
+    let count_inner = length-map (option_to_list stage.inner) (stage_name names) in
     rw (
       at,
       eq-eqb k k refl,
       good,
       count,
+      count_inner,
       shape.arity,
       shape.acts (imported_action spans),
       known_all specs (map (stage_name names) stage.sources) sources,
+      known_all specs (map (stage_name names) (option_to_list stage.inner)) inner,
       lt-ltb k 65536 few,
       shape.few,
+      shape.few_inner,
       shape.created,
       shape.queued,
       shape.runs,
@@ -125,6 +144,7 @@ pub record IsFine (names : List (List ℕ)) (stages : List PlainStage) (stage : 
   pub shape : IsShaped stage
   pub named : is_name (stage_name names stage.name) ≡ true
   pub sources : Each (λ source. IsIn (stage_name names source) (map (λ other. stage_name names other.name) stages)) stage.sources
+  pub inner : Each (λ source. IsIn (stage_name names source) (map (λ other. stage_name names other.name) stages)) (option_to_list stage.inner)
 
 each_map : {X Y : Type 0} (P : Y → Type 0) (f : X → Y) (xs : List X) → Each (λ x. P (f x)) xs → Each P (map f xs)
 each_map P f [] h = tt
@@ -154,8 +174,9 @@ all_loaded mode spans names stages few distinct fine =
         let same : imported_spec spans names stage ≡ spec = found.2 in
         let here : place_of specs (stage_name names stage.name) ≡ Some k = found_at specs k (imported_spec spans names stage) own (at ∙ ap Some (sym same)) in
         let low : k < 65536 = omega (arith, slice_get_within stages k stage found.1) in
-        let known = subst (λ (all : List (List ℕ)). Each (λ name. IsIn name all) (map (stage_name names) stage.sources)) (sym (names_mapped spans names stages)) (each_map (λ (name : List ℕ). IsIn name (map (λ other. stage_name names other.name) stages)) (stage_name names) stage.sources is.sources) in
-        ap (λ p. refusal_of (place_of specs) p spec) (from_zero k) ∙ ap (refusal_of (place_of specs) k) (sym same) ∙ none_refused spans names specs k stage is.shape is.named known here low
+        let known = λ (sources : List StageName) (are : Each (λ source. IsIn (stage_name names source) (map (λ other. stage_name names other.name) stages)) sources).
+        subst (λ (all : List (List ℕ)). Each (λ name. IsIn name all) (map (stage_name names) sources)) (sym (names_mapped spans names stages)) (each_map (λ (name : List ℕ). IsIn name (map (λ other. stage_name names other.name) stages)) (stage_name names) sources are) in
+        ap (λ p. refusal_of (place_of specs) p spec) (from_zero k) ∙ ap (refusal_of (place_of specs) k) (sym same) ∙ none_refused spans names specs k stage is.shape is.named (known stage.sources is.sources) (known (option_to_list stage.inner) is.inner) here low
       where
         from_zero : (p : ℕ) → 0 + p ≡ p
         from_zero p = omega arith

@@ -1,40 +1,42 @@
 -- The stages of the spans of a trace are loaded.
-use Rattle.std.proofs.Common.{◌≡◌, ℕ, suc, ◌+◌, ◌<◌, ◌≤◌, List, [], ◌∷◌, length, map, Option, Some, Ok, refl, sym, ap, ◌∙◌, subst, arith}
+use Rattle.std.proofs.Common.{◌≡◌, ℕ, suc, ◌+◌, ◌<◌, ◌≤◌, List, [], ◌∷◌, Bool, true, false, cond, length, map, Option, Some, refl, sym, ap, ◌∙◌, subst, arith}
 use Rattle.std.specs.Prelude.{slice_get}
+use Rattle.std.specs.Option.{option_to_list}
 use Rattle.std.proofs.lemmas.List.{length-map}
 use Rattle.std.proofs.lemmas.Option.{slice_get-get_or}
 use Rattle.act_expr.specs.declared.outcome.Mode.TheVariants.{Computed}
 use Rattle.stage_graph.specs.Checks.{is_name}
-use Rattle.trace_events.specs.Moments.{AreMoments, At}
-use Rattle.trace_family.specs.Family.{PlainFamily, family_of}
-use Rattle.trace_names.specs.Apart.{AreApart}
-use Rattle.trace_names.specs.Names.{base_name, names, names_from}
-use Rattle.trace_names.proofs.Apart.{names_apart}
+use Rattle.trace_relations.specs.Ancestry.{most_spans}
+use Rattle.trace_relations.specs.Relations.{AreRelationsOf, PlainRelations}
+use Rattle.trace_relations.specs.declared.as_told.AsTold.{AsTold}
+use Rattle.trace_relations.specs.declared.unit.Unit.{Unit as TickUnit}
 use Rattle.trace_spans.specs.declared.span.Span.{Span}
-use Rattle.trace_stages.specs.ByStart.{AreByStart}
+use Rattle.trace_stages.specs.Apart.{AreApart}
 use Rattle.trace_stages.specs.Failures.{failures_by}
+use Rattle.trace_stages.specs.Known.{gave_up}
+use Rattle.trace_stages.specs.Moments.{AreMoments, At}
+use Rattle.trace_stages.specs.Names.{base_name, names, names_from}
 use Rattle.trace_stages.specs.Naming.{PlainStage, imported, name_of, plain_stage, plain_stages}
-use Rattle.trace_stages.specs.StagesOf.{AreStages, known_of, stages_by}
-use Rattle.trace_stages.specs.declared.stage.Stages.{Stages}
-use Rattle.trace_family.specs.declared.unit.Unit.{Unit as TickUnit}
 use Rattle.trace_stages.specs.Scene.{PlainScene}
+use Rattle.trace_stages.specs.StagesOf.{AreStages, known_of, stages_by}
+use Rattle.trace_stages.specs.Visits.{visits}
 use Rattle.trace_stages.specs.declared.stage.Exception.{Exception}
 use Rattle.trace_stages.specs.declared.stage.StageName.{StageName}
-use Rattle.trace_stages.specs.declared.stage.StageName.TheVariants as named
-use Rattle.trace_text.specs.Texts.{stage_name}
-use Rattle.trace_tour.specs.Visits.{visits}
-use Rattle.trace_walk.specs.declared.stage.StageId.{StageId}
-use Rattle.trace_walk.specs.declared.stage.StageId.TheVariants.{Start, Whole, Entry, Join}
+use Rattle.trace_stages.specs.declared.stage.Stages.{Stages}
+use Rattle.trace_stages.specs.declared.walk.stage_id.StageId.{StageId}
+use Rattle.trace_stages.specs.declared.walk.stage_id.StageId.TheVariants.{Start, Whole, Entry, Join, Work, Tried, Limit, Answer}
+use Rattle.trace_stages.proofs.Apart.{names_apart}
+use Rattle.trace_import.specs.StageNames.{stage_name}
 use Rattle.trace_accepted.specs.Accepted.{EachImportIsLoaded}
-use Rattle.trace_accepted.proofs.Apart.{IsCounted, same_id, same_name, small_counted}
+use Rattle.trace_accepted.proofs.Apart.{same_id, same_name, small_counted}
 use Rattle.trace_accepted.proofs.Linked.{AreLinked, IsStageHere, are_linked, the_order}
 use Rattle.trace_accepted.proofs.Loaded.{IsFine, all_loaded}
 use Rattle.trace_accepted.proofs.Members.{AreDistinct, IsIn, distinct_map, each_of, in_map, map_in}
 use Rattle.trace_accepted.proofs.Placed.{each_placed, places_length}
 use Rattle.trace_accepted.proofs.Shaped.{IsShaped, shaped}
-use Rattle.trace_accepted.proofs.Staged.{all_sources, entry_sources_few, join_sources_few, small_stages, the_scene}
+use Rattle.trace_accepted.proofs.Staged.{all_inner, all_sources, small_stages, the_scene, timely}
 use Rattle.trace_accepted.proofs.Standing.{IsStanding, standing}
-use Rattle.trace_accepted.proofs.Wellnamed.{IsNumbered, place_named, well_named}
+use Rattle.trace_accepted.proofs.Wellnamed.{place_named, well_named}
 
 names_length : (bases : List (List ℕ)) (order : List ℕ) (k : ℕ) (all : List (List ℕ)) → length (names_from bases order k all) ≡ length all
 names_length bases order k [] = refl
@@ -44,86 +46,128 @@ all_named : (spans : List Span) (order : List ℕ) → length (names spans order
 unfolding names
 all_named spans order = names_length (map base_name spans) order 0 (map base_name spans) ∙ length-map spans base_name
 
-counted_numbered : (name : StageName) → IsCounted name → IsNumbered name
-counted_numbered (named.Start place) h = tt
-counted_numbered (named.Whole place) h = tt
-counted_numbered (named.Join place number) h = h.1
-
-module _ (spans : List Span) (family : PlainFamily) (moments : List At) (failures : ℕ → Option Exception) (stand : IsStanding (length spans) family) (are : AreMoments family.intervals moments) (tour : List ℕ) (toured : AreByStart family.intervals tour) (places : List ℕ) (by_start : AreByStart family.intervals places) where
+module _ (spans : List Span) (relations : PlainRelations) (as_told : AsTold) (moments : List At) (failures : ℕ → Option Exception) (stand : IsStanding (length spans) relations) (are : AreMoments relations.intervals moments) where
   abbrev scene : PlainScene
-  scene = the_scene (length spans) spans family moments failures stand are
+  scene = the_scene (length spans) spans relations as_told moments failures stand are
 
   abbrev order : List StageId
-  order = the_order (length spans) spans family moments failures stand are tour toured
+  order = the_order (length spans) spans relations as_told moments failures stand are
 
   abbrev IsStage : StageId → Type 0
-  IsStage id = IsStageHere (length spans) spans family moments failures stand are tour toured id
+  IsStage id = IsStageHere (length spans) spans relations as_told moments failures stand are id
 
   abbrev own_names : List (List ℕ)
-  own_names = names spans places
+  own_names = names spans relations.order
 
-  few_places : length places ≤ 65536
-  few_places = omega (arith, places_length family.intervals places by_start, stand.intervals, stand.few)
+  abbrev sources : StageId → List StageId
+  sources id = all_sources (length spans) spans relations as_told moments failures stand are id
+
+  abbrev inner : StageId → List StageId
+  inner id = all_inner (length spans) spans relations as_told moments failures stand are id
+
+  count : length relations.intervals ≡ length spans
+  count = let calls = stand.calls in calls.intervals
+
+  few_places : length relations.order ≤ 65536
+  few_places = omega (arith, places_length relations.intervals relations.order stand.by_start, count, stand.few)
 
   apart : AreApart own_names
-  apart = names_apart spans places (λ place low. each_placed family.intervals places by_start place (subst (λ (k : ℕ). place < k) (sym stand.intervals) low)) (omega (arith, few_places))
+  apart = names_apart spans relations.order (λ place low. each_placed relations.intervals relations.order stand.by_start place (subst (λ (k : ℕ). place < k) (sym count) low)) (omega (arith, few_places))
 
   stage_below : (id : StageId) → IsStage id → place_named (name_of scene id) < length spans
   stage_below (Start place) h = h.0
   stage_below (Whole place) h = h
+  stage_below (Tried place) h = h.0
+  stage_below (Limit place) h = h.0
+  stage_below (Answer place) h = h.0
+  stage_below (Work span number) h = h.0
   stage_below (Entry span number) h = h.0
   stage_below (Join span number) h = h.0
 
   own_name : (place : ℕ) → place < length spans → (own : List ℕ) × (slice_get own_names place ≡ Some own)
-  own_name place low = (_, slice_get-get_or own_names place [] (subst (λ (k : ℕ). place < k) (sym (all_named spans places)) low))
+  own_name place low = (_, slice_get-get_or own_names place [] (subst (λ (k : ℕ). place < k) (sym (all_named spans relations.order)) low))
 
   one_id : (id other : StageId) → IsStage id → IsStage other → stage_name own_names (name_of scene id) ≡ stage_name own_names (name_of scene other) → id ≡ other
   one_id id other is also e =
-      let small = small_stages (length spans) spans family moments failures stand are id is in
-      let little = small_stages (length spans) spans family moments failures stand are other also in
+      let small = small_stages (length spans) spans relations as_told moments failures stand are id is in
+      let little = small_stages (length spans) spans relations as_told moments failures stand are other also in
       let own = own_name (place_named (name_of scene id)) (stage_below id is) in
       let others = own_name (place_named (name_of scene other)) (stage_below other also) in
       same_id scene id other small little (same_name own_names apart (name_of scene id) (name_of scene other) own.0 others.0 own.1 others.1 (small_counted scene id small) (small_counted scene other little) e)
 
+  end_name : (place : ℕ) (b : Bool) (x y : PlainStage) → x.name ≡ name_of scene (Whole place) → y.name ≡ name_of scene (Whole place) → (cond b x y).name ≡ name_of scene (Whole place)
+  end_name place true x y first second = first
+  end_name place false x y first second = second
+
   the_name : (id : StageId) → (imported scene id).name ≡ name_of scene id
+  the_name (Whole place) = end_name place (gave_up scene.known place) _ _ refl refl
   the_name (Start place) = refl
-  the_name (Whole place) = refl
+  the_name (Tried place) = refl
+  the_name (Limit place) = refl
+  the_name (Answer place) = refl
+  the_name (Work span number) = refl
   the_name (Entry span number) = refl
   the_name (Join span number) = refl
 
-  the_sources : (id : StageId) → (imported scene id).sources ≡ map (name_of scene) (all_sources (length spans) spans family moments failures stand are id)
+  end_sources : (b : Bool) (x y : PlainStage) (first second : List StageId) → x.sources ≡ map (name_of scene) first → y.sources ≡ map (name_of scene) second → (cond b x y).sources ≡ map (name_of scene) (cond b first second)
+  end_sources true x y first second one other = one
+  end_sources false x y first second one other = other
+
+  the_sources : (id : StageId) → (imported scene id).sources ≡ map (name_of scene) (sources id)
+  the_sources (Whole place) = end_sources (gave_up scene.known place) _ _ _ _ refl refl
   the_sources (Start place) = refl
-  the_sources (Whole place) = refl
+  the_sources (Tried place) = refl
+  the_sources (Limit place) = refl
+  the_sources (Answer place) = refl
+  the_sources (Work span number) = refl
   the_sources (Entry span number) = refl
   the_sources (Join span number) = refl
+
+  no_inner : (b : Bool) (x y : PlainStage) → option_to_list x.inner ≡ [] → option_to_list y.inner ≡ [] → option_to_list (cond b x y).inner ≡ []
+  no_inner true x y first second = first
+  no_inner false x y first second = second
+
+  the_inner : (id : StageId) → option_to_list (imported scene id).inner ≡ map (name_of scene) (inner id)
+  the_inner (Whole place) = no_inner (gave_up scene.known place) _ _ refl refl
+  the_inner (Start place) = refl
+  the_inner (Tried place) = refl
+  the_inner (Limit place) = refl
+  the_inner (Answer place) = refl
+  the_inner (Work span number) = refl
+  the_inner (Entry span number) = refl
+  the_inner (Join span number) = refl
 
   named_ids : (ids : List StageId) → map (λ stage. stage_name own_names stage.name) (map (imported scene) ids) ≡ map (λ id. stage_name own_names (name_of scene id)) ids
   named_ids [] = refl
   named_ids (id ∷ ids) = ap (λ name. stage_name own_names name ∷ map (λ stage. stage_name own_names stage.name) (map (imported scene) ids)) (the_name id) ∙ ap (λ l. stage_name own_names (name_of scene id) ∷ l) (named_ids ids)
 
-  module _ (linked : AreLinked (length spans) spans family moments failures stand are tour toured order) where
+  module _ (linked : AreLinked (length spans) spans relations as_told moments failures stand are order) where
     stage_shaped : (id : StageId) → IsStage id → IsShaped (imported scene id)
-    stage_shaped id is =
-        shaped scene stand.timed id
-        (λ span number e. entry_sources_few (length spans) spans family moments failures stand are span number (subst IsStage e is))
-        (λ span number e. join_sources_few (length spans) spans family moments failures stand are span number (subst IsStage e is))
+    stage_shaped id is = let calls = stand.calls in shaped scene calls.timed id (timely (length spans) spans relations as_told moments failures stand are id is)
 
-    source_in : (id : StageId) → IsIn id order → (source : StageName) → IsIn source (imported scene id).sources → IsIn (stage_name own_names source) (map (λ stage. stage_name own_names stage.name) (map (imported scene) order))
-    source_in id h source t =
-        let at = in_map (name_of scene) (all_sources (length spans) spans family moments failures stand are id) source (subst (λ (l : List StageName). IsIn source l) (the_sources id) t) in
-        let put = linked.sources id at.0 h at.1 in
-        subst (λ (l : List (List ℕ)). IsIn (stage_name own_names source) l) (sym (named_ids order))
-        (subst (λ (name : StageName). IsIn (stage_name own_names name) (map (λ other. stage_name own_names (name_of scene other)) order)) (sym at.2) (map_in (λ (other : StageId). stage_name own_names (name_of scene other)) order at.0 put))
+    abbrev IsPut : StageName → Type 0
+    IsPut source = IsIn (stage_name own_names source) (map (λ stage. stage_name own_names stage.name) (map (imported scene) order))
+
+    -- the name of a stage that is put
+    name_put : (s : StageId) → IsIn s order → IsPut (name_of scene s)
+    name_put s put = subst (λ (l : List (List ℕ)). IsIn (stage_name own_names (name_of scene s)) l) (sym (named_ids order)) (map_in (λ (other : StageId). stage_name own_names (name_of scene other)) order s put)
+
+    all_put : (ids : List StageId) (told : List StageName) → told ≡ map (name_of scene) ids → ((s : StageId) → IsIn s ids → IsIn s order) → (source : StageName) → IsIn source told → IsPut source
+    all_put ids told is puts source t =
+        let at = in_map (name_of scene) ids source (subst (λ (l : List StageName). IsIn source l) is t) in
+        subst IsPut (sym at.2) (name_put at.0 (puts at.0 at.1))
 
     fine : (id : StageId) → IsIn id order → IsFine own_names (map (imported scene) order) (imported scene id)
     fine id h =
         let is = linked.stages id h in
-        let small = small_stages (length spans) spans family moments failures stand are id is in
+        let small = small_stages (length spans) spans relations as_told moments failures stand are id is in
         let own = own_name (place_named (name_of scene id)) (stage_below id is) in
+        let counts = small_counted scene id small in
         record {
           shape = stage_shaped id is;
-          named = ap (λ name. is_name (stage_name own_names name)) (the_name id) ∙ well_named spans places (name_of scene id) own.0 few_places own.1 (counted_numbered (name_of scene id) (small_counted scene id small));
-          sources = each_of (λ (source : StageName). IsIn (stage_name own_names source) (map (λ stage. stage_name own_names stage.name) (map (imported scene) order))) (imported scene id).sources (source_in id h);
+          named = ap (λ name. is_name (stage_name own_names name)) (the_name id) ∙ well_named spans relations.order (name_of scene id) own.0 few_places own.1 counts.1;
+          sources = each_of IsPut (imported scene id).sources (all_put (sources id) (imported scene id).sources (the_sources id) (λ s t. linked.sources id s h t));
+          inner = each_of IsPut (option_to_list (imported scene id).inner) (all_put (inner id) (option_to_list (imported scene id).inner) (the_inner id) (λ s t. linked.inner id s h t));
         }
 
     pub fine_stages : (stage : PlainStage) → IsIn stage (map (imported scene) order) → IsFine own_names (map (imported scene) order) stage
@@ -140,33 +184,29 @@ pub record AreFine (own_names : List (List ℕ)) (stages : List PlainStage) : Ty
   pub distinct : AreDistinct (map (λ stage. stage_name own_names stage.name) stages)
   pub fine : (stage : PlainStage) → IsIn stage stages → IsFine own_names stages stage
 
-fine_by : (spans : List Span) (family : PlainFamily) (moments : List At) (tour places : List ℕ) → IsStanding (length spans) family → AreMoments family.intervals moments → AreByStart family.intervals tour → AreByStart family.intervals places
-    → length (stages_by spans family moments tour) ≤ 65536 → AreFine (names spans places) (stages_by spans family moments tour)
-fine_by spans family moments tour places stand are toured by_start few =
-    let all_visits = visits family.parents tour in
-    let failures = failures_by (known_of spans family moments) all_visits in
-    let ids = the_order (length spans) spans family moments failures stand are tour toured in
-    let scene_here = the_scene (length spans) spans family moments failures stand are in
-    let count : length ids ≤ 65536 = omega (arith, length-map ids (imported scene_here), few) in
-    let linked = are_linked (length spans) spans family moments failures stand are tour toured count in
+pub fine_by : (spans : List Span) (relations : PlainRelations) (as_told : AsTold) (moments : List At) → IsStanding (length spans) relations → AreMoments relations.intervals moments → length (stages_by spans relations as_told moments) ≤ 65536
+    → AreFine (names spans relations.order) (stages_by spans relations as_told moments)
+fine_by spans relations as_told moments stand are few =
+    let failures = failures_by (known_of spans relations as_told moments) (visits relations.parents relations.order) in
+    let ids = the_order (length spans) spans relations as_told moments failures stand are in
+    let scene_here = the_scene (length spans) spans relations as_told moments failures stand are in
+    let low : length ids ≤ 65536 = omega (arith, length-map ids (imported scene_here), few) in
+    let linked = are_linked (length spans) spans relations as_told moments failures stand are low in
     record {
       few = few;
-      distinct = distinct_names spans family moments failures stand are tour toured places by_start linked;
-      fine = fine_stages spans family moments failures stand are tour toured places by_start linked;
+      distinct = distinct_names spans relations as_told moments failures stand are linked;
+      fine = fine_stages spans relations as_told moments failures stand are linked;
     }
 
-pub import_fine : (unit : TickUnit) (spans : List Span) (family : PlainFamily) (stages : Stages) (places : List ℕ) → family_of unit spans ≡ Ok family → AreStages spans family stages → AreByStart family.intervals places → length stages.0.items ≤ 65536
-    → AreFine (names spans places) (plain_stages stages.0.items)
-import_fine unit spans family stages places h made by_start few =
-    let are = made.1 in
-    let moments_are = are.0 in
-    let tour = are.1 in
-    let toured = tour.1 in
-    let is : plain_stages stages.0.items ≡ stages_by spans family made.0 tour.0 = toured.1 in
-    let count : length (stages_by spans family made.0 tour.0) ≤ 65536 = subst (λ (l : List PlainStage). length l ≤ 65536) is (omega (arith, length-map stages.0.items plain_stage, few)) in
-    subst (AreFine (names spans places)) (sym is) (fine_by spans family made.0 tour.0 places (standing unit spans family h) moments_are toured.0 by_start count)
+pub import_fine : (unit : TickUnit) (as_told : AsTold) (spans : List Span) (relations : PlainRelations) (stages : Stages) → AreRelationsOf unit as_told spans relations → AreStages spans relations as_told stages → length spans ≤ most_spans → length stages.0.items ≤ 65536
+    → AreFine (names spans relations.order) (plain_stages stages.0.items)
+import_fine unit as_told spans relations stages related made short few =
+    let both = made.1 in
+    let is : plain_stages stages.0.items ≡ stages_by spans relations as_told made.0 = both.1 in
+    let low : length (stages_by spans relations as_told made.0) ≤ 65536 = subst (λ (l : List PlainStage). length l ≤ 65536) is (omega (arith, length-map stages.0.items plain_stage, few)) in
+    subst (AreFine (names spans relations.order)) (sym is) (fine_by spans relations as_told made.0 (standing unit as_told spans relations related short) both.0 low)
 
 pub import_loaded : EachImportIsLoaded
-import_loaded unit spans family stages places h made by_start few =
-    let all = import_fine unit spans family stages places h made by_start few in
-    all_loaded Computed spans (names spans places) (plain_stages stages.0.items) all.few all.distinct all.fine
+import_loaded unit as_told spans relations stages related made short few =
+    let all = import_fine unit as_told spans relations stages related made short few in
+    all_loaded Computed spans (names spans relations.order) (plain_stages stages.0.items) all.few all.distinct all.fine

@@ -6,8 +6,8 @@ use Rattle.std.proofs.lemmas.Bool.{true≢false}
 use Rattle.std.proofs.lemmas.Bool.Decides.{nat_tests}
 use Rattle.std.proofs.lemmas.List.Sorted.{IsPermutation-map, length_permutation, list_any-IsPermutation, sum_by-IsPermutation}
 use Rattle.std.proofs.lemmas.List.Sums.{sum_by-cons}
-use Rattle.trace_family.specs.declared.moment.Interval.{Interval}
-use Rattle.trace_stages.specs.ByStart.{AreByStart, all_starts, starts_from}
+use Rattle.trace_relations.specs.declared.moment.Interval.{Interval}
+use Rattle.trace_relations.specs.ByStart.{AreByStart, all_starts, starts_from}
 use Rattle.trace_accepted.proofs.Members.{AreDistinct, IsIn}
 
 -- numbers in a row

@@ -8,9 +8,9 @@ use Rattle.std.proofs.lemmas.Bool.Decides.{nat_tests}
 use Rattle.std.proofs.lemmas.List.FromFn.{get_or-map-range_with_len, length-map-range_with_len}
 use Rattle.std.proofs.lemmas.Map.Steps.{length-le_from_distinct_below}
 use Rattle.std.proofs.lemmas.Option.{none-some, same_Some, slice_get-get_or, slice_get_past}
-use Rattle.trace_family.specs.declared.moment.Interval.{Interval}
-use Rattle.trace_family.specs.Ancestry.{ancestors, comes_first, first_among, first_of, first_with, is_first_of_circle, known, line, most_spans, parent_at, parent_without_circles, start_at, without_circles}
-use Rattle.trace_tour.specs.Visits.{if_below, known as known_parent, parent_at as tour_parent}
+use Rattle.trace_relations.specs.declared.moment.Interval.{Interval}
+use Rattle.trace_relations.specs.Ancestry.{ancestors, comes_first, first_among, first_of, first_with, is_first_of_circle, known, line, most_spans, parent_at, parent_without_circles, start_at, without_circles}
+use Rattle.trace_stages.specs.Visits.{if_below, known as known_parent, parent_at as tour_parent}
 use Rattle.trace_accepted.proofs.Members.{AreDistinct, IsIn, each_of}
 use Rattle.trace_accepted.proofs.Visited.{HasRoot, above}
 
@@ -26,18 +26,18 @@ module _ (f : ℕ → Option ℕ) where
   trail (suc n) None = []
   trail (suc n) (Some p) = p ∷ trail n (f p)
 
-  up_none : (n : ℕ) → up n None ≡ None
+  pub up_none : (n : ℕ) → up n None ≡ None
   up_none zero = refl
   up_none (suc n) = up_none n
 
   suc_sum : (m n : ℕ) → suc m + n ≡ suc (m + n)
   suc_sum m n = omega arith
 
-  up-add : (m n : ℕ) (o : Option ℕ) → up (m + n) o ≡ up n (up m o)
+  pub up-add : (m n : ℕ) (o : Option ℕ) → up (m + n) o ≡ up n (up m o)
   up-add zero n o = ap (λ k. up k o) (zero-add n)
   up-add (suc m) n o = ap (λ k. up k o) (suc_sum m n) ∙ up-add m n (option_and_then f o)
 
-  up_suc : (n : ℕ) (o : Option ℕ) → up (suc n) o ≡ option_and_then f (up n o)
+  pub up_suc : (n : ℕ) (o : Option ℕ) → up (suc n) o ≡ option_and_then f (up n o)
   up_suc zero o = refl
   up_suc (suc n) o = up_suc n (option_and_then f o)
 
@@ -45,7 +45,7 @@ module _ (f : ℕ → Option ℕ) where
   trail_none zero = refl
   trail_none (suc n) = refl
 
-  in_trail : (n k : ℕ) (o : Option ℕ) (p : ℕ) → k < n → up k o ≡ Some p → IsIn p (trail n o)
+  pub in_trail : (n k : ℕ) (o : Option ℕ) (p : ℕ) → k < n → up k o ≡ Some p → IsIn p (trail n o)
   in_trail zero k o p low at = absurd (omega arith)
   in_trail (suc n) k None p low at = absurd (none-some p (sym (up_none k) ∙ at))
   in_trail (suc n) zero (Some x) p low at = inl (sym (same_Some x p at))
@@ -65,7 +65,7 @@ module _ (f : ℕ → Option ℕ) where
       ]
 
   -- places that do not come again, or a circle
-  circle : (n p : ℕ) → AreDistinct (trail n (Some p)) ⊎ ((y c : ℕ) × (suc c < n) × (up (suc c) (Some y) ≡ Some y))
+  pub circle : (n p : ℕ) → AreDistinct (trail n (Some p)) ⊎ ((y c : ℕ) × (suc c < n) × (up (suc c) (Some y) ≡ Some y))
   circle zero p = inl tt
   circle (suc n) p = elim (find n p (f p)) [
     | inr found ↦ inr (p, found.0, (let low = found.1 in omega arith), found.2)
@@ -80,7 +80,7 @@ module _ (f : ℕ → Option ℕ) where
       after (Some q) e more = more q
 
   -- a span without a parent is found, or there are so many spans above
-  climb : (n p : ℕ) → ((d : ℕ) × (d < n) × (r : ℕ) × (up d (Some p) ≡ Some r) × (f r ≡ None)) ⊎ ((t : ℕ) × (up n (Some p) ≡ Some t))
+  pub climb : (n p : ℕ) → ((d : ℕ) × (d < n) × (r : ℕ) × (up d (Some p) ≡ Some r) × (f r ≡ None)) ⊎ ((t : ℕ) × (up n (Some p) ≡ Some t))
   climb zero p = inr (p, refl)
   climb (suc n) p = by (f p) refl (λ q. climb n q)
     where
@@ -91,7 +91,7 @@ module _ (f : ℕ → Option ℕ) where
         | inr long ↦ inr (long.0, ap (up n) e ∙ long.1)
       ]
 
-  long_trail : (n p t : ℕ) → up n (Some p) ≡ Some t → length (trail (suc n) (Some p)) ≡ suc n
+  pub long_trail : (n p t : ℕ) → up n (Some p) ≡ Some t → length (trail (suc n) (Some p)) ≡ suc n
   long_trail zero p t at = omega arith
   long_trail (suc n) p t at = ap suc (by (f p) refl (λ q up_to. long_trail n q t up_to))
     where
@@ -99,7 +99,7 @@ module _ (f : ℕ → Option ℕ) where
       by None e more = absurd (none-some t (sym (up_none n) ∙ sym (ap (up n) e) ∙ at))
       by (Some q) e more = more q (sym (ap (up n) e) ∙ at)
 
-  below_trail : (n most p : ℕ) → p < most → ((x y : ℕ) → f x ≡ Some y → y < most) → (n' : ℕ) (o : Option ℕ) → ((x : ℕ) → o ≡ Some x → x < most) → (x : ℕ) → IsIn x (trail n' o) → x < most
+  pub below_trail : (n most p : ℕ) → p < most → ((x y : ℕ) → f x ≡ Some y → y < most) → (n' : ℕ) (o : Option ℕ) → ((x : ℕ) → o ≡ Some x → x < most) → (x : ℕ) → IsIn x (trail n' o) → x < most
   below_trail n most p low closed zero o first x h = absurd h
   below_trail n most p low closed (suc n') None first x h = absurd h
   below_trail n most p low closed (suc n') (Some q) first x h = elim h [

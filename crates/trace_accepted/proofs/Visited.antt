@@ -5,9 +5,9 @@ use Rattle.std.specs.Option.{option_eq}
 use Rattle.std.proofs.lemmas.Bool.{true≢false}
 use Rattle.std.proofs.lemmas.Bool.Decides.{nat_tests}
 use Rattle.std.proofs.lemmas.Option.{none-some, same_Some}
-use Rattle.trace_tour.specs.declared.visit.Visit.{Visit}
-use Rattle.trace_tour.specs.declared.visit.Visit.TheVariants.{Enters, Leaves}
-use Rattle.trace_tour.specs.Visits.{children, entered, is_child_of, is_root, most_generations, parent_at, roots, visits}
+use Rattle.trace_stages.specs.declared.tour.visit.Visit.{Visit}
+use Rattle.trace_stages.specs.declared.tour.visit.Visit.TheVariants.{Enters, Leaves}
+use Rattle.trace_stages.specs.Visits.{children, entered, is_child_of, is_root, most_generations, parent_at, roots, visits}
 use Rattle.trace_accepted.proofs.Members.{AreDistinct, IsIn, distinct_append, distinct_filter, distinct_flat_map, filter_in, flat_map_in, in_back, in_either, in_filter, in_flat_map, in_front}
 
 -- the span that stands so many generations above

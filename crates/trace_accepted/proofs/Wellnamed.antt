@@ -10,13 +10,13 @@ use Rattle.std.proofs.lemmas.Fmt.{length-decimal-le}
 use Rattle.std.proofs.lemmas.List.{length-append, length-take}
 use Rattle.std.proofs.lemmas.Option.{none-some, same_Some}
 use Rattle.stage_graph.specs.Checks.{is_first_byte, is_name, is_name_byte}
-use Rattle.trace_names.specs.Names.{base_name, count_before, names, names_from, own_name, service_name, with_number}
-use Rattle.trace_names.specs.Words.{cut, has_some, is_word_character, joined, words_or}
-use Rattle.trace_names.proofs.Joining.{joined_by, joined_none}
+use Rattle.trace_stages.specs.Names.{base_name, count_before, names, names_from, own_name, service_name, with_number}
+use Rattle.trace_stages.specs.Words.{cut, has_some, is_word_character, joined, words_or}
+use Rattle.trace_stages.proofs.WordJoining.{joined_by, joined_none}
 use Rattle.trace_spans.specs.declared.span.Span.{Span}
 use Rattle.trace_stages.specs.declared.stage.StageName.{StageName}
-use Rattle.trace_stages.specs.declared.stage.StageName.TheVariants.{Start, Whole, Join}
-use Rattle.trace_text.specs.Texts.{join_name, name_at, stage_name, text_or_none}
+use Rattle.trace_stages.specs.declared.stage.StageName.TheVariants.{Start, Whole, Join, Work, Tried, Limit, Answer}
+use Rattle.trace_import.specs.StageNames.{name_at, numbered as with_count, stage_name, text_or_none}
 
 -- ---- texts that begin well
 
@@ -162,7 +162,7 @@ digits_named (suc k) n acc h = by (n / 10 == 0) (digits_named k (n / 10) (digit_
     by true rest = more
     by false rest = rest
 
-decimal_named : (n : ℕ) → IsNamed (decimal n)
+pub decimal_named : (n : ℕ) → IsNamed (decimal n)
 unfolding digits
 decimal_named n = digits_named 64 n [] refl
 
@@ -212,30 +212,70 @@ with_ending (c ∷ cs) ending is named few =
     le_test : (k : ℕ) → k ≤ 64 → nat_le k 64 ≡ true
     le_test k low = grind (arith, nat_tests)
 
--- a name of a stage, whose join has such a number
-abbrev pub IsNumbered : StageName → Type 0
-IsNumbered (Start place) = Unit {0}
-IsNumbered (Whole place) = Unit {0}
-IsNumbered (Join place number) = number < 100000
+-- the number in a name, or 1
+abbrev pub number_in : StageName → ℕ
+number_in (Join place number) = number
+number_in (Work place number) = number
+number_in other = 1
 
-join_named : (number : ℕ) → number < 100000 → IsNamed (join_name number) × (length (join_name number) ≤ 11)
-join_named number low = by (nat_lt 1 number)
-  where
-    by : (b : Bool) → IsNamed (cond b (codes ".join-" ++ decimal number) (codes ".join")) × (length (cond b (codes ".join-" ++ decimal number) (codes ".join")) ≤ 11)
-    by true = (named_append (codes ".join-") (decimal number) refl (decimal_named number), omega (arith, length-append (codes ".join-") (decimal number), decimal_few number low))
-    by false = (refl, omega arith)
-
-pub stage_named : (spans : List Span) (order : List ℕ) (place : ℕ) (name : List ℕ) → length order ≤ 65536 → slice_get (names spans order) place ≡ Some name → (ending : List ℕ) → IsNamed ending → length ending ≤ 11 → is_name (text_or_none (slice_get (names spans order) place) ++ ending) ≡ true
-stage_named spans order place name few at ending named low =
-    subst (λ (o : Option (List ℕ)). is_name (text_or_none o ++ ending) ≡ true) (sym at) (with_ending name ending (name_words spans order place name few at) named low)
-
+-- the span whose stage it is
 abbrev pub place_named : StageName → ℕ
 place_named (Start place) = place
 place_named (Whole place) = place
 place_named (Join place number) = place
+place_named (Work place number) = place
+place_named (Tried place) = place
+place_named (Limit place) = place
+place_named (Answer place) = place
+
+-- what is put after the name of the span
+abbrev pub ending_of : StageName → List ℕ
+ending_of (Start place) = codes ".start"
+ending_of (Whole place) = []
+ending_of (Join place number) = with_count (codes ".join") number
+ending_of (Work place number) = with_count (codes ".work") number
+ending_of (Tried place) = codes ".tried"
+ending_of (Limit place) = codes ".limit"
+ending_of (Answer place) = codes ".answer"
+
+pub spelled : (names : List (List ℕ)) (name : StageName) → stage_name names name ≡ name_at names (place_named name) ++ ending_of name
+spelled names (Whole place) = sym (append-nil (name_at names place))
+spelled names (Start place) = refl
+spelled names (Join place number) = refl
+spelled names (Work place number) = refl
+spelled names (Tried place) = refl
+spelled names (Limit place) = refl
+spelled names (Answer place) = refl
+
+-- a name of a stage, which has such a number
+abbrev pub IsNumbered : StageName → Type 0
+IsNumbered name = number_in name < 100000
+
+count_named : (ending : List ℕ) (number : ℕ) → IsNamed ending → length ending ≤ 5 → number < 100000 → IsNamed (with_count ending number) × (length (with_count ending number) ≤ 11)
+count_named ending number is short low = by (nat_lt 1 number)
+  where
+    by : (b : Bool) → IsNamed (cond b (ending ++ codes "-" ++ decimal number) ending) × (length (cond b (ending ++ codes "-" ++ decimal number) ending) ≤ 11)
+    by true = (
+      named_append (ending ++ codes "-") (decimal number) (named_append ending (codes "-") is refl) (decimal_named number),
+      omega (arith, length-append (ending ++ codes "-") (decimal number), length-append ending (codes "-"), decimal_few number low, short),
+    )
+    by false = (is, omega (arith, short))
+
+ending_named : (name : StageName) → IsNumbered name → IsNamed (ending_of name) × (length (ending_of name) ≤ 11)
+ending_named (Join place number) low = count_named (codes ".join") number refl (omega arith) low
+ending_named (Work place number) low = count_named (codes ".work") number refl (omega arith) low
+ending_named (Start place) low = (refl, omega arith)
+ending_named (Whole place) low = (refl, omega arith)
+ending_named (Tried place) low = (refl, omega arith)
+ending_named (Limit place) low = (refl, omega arith)
+ending_named (Answer place) low = (refl, omega arith)
+
+stage_named : (spans : List Span) (order : List ℕ) (place : ℕ) (name : List ℕ) → length order ≤ 65536 → slice_get (names spans order) place ≡ Some name → (ending : List ℕ) → IsNamed ending → length ending ≤ 11 → is_name (text_or_none (slice_get (names spans order) place) ++ ending) ≡ true
+stage_named spans order place name few at ending named low =
+    subst (λ (o : Option (List ℕ)). is_name (text_or_none o ++ ending) ≡ true) (sym at) (with_ending name ending (name_words spans order place name few at) named low)
 
 -- the name of a stage of one of the spans
 pub well_named : (spans : List Span) (order : List ℕ) (name : StageName) (own : List ℕ) → length order ≤ 65536 → slice_get (names spans order) (place_named name) ≡ Some own → IsNumbered name → is_name (stage_name (names spans order) name) ≡ true
-well_named spans order (Start place) own few at fits = stage_named spans order place own few at (codes ".start") refl (omega arith)
-well_named spans order (Whole place) own few at fits = subst (λ (l : List ℕ). is_name l ≡ true) (append-nil (name_at (names spans order) place)) (stage_named spans order place own few at [] refl (omega arith))
-well_named spans order (Join place number) own few at low = let join = join_named number low in stage_named spans order place own few at (join_name number) join.0 join.1
+well_named spans order name own few at fits =
+    let ending = ending_named name fits in
+    subst (λ (text : List ℕ). is_name text ≡ true) (sym (spelled (names spans order) name)) (stage_named spans order (place_named name) own few at (ending_of name) ending.0 ending.1)

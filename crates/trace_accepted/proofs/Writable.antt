@@ -1,105 +1,117 @@
--- What an import writes is plain, and its exceptions have exception names.
-use Rattle.std.proofs.Common.{◌≡◌, ℕ, zero, suc, List, [], ◌∷◌, ◌++◌, Bool, true, false, IfSome, IsTrue, Option, Some, None, codes, length, decimal, nat_lt, cond, refl, arith, subst}
-use Rattle.std.specs.Prelude.{◌&&◌, nat_le, slice_get}
-use Rattle.std.specs.List.{AllByRecursion as Each, list_all}
+-- The stages that an import writes can be read back.
+use Rattle.std.proofs.Common.{◌≡◌, ℕ, ◌<◌, ◌≤◌, ◌^◌, List, [], ◌∷◌, All, Bool, true, false, cond, map, IfSome, IsTrue, IsUtf8, Option, Some, None, option_map, refl, sym, subst, arith}
+use Rattle.std.specs.List.{AllByRecursion as Each}
+use Rattle.std.specs.Option.{option_to_list}
 use Rattle.std.proofs.lemmas.Bool.Decides.{nat_tests}
-use Rattle.std.proofs.lemmas.List.Elements.{recursion_from_All}
-use Rattle.std.proofs.lemmas.Option.{none-some, same_Some}
-use Rattle.act_expr.specs.ExceptionName.{is_exception_name, is_name_byte}
+use Rattle.std.proofs.lemmas.List.Elements.{All-from_recursion}
+use Rattle.act_expr.specs.ExceptionName.{is_exception_name}
+use Rattle.act_expr.specs.Expression.{depth, literal, throw}
+use Rattle.act_expr.specs.declared.outcome.Value.TheVariants as value
+use Rattle.recording.specs.Written.{IsWellFormed}
+use Rattle.recording.specs.WrittenStages.{IsOp}
+use Rattle.recording_back.specs.ReadBack.{IsLabelled, IsWritable}
+use Rattle.stage_graph.specs.Checks.{is_tick}
 use Rattle.trace_spans.specs.declared.span.Span.{Span}
 use Rattle.trace_stages.specs.Naming.{PlainStage}
-use Rattle.trace_stages.specs.declared.stage.Exception.{Exception}
-use Rattle.trace_stages.specs.declared.stage.Exception.TheVariants.{SpanFailed, Of}
+use Rattle.trace_stages.specs.declared.stage.Action.{Action}
+use Rattle.trace_stages.specs.declared.stage.Action.TheVariants.{Null, PicksFirst, Throws, ThrowsIfFailed}
+use Rattle.trace_stages.specs.declared.stage.Op.{Op as ImportedOp}
+use Rattle.trace_stages.specs.declared.stage.Op.TheVariants as ops
 use Rattle.trace_stages.specs.declared.stage.StageName.{StageName}
-use Rattle.trace_stages.specs.declared.stage.StageName.TheVariants.{Start, Whole, Join}
-use Rattle.trace_text.specs.Texts.{exception_name, join_name, name_at, name_told, stage_name, text_or_none, thrown_at}
-use Rattle.trace_accepted.specs.Plain.{IsPlain, is_plain}
-use Rattle.trace_accepted.specs.ReadBack.{EachImportIsReadBack, HasTimes, IsTold}
-use Rattle.trace_accepted.proofs.LineRows.{IsPlainStage}
-use Rattle.trace_accepted.proofs.LinesBack.{IsReadable}
-use Rattle.trace_accepted.proofs.PlainText.{and_true, decimal_plain, plain_append, true_and}
-use Rattle.trace_accepted.proofs.TextBack.{text_back}
+use Rattle.trace_import.specs.Actions.{exception_name, imported_action}
+use Rattle.trace_import.specs.Specs.{imported_op, imported_spec, labelled_stage, labelled_stages}
+use Rattle.trace_import.specs.StageNames.{stage_name}
+use Rattle.trace_import.specs.Texts.{HasTexts}
+use Rattle.trace_accepted.proofs.Loading.{AreFine}
+use Rattle.trace_accepted.proofs.Members.{IsIn, each_of, in_map}
+use Rattle.trace_accepted.proofs.Spelled.{all_stage_labels, name_text}
 
-each_at : {X : Type 0} (P : X → Type 0) (xs : List X) (k : ℕ) (x : X) → Each P xs → slice_get xs k ≡ Some x → P x
-each_at P [] k x all at = absurd (none-some x at)
-each_at P (y ∷ ys) zero x all at = subst P (same_Some y x at) all.0
-each_at P (y ∷ ys) (suc k) x all at = each_at P ys k x all.1 at
+-- ---- operations and actions
+
+op_written : (op : ImportedOp) → IsOp (imported_op op)
+op_written ops.Async = tt
+op_written ops.Manual = tt
+op_written ops.ThenRun = tt
+op_written ops.Handle = tt
+op_written ops.WhenComplete = tt
+op_written ops.ExceptionallyCompose = tt
+op_written ops.AllOf = tt
+op_written ops.AnyOf = tt
+
+thrown_written : (b : Bool) (name : List ℕ) → is_exception_name name ≡ b → IsWellFormed (cond b (throw name) (literal value.Null))
+thrown_written true name e = e
+thrown_written false name e = tt
+
+action_written : (spans : List Span) (action : Option Action) → IfSome (option_map (imported_action spans) action) IsWellFormed
+action_written spans None = tt
+action_written spans (Some Null) = tt
+action_written spans (Some PicksFirst) = omega arith
+action_written spans (Some (Throws exception)) = thrown_written (is_exception_name (exception_name spans exception)) (exception_name spans exception) refl
+action_written spans (Some (ThrowsIfFailed exception)) = (tt, thrown_written (is_exception_name (exception_name spans exception)) (exception_name spans exception) refl, tt)
+
+thrown_depth : (b : Bool) (name : List ℕ) → depth (cond b (throw name) (literal value.Null)) ≤ 1
+thrown_depth true name = omega arith
+thrown_depth false name = omega arith
+
+action_shallow : (spans : List Span) (action : Option Action) → IfSome (option_map (imported_action spans) action) (λ e. depth e ≤ 100)
+action_shallow spans None = tt
+action_shallow spans (Some Null) = omega arith
+action_shallow spans (Some PicksFirst) = omega arith
+action_shallow spans (Some (Throws exception)) =
+    let low = thrown_depth (is_exception_name (exception_name spans exception)) (exception_name spans exception) in
+    omega arith
+action_shallow spans (Some (ThrowsIfFailed exception)) =
+    let low = thrown_depth (is_exception_name (exception_name spans exception)) (exception_name spans exception) in
+    omega arith
+
+tick_low : (n : ℕ) → IsTrue (is_tick n) → n < 2 ^ 64
+tick_low n h = grind (arith, nat_tests)
+
+each_map : {X Y : Type 0} (P : Y → Type 0) (f : X → Y) (xs : List X) → Each (λ x. P (f x)) xs → Each P (map f xs)
+each_map P f [] h = tt
+each_map P f (x ∷ xs) h = (h.0, each_map P f xs h.1)
 
 each_weaker : {X : Type 0} (P : X → Type 0) (Q : X → Type 0) → ((x : X) → P x → Q x) → (xs : List X) → Each P xs → Each Q xs
 each_weaker P Q f [] h = tt
 each_weaker P Q f (x ∷ xs) h = (f x h.0, each_weaker P Q f xs h.1)
 
-each_any : {X : Type 0} (P : X → Type 0) → ((x : X) → P x) → (xs : List X) → Each P xs
-each_any P f [] = tt
-each_any P f (x ∷ xs) = (f x, each_any P f xs)
+module _ (spans : List Span) (names : List (List ℕ)) (stages : List PlainStage) (are : AreFine names stages) where
+  abbrev HasStage : StageName → Type 0
+  HasStage source = IsIn (stage_name names source) (map (λ stage. stage_name names stage.name) stages)
 
--- ---- names
+  -- the name of a stage that is there is UTF-8
+  source_text : (source : StageName) → HasStage source → IsUtf8 (stage_name names source)
+  source_text source h =
+      let of = in_map (λ (stage : PlainStage). stage_name names stage.name) stages (stage_name names source) h in
+      let fine = are.fine of.0 of.1 in
+      subst IsUtf8 (sym of.2) (name_text (stage_name names of.0.name) fine.named)
 
-name_plain : (names : List (List ℕ)) → Each IsPlain names → (place : ℕ) → IsPlain (name_at names place)
-name_plain names all place = by (slice_get names place) refl
-  where
-    by : (o : Option (List ℕ)) → slice_get names place ≡ o → IsPlain (text_or_none o)
-    by None e = refl
-    by (Some name) e = each_at IsPlain names place name all e
+  sources_texts : (sources : List StageName) → Each HasStage sources → All IsUtf8 (map (stage_name names) sources)
+  sources_texts sources all =
+      All-from_recursion IsUtf8 (map (stage_name names) sources) (each_map IsUtf8 (stage_name names) sources (each_weaker HasStage (λ (source : StageName). IsUtf8 (stage_name names source)) source_text sources all))
 
-join_plain : (number : ℕ) → IsPlain (join_name number)
-join_plain number = by (nat_lt 1 number)
-  where
-    by : (b : Bool) → IsPlain (cond b (codes ".join-" ++ decimal number) (codes ".join"))
-    by true = plain_append (codes ".join-") (decimal number) refl (decimal_plain number)
-    by false = refl
+  stage_written : (stage : PlainStage) → IsIn stage stages → IsWritable (imported_spec spans names stage)
+  stage_written stage h =
+      let fine = are.fine stage h in
+      let shape = fine.shape in
+      record {
+        name = name_text (stage_name names stage.name) fine.named;
+        sources = sources_texts stage.sources fine.sources;
+        inner = sources_texts (option_to_list stage.inner) fine.inner;
+        op = op_written stage.op;
+        created = tick_low stage.created shape.created;
+        queued = tick_low stage.queued shape.queued;
+        runs = tick_low stage.runs shape.runs;
+        action = action_written spans stage.action;
+        shallow = action_shallow spans stage.action;
+        pin_result = tt;
+        pin_moment = tt;
+        ends = λ k d low. absurd (omega arith);
+        ticks = λ k d low. absurd (omega arith);
+      }
 
-pub stage_plain : (names : List (List ℕ)) → Each IsPlain names → (name : StageName) → IsPlain (stage_name names name)
-stage_plain names all (Start place) = plain_append (name_at names place) (codes ".start") (name_plain names all place) refl
-stage_plain names all (Whole place) = name_plain names all place
-stage_plain names all (Join place number) = plain_append (name_at names place) (join_name number) (name_plain names all place) (join_plain number)
-
--- ---- exceptions
-
-byte_plain : (b : ℕ) → is_name_byte b ≡ true → is_plain b ≡ true
-byte_plain b h = grind (arith, nat_tests)
-
-bytes_plain : (text : List ℕ) → IsTrue (list_all is_name_byte text) → IsPlain text
-bytes_plain [] h = refl
-bytes_plain (x ∷ xs) h = let both = and_true (is_name_byte x) (list_all is_name_byte xs) h in true_and (is_plain x) (list_all is_plain xs) (byte_plain x both.0) (bytes_plain xs both.1)
-
-exception_bytes : (text : List ℕ) → IsTrue (is_exception_name text) → IsTrue (list_all is_name_byte text)
-exception_bytes text h =
-    let one = and_true (nat_lt 0 (length text) && nat_le (length text) 128 && list_all is_name_byte text) _ h in
-    let two = and_true (nat_lt 0 (length text) && nat_le (length text) 128) (list_all is_name_byte text) one.0 in
-    two.1
-
-pub is_exception : (spans : List Span) → Each IsTold spans → (exception : Exception) → IsTrue (is_exception_name (exception_name spans exception))
-is_exception spans told SpanFailed = refl
-is_exception spans told (Of place) = by (slice_get spans place) refl
-  where
-    named : (o : Option (List ℕ)) → IfSome o (λ name. IsTrue (is_exception_name name)) → IsTrue (is_exception_name (name_told o))
-    named None h = refl
-    named (Some name) h = h
-
-    by : (o : Option Span) → slice_get spans place ≡ o → IsTrue (is_exception_name (thrown_at o))
-    by None e = refl
-    by (Some span) e = let is = each_at IsTold spans place span told e in named span.exception is.exception
-
--- ---- stages
-
-pub reads_back : EachImportIsReadBack
-reads_back trace unit start spans names stages h short =
-    let told = recursion_from_All IsTold spans h.told in
-    let named = recursion_from_All IsPlain names h.names_plain in
-    let exceptions = λ (exception : Exception). is_exception spans told exception in
-    let plain = λ (stage : PlainStage). the_plain told named stage in
-    let readable = λ (stage : PlainStage) (times : HasTimes stage). the_readable told stage times in
-    text_back trace unit start spans names stages h.trace_plain (each_any (IsPlainStage spans names) plain stages)
-    (each_weaker HasTimes (IsReadable spans) readable stages (recursion_from_All HasTimes stages h.times)) short
-  where
-    the_plain : Each IsTold spans → Each IsPlain names → (stage : PlainStage) → IsPlainStage spans names stage
-    the_plain told named stage = record {
-      name = stage_plain names named stage.name;
-      sources = each_any (λ (source : StageName). IsPlain (stage_name names source)) (stage_plain names named) stage.sources;
-      exceptions = λ exception. bytes_plain (exception_name spans exception) (exception_bytes (exception_name spans exception) (is_exception spans told exception));
-      ids = λ place span at. let is = each_at IsTold spans place span told at in is.id;
-    }
-
-    the_readable : Each IsTold spans → (stage : PlainStage) → HasTimes stage → IsReadable spans stage
-    the_readable told stage times = record { created = times.created; queued = times.queued; runs = times.runs; exceptions = λ exception. is_exception spans told exception }
+  pub all_written : All HasTexts spans → All IsLabelled (labelled_stages spans names stages)
+  all_written texts =
+      All-from_recursion IsLabelled (labelled_stages spans names stages)
+      (each_map IsLabelled (labelled_stage spans names) stages
+      (each_of (λ (stage : PlainStage). IsLabelled (labelled_stage spans names stage)) stages (λ stage h. record { writable = stage_written stage h; labels = all_stage_labels spans texts stage.name })))

@@ -1,5 +1,2 @@
-pub mod Imported
-pub mod Plain
-pub mod ReadBack
 pub mod Accepted
-pub mod Import
+pub mod Read

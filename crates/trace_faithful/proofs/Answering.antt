@@ -20,13 +20,14 @@ use Rattle.stage_ops.specs.JavaLaws.{java_reads_decide}
 use Rattle.stage_ops.specs.States.{Completion, pending, seen, seen_at}
 use Rattle.stage_ops.specs.declared.state.Done.{Done}
 use Rattle.stage_ops.specs.declared.state.State.{State}
-use Rattle.trace_events.specs.Moments.{AreMoments, At}
-use Rattle.trace_family.specs.Family.{PlainFamily}
-use Rattle.trace_family.specs.Moments.{end_after, interval_at}
+use Rattle.trace_stages.specs.Moments.{AreMoments, At}
+use Rattle.trace_relations.specs.Relations.{PlainRelations}
+use Rattle.trace_relations.specs.Moments.{end_after, interval_at}
 use Rattle.trace_spans.specs.declared.span.Span.{Span}
 use Rattle.trace_stages.specs.Beginnings.{option_list}
-use Rattle.trace_stages.specs.ByStart.{AreByStart}
-use Rattle.trace_stages.specs.Failures.{end_outcome, failure, failure_at_end, failures_by, last_step, thrown}
+use Rattle.trace_relations.specs.ByStart.{AreByStart}
+use Rattle.trace_stages.specs.EndOutcomes.{end_outcome}
+use Rattle.trace_stages.specs.Failures.{failure, failure_at_end, failures_by, last_step, thrown}
 use Rattle.trace_stages.specs.Failures as fails
 use Rattle.trace_stages.specs.Fates.{fate_at, fate_of}
 use Rattle.trace_stages.specs.Known.{PlainKnown}
@@ -41,11 +42,11 @@ use Rattle.trace_stages.specs.declared.stage.Action.TheVariants as acts
 use Rattle.trace_stages.specs.declared.stage.Exception.{Exception}
 use Rattle.trace_stages.specs.declared.stage.Op.TheVariants.{ThenRun, Handle}
 use Rattle.trace_stages.specs.declared.stage.StageName.{StageName}
-use Rattle.trace_tour.specs.Visits.{visits}
-use Rattle.trace_tour.specs.declared.visit.Visit.{Visit}
-use Rattle.trace_tour.specs.declared.visit.Visit.TheVariants.{Enters, Leaves}
-use Rattle.trace_walk.specs.declared.stage.StageId.{StageId}
-use Rattle.trace_walk.specs.declared.stage.StageId.TheVariants.{Start, Whole, Entry, Join}
+use Rattle.trace_stages.specs.Visits.{visits}
+use Rattle.trace_stages.specs.declared.tour.visit.Visit.{Visit}
+use Rattle.trace_stages.specs.declared.tour.visit.Visit.TheVariants.{Enters, Leaves}
+use Rattle.trace_stages.specs.declared.walk.stage_id.StageId.{StageId}
+use Rattle.trace_stages.specs.declared.walk.stage_id.StageId.TheVariants.{Start, Whole, Entry, Join}
 use Rattle.trace_faithful.specs.Circles.{HaveSources, IsNamedBy, sources_of, trace_scene, trace_stages}
 use Rattle.trace_faithful.specs.Completes.{CompletesAt, action_of, op_of, spec_of}
 use Rattle.trace_faithful.specs.Faithful.{CompletesAs, EndsAs, FailsAs}
@@ -107,41 +108,41 @@ whole_left scene order (Leaves span ∷ some) place here = elim (whole_left scen
   | inr later ↦ inr (inr later)
 ]
 
-module _ (spans : List Span) (family : PlainFamily) (is : IsFamily spans family) (moments : List At) (are : AreMoments family.intervals moments) (order : List ℕ) (by_start : AreByStart family.intervals order)
+module _ (spans : List Span) (relations : PlainRelations) (is : IsFamily spans relations) (moments : List At) (are : AreMoments relations.intervals moments) (order : List ℕ) (by_start : AreByStart relations.intervals order)
     (text : StageName → List ℕ) (exceptions : Exception → List ℕ) where
   abbrev pub Known : PlainKnown
-  Known = known_of spans family moments
+  Known = known_of spans relations moments
 
   abbrev pub failures : ℕ → Option Exception
-  failures = failures_by (known_of spans family moments) (visits family.parents order)
+  failures = failures_by (known_of spans relations moments) (visits relations.parents order)
 
   abbrev pub Scene : PlainScene
-  Scene = trace_scene spans family moments order
+  Scene = trace_scene spans relations moments order
 
   abbrev pub Stages : List StageId
-  Stages = trace_stages spans family moments order
+  Stages = trace_stages spans relations moments order
 
   abbrev ends : StageId → Outcome
-  ends id = outcome spans family is moments are (failures_by (known_of spans family moments) (visits family.parents order)) id
+  ends id = outcome spans relations is moments are (failures_by (known_of spans relations moments) (visits relations.parents order)) id
 
   abbrev started : ℕ → ℕ
-  started place = (interval_at family.intervals place).start
+  started place = (interval_at relations.intervals place).start
 
   abbrev pub Closed : StageId → Type 0
-  Closed id = IsClosed spans family is moments are (failures_by (known_of spans family moments) (visits family.parents order)) id
+  Closed id = IsClosed spans relations is moments are (failures_by (known_of spans relations moments) (visits relations.parents order)) id
 
   -- how a stage completes
   abbrev Claim : StageId → Option Done → Type 0
   Claim (Start place) done = CompletesAt exceptions (Some (started place)) (started place) None done
-  Claim (Whole place) done = EndsAs exceptions (interval_at family.intervals place) (has_two family.hosts family.waiting place) (interval_at family.intervals place).end (failures place) done
+  Claim (Whole place) done = EndsAs exceptions (interval_at relations.intervals place) (has_two relations.hosts relations.waiting place) (interval_at relations.intervals place).end (failures place) done
   Claim (Entry place count) done = CompletesAt exceptions None (ends (Entry place count)).tick (ends (Entry place count)).failure done
   Claim (Join place count) done = CompletesAt exceptions None (ends (Join place count)).tick (ends (Join place count)).failure done
 
   closed_done : (id : StageId) (done : Option Done) → Closed id → Claim id done → (start : Option ℕ) × CompletesAt exceptions start (ends id).tick (ends id).failure done
   closed_done (Start place) completion closed claim = (Some (started place), claim)
-  closed_done (Whole place) completion closed claim = by_end (interval_at family.intervals place).end closed.1 claim
+  closed_done (Whole place) completion closed claim = by_end (interval_at relations.intervals place).end closed.1 claim
     where
-      by_end : (end : Option ℕ) → end ≡ Some closed.0 → EndsAs exceptions (interval_at family.intervals place) (has_two family.hosts family.waiting place) end (failures place) completion
+      by_end : (end : Option ℕ) → end ≡ Some closed.0 → EndsAs exceptions (interval_at relations.intervals place) (has_two relations.hosts relations.waiting place) end (failures place) completion
           → (start : Option ℕ) × CompletesAt exceptions start (unwrap_or end 0) (failures place) completion
       by_end None none claim = absurd (none-some closed.0 none)
       by_end (Some tick) some claim = (claim.0, claim.1)
@@ -151,22 +152,22 @@ module _ (spans : List Span) (family : PlainFamily) (is : IsFamily spans family)
   -- what a stage waits for isn't the end of an open span
   pub sources_closed : (id : StageId) → Each Closed (sources_of Scene id)
   sources_closed (Start place) = Rattle.trace_faithful.proofs.Each.in-each Closed (sources_of Scene (Start place)) (λ source here.
-      (first_begins spans family is moments are failures place source (sym (begin_source Scene place 0 acts.Null (entry_at Scene.entries place).stage) ∙ option_in (begin_work Scene place 0 acts.Null).source source here)).closed)
-  sources_closed (Whole place) = by_end (interval_at family.intervals place).end refl
+      (first_begins spans relations is moments are failures place source (sym (begin_source Scene place 0 acts.Null (entry_at Scene.entries place).stage) ∙ option_in (begin_work Scene place 0 acts.Null).source source here)).closed)
+  sources_closed (Whole place) = by_end (interval_at relations.intervals place).end refl
     where
       begun_closed : (runs : ℕ) (failed : Option Exception) → Each Closed (option_list (begin_work Scene place runs (fails.action_of failed)).source)
       begun_closed runs failed = Rattle.trace_faithful.proofs.Each.in-each Closed (option_list (begin_work Scene place runs (fails.action_of failed)).source) (λ source here.
-          (first_begins spans family is moments are failures place source (sym (begin_source Scene place runs (fails.action_of failed) (entry_at Scene.entries place).stage) ∙ option_in (begin_work Scene place runs (fails.action_of failed)).source source here)).closed)
+          (first_begins spans relations is moments are failures place source (sym (begin_source Scene place runs (fails.action_of failed) (entry_at Scene.entries place).stage) ∙ option_in (begin_work Scene place runs (fails.action_of failed)).source source here)).closed)
 
-      by_two : (tick : ℕ) → (interval_at family.intervals place).end ≡ Some tick → (b : Bool) → Each Closed (option_list (cond b (last_work Scene place tick) (begin_work Scene place (tick - started place) (fails.action_of (thrown (fate_at Known.fates place))))).source)
-      by_two tick some true = ((last_ends spans family is moments are failures place tick some).closed, tt)
+      by_two : (tick : ℕ) → (interval_at relations.intervals place).end ≡ Some tick → (b : Bool) → Each Closed (option_list (cond b (last_work Scene place tick) (begin_work Scene place (tick - started place) (fails.action_of (thrown (fate_at Known.fates place))))).source)
+      by_two tick some true = ((last_ends spans relations is moments are failures place tick some).closed, tt)
       by_two tick some false = begun_closed (tick - started place) (thrown (fate_at Known.fates place))
 
-      by_end : (end : Option ℕ) → (interval_at family.intervals place).end ≡ end → Each Closed (option_list (whole_with Scene place end).source)
+      by_end : (end : Option ℕ) → (interval_at relations.intervals place).end ≡ end → Each Closed (option_list (whole_with Scene place end).source)
       by_end None none = tt
       by_end (Some tick) some = by_two tick some (Known.has_two place)
-  sources_closed (Entry place count) = entry_closed spans family is moments are failures place count
-  sources_closed (Join place count) = join_closed spans family is moments are failures place count
+  sources_closed (Entry place count) = entry_closed spans relations is moments are failures place count
+  sources_closed (Join place count) = join_closed spans relations is moments are failures place count
 
   -- ---- one stage
 
@@ -189,7 +190,7 @@ module _ (spans : List Span) (family : PlainFamily) (is : IsFamily spans family)
 
     -- the first stage of a span
     begin_completes : (place runs : ℕ) (failing : Option Exception) (places : List ℕ) (stage : Option StageId)
-        → ((source : StageId) → stage ≡ Some source → Begins spans family is moments are failures place source) → SeesAll exceptions inputs places (map ends (option_list stage))
+        → ((source : StageId) → stage ≡ Some source → Begins spans relations is moments are failures place source) → SeesAll exceptions inputs places (map ends (option_list stage))
         → CompletesAt exceptions (Some (started place)) (started place + runs) failing
         (Done_of exceptions inputs (plain_stage position name (op_of (begin_from Scene place runs (fails.action_of failing) stage).op) places (begin_from Scene place runs (fails.action_of failing) stage).created
         (begin_from Scene place runs (fails.action_of failing) stage).queued (begin_from Scene place runs (fails.action_of failing) stage).runs (option_map (action_of exceptions) (begin_from Scene place runs (fails.action_of failing) stage).action)))
@@ -211,19 +212,19 @@ module _ (spans : List Span) (family : PlainFamily) (is : IsFamily spans family)
         (Done_of exceptions inputs (plain_stage position name (op_of (begin_work Scene place runs (fails.action_of failing)).op) places (begin_work Scene place runs (fails.action_of failing)).created
         (begin_work Scene place runs (fails.action_of failing)).queued (begin_work Scene place runs (fails.action_of failing)).runs (option_map (action_of exceptions) (begin_work Scene place runs (fails.action_of failing)).action)))
     begun_completes place runs failing places sees =
-        begin_completes place runs failing places (entry_at Scene.entries place).stage (λ source stage. first_begins spans family is moments are failures place source stage)
+        begin_completes place runs failing places (entry_at Scene.entries place).stage (λ source stage. first_begins spans relations is moments are failures place source stage)
         (subst (λ stage. SeesAll exceptions inputs places (map ends (option_list stage))) (begin_source Scene place runs (fails.action_of failing) (entry_at Scene.entries place).stage) sees)
 
     -- the last stage of a span that has two
-    last_completes_at : (place tick : ℕ) (places : List ℕ) → (interval_at family.intervals place).end ≡ Some tick → SeesAll exceptions inputs places (map ends (at_end Scene place ∷ []))
+    last_completes_at : (place tick : ℕ) (places : List ℕ) → (interval_at relations.intervals place).end ≡ Some tick → SeesAll exceptions inputs places (map ends (at_end Scene place ∷ []))
         → (start : Option ℕ) × CompletesAt exceptions start tick (last_step (ends (at_end Scene place)).failure (fate_at Known.fates place)).failure
         (Done_of exceptions inputs (plain_stage position name (op_of (last_work Scene place tick).op) places 0 0 (last_work Scene place tick).runs (option_map (action_of exceptions) (last_work Scene place tick).action)))
     last_completes_at place tick [] some sees = absurd sees
     last_completes_at place tick (one ∷ two ∷ places) some sees = absurd sees.1
     last_completes_at place tick (one ∷ []) some sees =
-        let ended = last_ends spans family is moments are failures place tick some in
-        let lt : place < length family.intervals = ended_place family.intervals place (end_after (started place) tick) (ap (option_map (end_after (started place))) some) in
-        let went = fate_is spans family is moments are failures place (let n : length family.intervals ≡ length spans = is.count in omega arith) in
+        let ended = last_ends spans relations is moments are failures place tick some in
+        let lt : place < length relations.intervals = ended_place relations.intervals place (end_after (started place) tick) (ap (option_map (end_after (started place))) some) in
+        let went = fate_is spans relations is moments are failures place (let n : length relations.intervals ≡ length spans = is.count in omega arith) in
         let e : (ends (at_end Scene place)).tick + 0 + (tick - (ends (at_end Scene place)).tick) ≡ tick = let le : (ends (at_end Scene place)).tick ≤ tick = ended.by in omega arith in (
           Some ((ends (at_end Scene place)).tick + 0),
           subst (λ o. CompletesAt exceptions (Some ((ends (at_end Scene place)).tick + 0)) tick (last_step (ends (at_end Scene place)).failure (fate_at Known.fates place)).failure
@@ -235,16 +236,16 @@ module _ (spans : List Span) (family : PlainFamily) (is : IsFamily spans family)
               (last_completes spans place exceptions inputs position name one (ends (at_end Scene place)).tick 0 (tick - (ends (at_end Scene place)).tick) (ends (at_end Scene place)).failure (slice_get spans place) sees.0))),
         )
 
-    fails_by : (place tick : ℕ) (end : Option ℕ) → (interval_at family.intervals place).end ≡ end → end ≡ Some tick → (b : Bool) → Known.has_two place ≡ b → failures place ≡ failure Known failures place
+    fails_by : (place tick : ℕ) (end : Option ℕ) → (interval_at relations.intervals place).end ≡ end → end ≡ Some tick → (b : Bool) → Known.has_two place ≡ b → failures place ≡ failure Known failures place
         → failures place ≡ cond b (last_step (end_outcome Known failures place).failure (fate_at Known.fates place)).failure (thrown (fate_at Known.fates place))
     fails_by place tick end is_end some b two fails_here =
         fails_here
         ∙ ap (λ those. cond (is_some those) (failure_at_end Known failures place) None) (is_end ∙ some)
         ∙ ap (λ c. cond c (last_step (end_outcome Known failures place).failure (fate_at Known.fates place)).failure (thrown (fate_at Known.fates place))) two
 
-    whole_completes : (place : ℕ) (end : Option ℕ) (places : List ℕ) → (interval_at family.intervals place).end ≡ end → failures place ≡ failure Known failures place
+    whole_completes : (place : ℕ) (end : Option ℕ) (places : List ℕ) → (interval_at relations.intervals place).end ≡ end → failures place ≡ failure Known failures place
         → SeesAll exceptions inputs places (map ends (option_list (whole_with Scene place end).source))
-        → EndsAs exceptions (interval_at family.intervals place) (has_two family.hosts family.waiting place) end (failures place)
+        → EndsAs exceptions (interval_at relations.intervals place) (has_two relations.hosts relations.waiting place) end (failures place)
         (Done_of exceptions inputs (plain_stage position name (op_of (whole_with Scene place end).op) places (whole_with Scene place end).created (whole_with Scene place end).queued (whole_with Scene place end).runs (option_map (action_of exceptions) (whole_with Scene place end).action)))
     whole_completes place None [] is_end fails_here sees = never_completes exceptions inputs position name (started place)
     whole_completes place None (one ∷ places) is_end fails_here sees = absurd sees
@@ -260,10 +261,10 @@ module _ (spans : List Span) (family : PlainFamily) (is : IsFamily spans family)
             (option_map (action_of exceptions) (cond b (last_work Scene place tick) (begin_work Scene place (tick - started place) (fails.action_of (thrown (fate_at Known.fates place))))).action)))
             × (b ≡ false → start ≡ Some (started place))
         by_two true two sees =
-            let lt : place < length family.intervals = ended_place family.intervals place (end_after (started place) tick) (ap (option_map (end_after (started place))) is_end) in
+            let lt : place < length relations.intervals = ended_place relations.intervals place (end_after (started place) tick) (ap (option_map (end_after (started place))) is_end) in
             let done = last_completes_at place tick places is_end sees in
             let same : failures place ≡ (last_step (ends (at_end Scene place)).failure (fate_at Known.fates place)).failure =
-            fails_by place tick (Some tick) is_end refl true two fails_here ∙ sym (last_fails spans family is moments are failures place lt (let n : length family.intervals ≡ length spans = is.count in omega arith)) in
+            fails_by place tick (Some tick) is_end refl true two fails_here ∙ sym (last_fails spans relations is moments are failures place lt (let n : length relations.intervals ≡ length spans = is.count in omega arith)) in
             (done.0, subst (λ f. CompletesAt exceptions done.0 tick f (Done_of exceptions inputs (plain_stage position name (op_of (last_work Scene place tick).op) places 0 0 (last_work Scene place tick).runs (option_map (action_of exceptions) (last_work Scene place tick).action)))) (sym same) done.1, λ e. absurd (false≢true (sym e)))
         by_two false two sees =
             let e : started place + (tick - started place) ≡ tick = let le : started place ≤ tick = is.forward place tick is_end in omega arith in
@@ -287,12 +288,12 @@ module _ (spans : List Span) (family : PlainFamily) (is : IsFamily spans family)
       let done = begun_completes inputs position (text (name_of Scene (Start place))) place 0 None (places_of find (map text (map (name_of Scene) (sources_of Scene (Start place))))) sees in
       (done.0, done.1 ∙ ap (λ n. Some (record { outcome = Rattle.trace_faithful.specs.Completes.outcome_for exceptions None; moment = n; from = done.0; start = Some (started place) })) e)
   step inputs find position (Whole place) fails_here sees =
-      whole_completes inputs position (text (name_of Scene (Whole place))) place (interval_at family.intervals place).end (places_of find (map text (map (name_of Scene) (sources_of Scene (Whole place))))) refl (fails_here place refl) sees
+      whole_completes inputs position (text (name_of Scene (Whole place))) place (interval_at relations.intervals place).end (places_of find (map text (map (name_of Scene) (sources_of Scene (Whole place))))) refl (fails_here place refl) sees
   step inputs find position (Entry place count) fails_here sees =
-      subst (λ o. CompletesAt exceptions None o.tick o.failure (java_step Computed (stage_of find position (spec_of text exceptions (imported Scene (Entry place count)))) inputs).done) (sym (entry_ends spans family is moments are failures place count))
+      subst (λ o. CompletesAt exceptions None o.tick o.failure (java_step Computed (stage_of find position (spec_of text exceptions (imported Scene (Entry place count)))) inputs).done) (sym (entry_ends spans relations is moments are failures place count))
       (join_completes exceptions inputs position (text (name_of Scene (Entry place count))) (places_of find (map text (map (name_of Scene) (sources_of Scene (Entry place count))))) (map ends (entry_sources Scene place count)) sees)
   step inputs find position (Join place count) fails_here sees =
-      subst (λ o. CompletesAt exceptions None o.tick o.failure (java_step Computed (stage_of find position (spec_of text exceptions (imported Scene (Join place count)))) inputs).done) (sym (join_ends spans family is moments are failures place count))
+      subst (λ o. CompletesAt exceptions None o.tick o.failure (java_step Computed (stage_of find position (spec_of text exceptions (imported Scene (Join place count)))) inputs).done) (sym (join_ends spans relations is moments are failures place count))
       (join_completes exceptions inputs position (text (name_of Scene (Join place count))) (places_of find (map text (map (name_of Scene) (sources_of Scene (Join place count))))) (map ends (join_sources Scene place count)) sees)
 
   -- ---- the whole graph
@@ -344,9 +345,9 @@ module _ (spans : List Span) (family : PlainFamily) (is : IsFamily spans family)
       whole_fails : (k : ℕ) (id : StageId) → slice_get Stages k ≡ Some id → (place : ℕ) → id ≡ Whole place → failures place ≡ failure Known failures place
       whole_fails k id here place same =
           let put : In Stages (Whole place) = subst (In Stages) same (in-at Stages k id here) in
-          elim (whole_left Scene [] (visits family.parents order) place put) [
+          elim (whole_left Scene [] (visits relations.parents order) place put) [
             | inl never ↦ absurd never
-            | inr left ↦ left_fails spans family is moments are order by_start place left
+            | inr left ↦ left_fails spans relations is moments are order by_start place left
           ]
 
       sees_all : (inputs : ℕ → Option Completion) (rest : List StageId) → ((source : StageId) → In rest source → Sees exceptions inputs (unwrap_or (place_of specs (text (name_of Scene source))) 0) (ends source))
@@ -380,11 +381,11 @@ module _ (spans : List Span) (family : PlainFamily) (is : IsFamily spans family)
 
   -- ---- how spans failed
 
-  failure_as : (place : ℕ) (span : Span) → failures place ≡ failure Known failures place → slice_get spans place ≡ Some span → is_some (interval_at family.intervals place).end ≡ true → FailsAs spans place span (failures place)
+  failure_as : (place : ℕ) (span : Span) → failures place ≡ failure Known failures place → slice_get spans place ≡ Some span → is_some (interval_at relations.intervals place).end ≡ true → FailsAs spans place span (failures place)
   failure_as place span fails_here there ended = by_two (Known.has_two place) refl
     where
       went : fate_at Known.fates place ≡ fate_of spans place (Some span)
-      went = fate_is spans family is moments are failures place (slice_get_within spans place span there) ∙ ap (fate_of spans place) there
+      went = fate_is spans relations is moments are failures place (slice_get_within spans place span there) ∙ ap (fate_of spans place) there
 
       by_end : failures place ≡ failure_at_end Known failures place
       by_end = fails_here ∙ ap (λ b. cond b (failure_at_end Known failures place) None) ended
@@ -397,22 +398,22 @@ module _ (spans : List Span) (family : PlainFamily) (is : IsFamily spans family)
           subst (FailsAs spans place span) (sym (by_end ∙ ap (λ c. cond c (last_step (end_outcome Known failures place).failure (fate_at Known.fates place)).failure (thrown (fate_at Known.fates place))) two
           ∙ ap (λ w. (last_step None w).failure) went)) (step_fails spans place None span)
 
-  as_claimed : (id : StageId) (done : Option Done) → ((place : ℕ) → id ≡ Whole place → failures place ≡ failure Known failures place) → Claim id done → CompletesAs exceptions spans family id done
+  as_claimed : (id : StageId) (done : Option Done) → ((place : ℕ) → id ≡ Whole place → failures place ≡ failure Known failures place) → Claim id done → CompletesAs exceptions spans relations id done
   as_claimed (Start place) completion fails_here claim = claim
   as_claimed (Whole place) completion fails_here claim = (failures place, claim, λ span there ended. failure_as place span (fails_here place refl) there ended)
   as_claimed (Entry place count) completion fails_here claim = ((ends (Entry place count)).tick, (ends (Entry place count)).failure, claim)
   as_claimed (Join place count) completion fails_here claim = ((ends (Join place count)).tick, (ends (Join place count)).failure, claim)
 
 -- where what stages wait for are stages, each completes as its span ended
-pub faithful_among : (spans : List Span) (family : PlainFamily) (is : IsFamily spans family) (moments : List At) (are : AreMoments family.intervals moments) (order : List ℕ) → AreByStart family.intervals order
-    → HaveSources (trace_scene spans family moments order) (trace_stages spans family moments order) → (text : StageName → List ℕ) (exceptions : Exception → List ℕ) (graph : PlainGraph)
-    → loaded Computed (map (spec_of text exceptions) (map (imported (trace_scene spans family moments order)) (trace_stages spans family moments order))) ≡ Ok graph
-    → (position : ℕ) (stage : StageId) → slice_get (trace_stages spans family moments order) position ≡ Some stage → CompletesAs exceptions spans family stage (at (java_step Computed) graph.places position).done
-faithful_among spans family is moments are order by_start have text exceptions graph loads k id here =
-    let both = loaded_is Computed (map (spec_of text exceptions) (map (imported (trace_scene spans family moments order)) (trace_stages spans family moments order))) graph loads in
-    let ranked : IsRanked graph.places = no_circle_among spans family is moments are order have text (spec_of text exceptions) (λ stage. record { name = refl; sources = refl; inner = refl }) Computed graph loads in
-    let these : IsRanked (stages_from (place_of (map (spec_of text exceptions) (map (imported (trace_scene spans family moments order)) (trace_stages spans family moments order)))) 0 (map (spec_of text exceptions) (map (imported (trace_scene spans family moments order)) (trace_stages spans family moments order)))) = subst IsRanked (sym both.1) ranked in
-    subst (λ places. CompletesAs exceptions spans family id (at (java_step Computed) places k).done) both.1
-    (as_claimed spans family is moments are order by_start text exceptions id (at (java_step Computed) (stages_from (place_of (map (spec_of text exceptions) (map (imported (trace_scene spans family moments order)) (trace_stages spans family moments order)))) 0 (map (spec_of text exceptions) (map (imported (trace_scene spans family moments order)) (trace_stages spans family moments order)))) k).done
-    (whole_fails spans family is moments are order by_start text exceptions have both.0 these k id here)
-    (claim spans family is moments are order by_start text exceptions have both.0 these k id here))
+pub faithful_among : (spans : List Span) (relations : PlainRelations) (is : IsFamily spans relations) (moments : List At) (are : AreMoments relations.intervals moments) (order : List ℕ) → AreByStart relations.intervals order
+    → HaveSources (trace_scene spans relations moments order) (trace_stages spans relations moments order) → (text : StageName → List ℕ) (exceptions : Exception → List ℕ) (graph : PlainGraph)
+    → loaded Computed (map (spec_of text exceptions) (map (imported (trace_scene spans relations moments order)) (trace_stages spans relations moments order))) ≡ Ok graph
+    → (position : ℕ) (stage : StageId) → slice_get (trace_stages spans relations moments order) position ≡ Some stage → CompletesAs exceptions spans relations stage (at (java_step Computed) graph.places position).done
+faithful_among spans relations is moments are order by_start have text exceptions graph loads k id here =
+    let both = loaded_is Computed (map (spec_of text exceptions) (map (imported (trace_scene spans relations moments order)) (trace_stages spans relations moments order))) graph loads in
+    let ranked : IsRanked graph.places = no_circle_among spans relations is moments are order have text (spec_of text exceptions) (λ stage. record { name = refl; sources = refl; inner = refl }) Computed graph loads in
+    let these : IsRanked (stages_from (place_of (map (spec_of text exceptions) (map (imported (trace_scene spans relations moments order)) (trace_stages spans relations moments order)))) 0 (map (spec_of text exceptions) (map (imported (trace_scene spans relations moments order)) (trace_stages spans relations moments order)))) = subst IsRanked (sym both.1) ranked in
+    subst (λ places. CompletesAs exceptions spans relations id (at (java_step Computed) places k).done) both.1
+    (as_claimed spans relations is moments are order by_start text exceptions id (at (java_step Computed) (stages_from (place_of (map (spec_of text exceptions) (map (imported (trace_scene spans relations moments order)) (trace_stages spans relations moments order)))) 0 (map (spec_of text exceptions) (map (imported (trace_scene spans relations moments order)) (trace_stages spans relations moments order)))) k).done
+    (whole_fails spans relations is moments are order by_start text exceptions have both.0 these k id here)
+    (claim spans relations is moments are order by_start text exceptions have both.0 these k id here))

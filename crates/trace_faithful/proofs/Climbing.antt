@@ -1,5 +1,5 @@
 -- From spans up to their ancestors.
-use Rattle.std.proofs.Common.{◌≡◌, ℕ, suc, zero, ◌+◌, ◌<◌, ◌≤◌, inl, inr, List, [], ◌∷◌, Bool, true, false, cond, length, Option, Some, None, refl, sym, ap, ◌∙◌, subst, arith}
+use Rattle.std.proofs.Common.{◌≡◌, ℕ, suc, zero, ◌+◌, ◌<◌, ◌≤◌, inl, inr, List, [], ◌∷◌, ◌++◌, Bool, true, false, cond, length, Option, Some, None, refl, sym, ap, ◌∙◌, subst, arith}
 use Rattle.std.specs.Prelude.{◌⊎◌, ◌==◌, ◌&&◌, ◌||◌, nat_eq, nat_lt, slice_get}
 use Rattle.std.specs.List.{AllByRecursion, IsDistinct, list_any, range_with_len}
 use Rattle.std.specs.Option.{option_eq, option_map}
@@ -7,8 +7,8 @@ use Rattle.std.proofs.lemmas.Bool.{false≢true}
 use Rattle.std.proofs.lemmas.Bool.Decides.{nat_tests}
 use Rattle.std.proofs.lemmas.Map.Steps.{length-le_from_distinct_below}
 use Rattle.std.proofs.lemmas.Option.{none-some, same_Some, slice_get-map}
-use Rattle.trace_family.specs.declared.moment.Interval.{Interval}
-use Rattle.trace_family.specs.Ancestry.{comes_first, first_among, first_with, is_first_of_circle, known, line, parent_at, parent_without_circles, start_at, without_circles, most_spans}
+use Rattle.trace_relations.specs.declared.moment.Interval.{Interval}
+use Rattle.trace_relations.specs.Ancestry.{comes_first, first_among, first_with, is_first_of_circle, known, line, parent_at, parent_without_circles, start_at, without_circles, most_spans}
 use Rattle.trace_faithful.proofs.Each.{In}
 
 -- so many parents up
@@ -44,6 +44,19 @@ unfolding line
 reached parents zero other place here = absurd here
 reached parents (suc n) other place (inl same) = (0, omega arith, same)
 reached parents (suc n) other place (inr later) = further parents n other place (λ parent here. reached parents n other parent here) (parent_at parents place) refl later
+
+-- ---- lists
+
+abbrev rest_of : List ℕ → List ℕ
+rest_of [] = []
+rest_of (x ∷ xs) = xs
+
+abbrev first_or : ℕ → List ℕ → ℕ
+first_or d [] = d
+first_or d (x ∷ xs) = x
+
+no_first : (x : ℕ) (xs : List ℕ) → [] ≡ x ∷ xs → ⊥
+no_first x xs e = cc
 
 -- ---- the first among spans
 
@@ -284,3 +297,33 @@ module _ (intervals : List Interval) (parents : List (Option ℕ)) where
             let climb = reached Left most_spans other parent here in
             let more : depth place ≡ suc (depth parent) = deeper place parent is in
             let less : depth other ≤ depth parent = climbs_deeper climb.0 parent other climb.2 in omega arith
+
+    step_by : (n parent : ℕ) → most_spans ≡ suc n → parent < count → line Left (suc n) (Some parent) ≡ parent ∷ line Left (suc n) (parent_at Left parent)
+    unfolding line
+    step_by n parent e lt =
+        let short : suc (length (line Left (suc n) (parent_at Left parent))) ≤ count = shallow_line (suc n) parent (omega arith) lt in
+        ap (λ those. parent ∷ those) (whole_line n (parent_at Left parent) (omega arith))
+
+    -- the ancestors of a span are its parent, and the ancestors of that
+    pub ancestors_step : (place parent : ℕ) → parent_at Left place ≡ Some parent → line Left most_spans (parent_at Left place) ≡ parent ∷ line Left most_spans (parent_at Left parent)
+    ancestors_step place parent is =
+        ap (line Left most_spans) is ∙ step_by 65_535 parent refl (within place parent (left_parent intervals parents place parent is).1)
+
+    no_ancestor : (place : ℕ) → parent_at Left place ≡ None → line Left most_spans (parent_at Left place) ≡ []
+    no_ancestor place is = ap (line Left most_spans) is ∙ no_line most_spans
+
+    -- after an ancestor come the ancestors of that
+    pub ancestors_after : (before : List ℕ) (place other : ℕ) (after : List ℕ) → line Left most_spans (parent_at Left place) ≡ before ++ other ∷ after → after ≡ line Left most_spans (parent_at Left other)
+    ancestors_after [] place other after split = by_parent (parent_at Left place) refl
+      where
+        by_parent : (parent : Option ℕ) → parent_at Left place ≡ parent → after ≡ line Left most_spans (parent_at Left other)
+        by_parent None is = absurd (no_first other after (sym (no_ancestor place is) ∙ split))
+        by_parent (Some parent) is =
+            let both : parent ∷ line Left most_spans (parent_at Left parent) ≡ other ∷ after = sym (ancestors_step place parent is) ∙ split in
+            sym (ap rest_of both) ∙ ap (λ p. line Left most_spans (parent_at Left p)) (ap (first_or 0) both)
+    ancestors_after (first ∷ before) place other after split = by_parent (parent_at Left place) refl (λ parent is. ancestors_after before parent other after is)
+      where
+        by_parent : (parent : Option ℕ) → parent_at Left place ≡ parent
+            → ((above : ℕ) → line Left most_spans (parent_at Left above) ≡ before ++ other ∷ after → after ≡ line Left most_spans (parent_at Left other)) → after ≡ line Left most_spans (parent_at Left other)
+        by_parent None is again = absurd (no_first first (before ++ other ∷ after) (sym (no_ancestor place is) ∙ split))
+        by_parent (Some parent) is again = again parent (ap rest_of (sym (ancestors_step place parent is) ∙ split))

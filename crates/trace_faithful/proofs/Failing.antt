@@ -8,26 +8,28 @@ use Rattle.std.proofs.lemmas.Bool.Decides.{nat_tests}
 use Rattle.std.proofs.lemmas.List.Sums.{fold-append}
 use Rattle.std.proofs.lemmas.Option.{none-some, same_Some, slice_get_past}
 use Rattle.stage_ops.specs.States.{Completion}
-use Rattle.trace_events.specs.Moments.{AreMoments, At}
-use Rattle.trace_family.specs.Ancestry.{parent_at}
-use Rattle.trace_family.specs.Family.{PlainFamily}
+use Rattle.trace_stages.specs.Moments.{AreMoments, At}
+use Rattle.trace_relations.specs.Ancestry.{parent_at}
+use Rattle.trace_relations.specs.Relations.{PlainRelations}
 use Rattle.trace_spans.specs.declared.span.Span.{Span}
-use Rattle.trace_stages.specs.Failures.{after_failure, end_outcome, handed_on, last_step, own_sight, same_exception, thrown}
+use Rattle.trace_stages.specs.EndOutcomes.{end_outcome, own_sight}
+use Rattle.trace_stages.specs.Failures.{after_failure, handed_on, last_step, thrown}
+use Rattle.trace_stages.specs.HandedOn.{same_exception}
 use Rattle.trace_stages.specs.Fates.{exception_told, fate, fate_at, fate_of}
 use Rattle.trace_stages.specs.Known.{PlainKnown, had_at, has_ended}
 use Rattle.trace_stages.specs.Order.{join_sources}
 use Rattle.trace_stages.specs.Outcomes.{has_failed, join_outcome, join_outcomes, outcome_of, with_join}
 use Rattle.trace_stages.specs.Scene.{PlainScene, list_at, scene_of, thrown_join}
 use Rattle.trace_stages.specs.StagesOf.{known_of}
-use Rattle.trace_stages.specs.Throwers.{all_thrown, if_thrown, is_end_of, is_thrown_to, own_exception, same_failure, thrower, thrown_by, thrown_on, thrown_sources, thrown_to}
+use Rattle.trace_stages.specs.HandedOn.{all_thrown, if_thrown, is_end_of, is_thrown_to, own_exception, same_failure, thrower, thrown_by, thrown_on, thrown_sources, thrown_to}
 use Rattle.trace_stages.specs.Works.{at_end, end_with}
 use Rattle.trace_stages.specs.declared.stage.Action.TheVariants as acts
 use Rattle.trace_stages.specs.declared.stage.Exception.{Exception}
 use Rattle.trace_stages.specs.declared.stage.Exception.TheVariants as exception
 use Rattle.trace_stages.specs.declared.stage.Op.TheVariants.{Handle}
-use Rattle.trace_walk.specs.declared.joins.JoinsOf.TheVariants as joins_of
-use Rattle.trace_walk.specs.declared.stage.StageId.{StageId}
-use Rattle.trace_walk.specs.declared.stage.StageId.TheVariants.{Whole, Join}
+use Rattle.trace_stages.specs.declared.walk.joins.JoinsOf.TheVariants as joins_of
+use Rattle.trace_stages.specs.declared.walk.stage_id.StageId.{StageId}
+use Rattle.trace_stages.specs.declared.walk.stage_id.StageId.TheVariants.{Whole, Join}
 use Rattle.trace_faithful.specs.Completes.{CompletesAt, action_of, op_of}
 use Rattle.trace_faithful.specs.Faithful.{FailsAs}
 use Rattle.trace_faithful.proofs.Joining.{made-later}
@@ -117,37 +119,37 @@ two_fail first second failed none some =
     let two : second ≡ record { tick = second.tick; failure = Some failed } = ap (λ f. record { tick = second.tick; failure = f }) some in
     ap (λ o. (join_outcome (o ∷ second ∷ [])).failure) one ∙ ap (λ o. (join_outcome (record { tick = first.tick; failure = None } ∷ o ∷ [])).failure) two
 
-module _ (spans : List Span) (family : PlainFamily) (is : IsFamily spans family) (moments : List At) (are : AreMoments family.intervals moments) (failures : ℕ → Option Exception) where
+module _ (spans : List Span) (relations : PlainRelations) (is : IsFamily spans relations) (moments : List At) (are : AreMoments relations.intervals moments) (failures : ℕ → Option Exception) where
   abbrev Known : PlainKnown
-  Known = known_of spans family moments
+  Known = known_of spans relations moments
 
   abbrev Scene : PlainScene
-  Scene = scene_of (known_of spans family moments) failures
+  Scene = scene_of (known_of spans relations moments) failures
 
   abbrev ends : StageId → Outcome
-  ends id = outcome spans family is moments are failures id
+  ends id = outcome spans relations is moments are failures id
 
   abbrev mine : ℕ → List (List StageId)
-  mine place = own_joins spans family is moments are failures place
+  mine place = own_joins spans relations is moments are failures place
 
   abbrev all : ℕ → List (List StageId)
-  all place = joins_at spans family is moments are failures place
+  all place = joins_at spans relations is moments are failures place
 
   pub fate_is : (place : ℕ) → place < length spans → fate_at Known.fates place ≡ fate_of spans place (slice_get spans place)
   fate_is place lt = ap (λ found. unwrap_or found (fate_of spans place None)) (mapped_range (fate spans) (length spans) place lt)
 
   -- what a span has at its end ends the same with the join by which it is thrown on
-  has_outcome : (place : ℕ) → place < length family.intervals → ends (had_at Known.hads place).has ≡ end_outcome Known failures place
+  has_outcome : (place : ℕ) → place < length relations.intervals → ends (had_at Known.hads place).has ≡ end_outcome Known failures place
   has_outcome place lt =
-      let both = own_made spans family is moments are failures place lt in
+      let both = own_made spans relations is moments are failures place lt in
       let longer : length (all place) ≡ length (mine place) + length (thrown_join (list_at (all_thrown Known failures) place)) = Rattle.std.proofs.Common.length-append (mine place) (thrown_join (list_at (all_thrown Known failures) place)) in
       let split : join_outcomes (own_sight Known failures) (all place) ≡ fold (with_join (own_sight Known failures)) (join_outcomes (own_sight Known failures) (mine place)) (thrown_join (list_at (all_thrown Known failures) place)) =
       fold-append (with_join (own_sight Known failures)) [] (mine place) (thrown_join (list_at (all_thrown Known failures) place)) in
       let extends = outcomes_extend (own_sight Known failures) (join_outcomes (own_sight Known failures) (mine place)) (thrown_join (list_at (all_thrown Known failures) place)) in
-      let count : length (join_outcomes (own_sight Known failures) (mine place)) ≡ length (mine place) = outcomes_count spans family is moments are failures (mine place) in
-      let settles = made_settled (own_sight Known failures) (joins_of.Holding place) (λ those k. refl) (Base place (WaitsFor spans family is moments are failures place)) (settled spans family is moments are failures place) (length (mine place)) (had_at Known.hads place).has both.1
+      let count : length (join_outcomes (own_sight Known failures) (mine place)) ≡ length (mine place) = outcomes_count spans relations is moments are failures (mine place) in
+      let settles = made_settled (own_sight Known failures) (joins_of.Holding place) (λ those k. refl) (Base place (WaitsFor spans relations is moments are failures place)) (settled spans relations is moments are failures place) (length (mine place)) (had_at Known.hads place).has both.1
       (join_outcomes (own_sight Known failures) (mine place)) extends.0 (omega arith) in
-      sym (part_own spans family is moments are failures place (had_at Known.hads place).has (made-later (joins_of.Holding place) (Base place (WaitsFor spans family is moments are failures place)) (length (mine place)) (length (all place)) (omega arith) (had_at Known.hads place).has both.1))
+      sym (part_own spans relations is moments are failures place (had_at Known.hads place).has (made-later (joins_of.Holding place) (Base place (WaitsFor spans relations is moments are failures place)) (length (mine place)) (length (all place)) (omega arith) (had_at Known.hads place).has both.1))
       ∙ ap (λ those. outcome_of (own_sight Known failures) those (had_at Known.hads place).has) (split ∙ extends.1) ∙ settles
 
   -- the child by which a span is thrown on failed with its exception
@@ -161,7 +163,7 @@ module _ (spans : List Span) (family : PlainFamily) (is : IsFamily spans family)
   if_is false found parent some = absurd (none-some parent some)
 
   child_fails : (place child : ℕ) → is_thrown_to Known failures place child ≡ true → (failed : Exception) × (own_exception (fate_at Known.fates place) ≡ Some failed) × (failures child ≡ Some failed)
-  child_fails place child here = by_parent (parent_at family.waiting child) (same_option (thrown_to Known failures child) place here)
+  child_fails place child here = by_parent (parent_at relations.waiting child) (same_option (thrown_to Known failures child) place here)
     where
       by_parent : (parent : Option ℕ) → option_and_then (if_thrown Known failures child) parent ≡ Some place → (failed : Exception) × (own_exception (fate_at Known.fates place) ≡ Some failed) × (failures child ≡ Some failed)
       by_parent None some = absurd (none-some place some)
@@ -180,7 +182,7 @@ module _ (spans : List Span) (family : PlainFamily) (is : IsFamily spans family)
   empty_not x xs e = cc
 
   pub thrown_cases : (place : ℕ) (source : StageId) (sources : List StageId) → thrown_on Known failures place ≡ source ∷ sources → IsThrown place (source ∷ sources)
-  thrown_cases place source sources is_these = by_child (thrower Known failures place) (last_in family.intervals (λ child. is_thrown_to Known failures place child ≡ true) None (filter (is_thrown_to Known failures place) (range_with_len 0 (length family.waiting))) tt (filter_each (is_thrown_to Known failures place) (range_with_len 0 (length family.waiting)))) is_these
+  thrown_cases place source sources is_these = by_child (thrower Known failures place) (last_in relations.intervals (λ child. is_thrown_to Known failures place child ≡ true) None (filter (is_thrown_to Known failures place) (range_with_len 0 (length relations.waiting))) tt (filter_each (is_thrown_to Known failures place) (range_with_len 0 (length relations.waiting)))) is_these
     where
       by_normal : (child : ℕ) → is_thrown_to Known failures place child ≡ true → (a b : Bool) → has_failed (end_outcome Known failures place) ≡ a → cond (not a && not b) ((had_at Known.hads place).has ∷ Whole child ∷ []) [] ≡ source ∷ sources → IsThrown place (source ∷ sources)
       by_normal child fails true b normal these = absurd (empty_not source sources these)
@@ -193,14 +195,14 @@ module _ (spans : List Span) (family : PlainFamily) (is : IsFamily spans family)
 
       by_child : (child : Option ℕ) → IfSome child (λ those. is_thrown_to Known failures place those ≡ true) → thrown_sources Known failures place child ≡ source ∷ sources → IsThrown place (source ∷ sources)
       by_child None here these = absurd (empty_not source sources these)
-      by_child (Some child) here these = by_end child here (has_ended family.intervals place) these
+      by_child (Some child) here these = by_end child here (has_ended relations.intervals place) these
 
   not_some : (failure : Option Exception) → is_some failure ≡ false → failure ≡ None
   not_some None is_none = refl
   not_some (Some failed) is_none = absurd (false≢true (sym is_none))
 
   -- the last stage of a span fails as the span does
-  pub last_fails : (place : ℕ) → place < length family.intervals → place < length spans
+  pub last_fails : (place : ℕ) → place < length relations.intervals → place < length spans
       → (last_step (ends (at_end Scene place)).failure (fate_at Known.fates place)).failure ≡ (last_step (end_outcome Known failures place).failure (fate_at Known.fates place)).failure
   last_fails place lt within = by_thrown (list_at (all_thrown Known failures) place) refl
     where
@@ -208,14 +210,14 @@ module _ (spans : List Span) (family : PlainFamily) (is : IsFamily spans family)
           → (last_step (ends (end_with Scene place sources)).failure (fate_at Known.fates place)).failure ≡ (last_step (end_outcome Known failures place).failure (fate_at Known.fates place)).failure
       by_thrown [] none = ap (λ o. (last_step o.failure (fate_at Known.fates place)).failure) (has_outcome place lt)
       by_thrown (source ∷ sources) some =
-          let thrown_here = thrown_cases place source sources (sym (thrown_is spans family is moments are failures place lt) ∙ some) in
+          let thrown_here = thrown_cases place source sources (sym (thrown_is spans relations is moments are failures place lt) ∙ some) in
           let fails = child_fails place thrown_here.child thrown_here.fails in
           let normal : (end_outcome Known failures place).failure ≡ None = not_some (end_outcome Known failures place).failure thrown_here.normal in
           let first : (ends (had_at Known.hads place).has).failure ≡ None = ap (λ o. o.failure) (has_outcome place lt) ∙ normal in
           let these : join_sources Scene place (length (mine place)) ≡ (had_at Known.hads place).has ∷ Whole thrown_here.child ∷ [] =
           ap (λ found. unwrap_or found (list_at (all_thrown Known failures) place)) (slice_get_past (mine place) (length (mine place)) (omega arith)) ∙ some ∙ thrown_here.sources_are in
           let joined : (ends (Join place (length (mine place)))).failure ≡ Some fails.0 =
-          ap (λ o. o.failure) (join_ends spans family is moments are failures place (length (mine place))) ∙ ap (λ those. (join_outcome (map ends those)).failure) these
+          ap (λ o. o.failure) (join_ends spans relations is moments are failures place (length (mine place))) ∙ ap (λ those. (join_outcome (map ends those)).failure) these
           ∙ two_fail (ends (had_at Known.hads place).has) (ends (Whole thrown_here.child)) fails.0 first fails.2 in
           let went = fate_is place within in
           let own = own_fails spans place (slice_get spans place) fails.0 (ap own_exception (sym went) ∙ fails.1) in

@@ -3,9 +3,9 @@ use Rattle.std.proofs.Common.{◌≡◌, ℕ, suc, zero, ◌+◌, ◌<◌, ◌�
 use Rattle.std.specs.Prelude.{◌⊎◌, IfSome, nat_lt, slice_get, fold}
 use Rattle.std.proofs.lemmas.Option.{none-some, same_Some}
 use Rattle.std.proofs.lemmas.List.{append-nil}
-use Rattle.trace_walk.specs.Joins.{PlainGathering, PlainJoined, finished_with, gathered, join_id, joined_of}
-use Rattle.trace_walk.specs.declared.joins.JoinsOf.{JoinsOf}
-use Rattle.trace_walk.specs.declared.stage.StageId.{StageId}
+use Rattle.trace_stages.specs.Joins.{PlainGathering, PlainJoined, finished_with, gathered, join_id, joined_of}
+use Rattle.trace_stages.specs.declared.walk.joins.JoinsOf.{JoinsOf}
+use Rattle.trace_stages.specs.declared.walk.stage_id.StageId.{StageId}
 use Rattle.trace_faithful.proofs.Each.{Each, each-push, each-weaker}
 
 -- a source of a join: one of some stages, or an earlier join

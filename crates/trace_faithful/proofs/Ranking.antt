@@ -1,10 +1,9 @@
 -- Where each feed has a lesser key there is no circle.
-use Rattle.std.proofs.Common.{◌≡◌, ℕ, suc, zero, ◌+◌, ◌<◌, ◌≤◌, inl, inr, List, [], ◌∷◌, ◌++◌, Bool, true, false, length, map, Option, Some, None, refl, sym, ap, ◌∙◌, subst, arith}
-use Rattle.std.specs.Prelude.{◌⊎◌, Contains, Ok, nat_eq, slice_get, slice_index_or, unwrap_or}
+use Rattle.std.proofs.Common.{◌≡◌, ℕ, suc, zero, ◌+◌, ◌<◌, ◌≤◌, inl, inr, List, [], ◌∷◌, ◌++◌, Bool, true, false, cond, length, map, Option, Some, None, refl, sym, ap, ◌∙◌, subst, arith}
+use Rattle.std.specs.Prelude.{◌⊎◌, Contains, Ok, nat_eq, option_to_list, slice_get, unwrap_or}
 use Rattle.std.specs.List.{AllByRecursion, IsDistinct}
 use Rattle.std.specs.Option.{option_map}
-use Rattle.std.proofs.lemmas.Bool.{false≢true}
-use Rattle.std.proofs.lemmas.Bool.Decides.{nat_tests}
+use Rattle.std.proofs.lemmas.Bool.{eqb-true, false≢true, ne_eqb}
 use Rattle.std.proofs.lemmas.List.{append-nil}
 use Rattle.std.proofs.lemmas.Map.Steps.{length-le_from_distinct_below}
 use Rattle.std.proofs.lemmas.Option.{none-some, same_Some, slice_get-map, slice_get_within}
@@ -18,37 +17,31 @@ use Rattle.stage_graph.specs.declared.fault.Refusal.{Refusal}
 use Rattle.stage_graph.specs.declared.fault.Refused.{Refused}
 use Rattle.stage_graph.specs.declared.stage.Spec.{Spec}
 use Rattle.stage_graph.specs.declared.stage.Stage.{Stage}
-use Rattle.trace_events.specs.Moments.{AreMoments, At}
-use Rattle.trace_family.specs.Family.{PlainFamily}
+use Rattle.trace_stages.specs.Moments.{AreMoments, At}
+use Rattle.trace_relations.specs.Relations.{PlainRelations}
 use Rattle.trace_spans.specs.declared.span.Span.{Span}
 use Rattle.trace_stages.specs.Failures.{failures_by}
-use Rattle.trace_stages.specs.Naming.{PlainStage, imported, name_of}
+use Rattle.trace_stages.specs.Naming.{PlainStage, imported, imported_join, imported_work, name_of}
 use Rattle.trace_stages.specs.Scene.{PlainScene}
 use Rattle.trace_stages.specs.StagesOf.{known_of}
 use Rattle.trace_stages.specs.declared.stage.StageName.{StageName}
-use Rattle.trace_tour.specs.Visits.{visits}
-use Rattle.trace_walk.specs.declared.stage.StageId.{StageId}
-use Rattle.trace_walk.specs.declared.stage.StageId.TheVariants.{Start, Whole, Entry, Join}
+use Rattle.trace_stages.specs.Visits.{visits}
+use Rattle.trace_stages.specs.declared.walk.stage_id.StageId.{StageId}
+use Rattle.trace_stages.specs.declared.walk.stage_id.StageId.TheVariants.{Start, Whole, Entry, Join, Work, Tried, Limit, Answer}
+use Rattle.trace_stages.specs.declared.stage.Op.TheVariants.{AnyOf}
+use Rattle.trace_stages.specs.Beginnings.{option_list}
+use Rattle.trace_stages.specs.Known.{gave_up}
+use Rattle.trace_stages.specs.Works.{whole_work}
+use Rattle.trace_relations.specs.declared.as_told.AsTold.{AsTold}
 use Rattle.trace_faithful.specs.Circles.{HaveSources, IsNamedBy, sources_of, trace_scene, trace_stages}
 use Rattle.trace_faithful.proofs.Climbing.{any_in}
-use Rattle.trace_faithful.proofs.Each.{Each, In, each-in, each-weaker}
-use Rattle.trace_faithful.proofs.Keys.{Below, Key, key, lesser}
+use Rattle.trace_faithful.proofs.Each.{Each, In, contains_in, each-in, each-weaker, in-append, in-at, in-back, in-front, in_contains}
+use Rattle.trace_faithful.proofs.Dictionary.{Below, Key, below-trans, never-below}
+use Rattle.trace_faithful.proofs.Keys.{key}
+use Rattle.trace_faithful.proofs.Lesser.{lesser}
 use Rattle.trace_faithful.proofs.Relations.{IsFamily}
 
 -- ---- lists
-
-in_from_contains : {X : Type 0} (xs : List X) (k : ℕ) (x : X) → k < length xs → slice_index_or xs k x ≡ x → In xs x
-in_from_contains [] k x lt is = absurd (omega arith)
-in_from_contains (y ∷ ys) zero x lt is = inl is
-in_from_contains (y ∷ ys) (suc k) x lt is = inr (in_from_contains ys k x (omega arith) is)
-
-pub contains_in : {X : Type 0} (xs : List X) (x : X) → Contains xs x → In xs x
-contains_in xs x (k, lt, is) = in_from_contains xs k x lt is
-
-pub in_contains : {X : Type 0} (xs : List X) (x : X) → In xs x → Contains xs x
-in_contains [] x here = absurd here
-in_contains (y ∷ ys) x (inl same) = (0, omega arith, same)
-in_contains (y ∷ ys) x (inr later) = let rest = in_contains ys x later in (suc rest.0, omega (arith, rest.1), rest.2)
 
 pub in_place : {X : Type 0} (xs : List X) (x : X) → In xs x → (k : ℕ) × (slice_get xs k ≡ Some x)
 in_place [] x here = absurd here
@@ -64,28 +57,8 @@ option_mapped : {X Y : Type 0} (f : X → Y) (found : Option X) (y : Y) → opti
 option_mapped f None y is = absurd (none-some y is)
 option_mapped f (Some x) y is = (x, refl, same_Some (f x) y is)
 
--- ---- keys
-
-below_trans : (a b c : Key) → Below a b → Below b c → Below a c
-below_trans a b c (inl lt) (inl more) = inl (omega arith)
-below_trans a b c (inl lt) (inr (same, rest)) = inl (omega arith)
-below_trans a b c (inr (same, rest)) (inl lt) = inl (omega arith)
-below_trans a b c (inr (same, inl lt)) (inr (again, inl more)) = inr (omega arith, inl (omega arith))
-below_trans a b c (inr (same, inl lt)) (inr (again, inr (equal, less))) = inr (omega arith, inl (omega arith))
-below_trans a b c (inr (same, inr (equal, less))) (inr (again, inl lt)) = inr (omega arith, inl (omega arith))
-below_trans a b c (inr (same, inr (equal, less))) (inr (again, inr (also, more))) = inr (omega arith, inr (omega arith, omega arith))
-
-never_below : (a : Key) → Below a a → ⊥
-never_below a (inl lt) = omega arith
-never_below a (inr (same, inl lt)) = omega arith
-never_below a (inr (same, inr (equal, lt))) = omega arith
-
 differ : (x z : ℕ) → (z ≡ x → ⊥) → nat_eq x z ≡ false
-differ x z apart = test (nat_eq x z) refl
-  where
-    test : (b : Bool) → nat_eq x z ≡ b → b ≡ false
-    test true is = absurd (apart (grind (arith, nat_tests)))
-    test false is = refl
+differ x z apart = ne_eqb x z (λ same. apart (sym same))
 
 -- ---- walks go down
 
@@ -106,12 +79,12 @@ module _ (places : List (Option Stage)) (stages : List StageId) (key_of : StageI
 
   under : (top feed : Key) → Below feed top → (place : ℕ) → IsUpTo feed place → IsUnder top place
   under top feed below place (stage, at, inl same) = (stage, at, subst (λ k. Below k top) (sym same) below)
-  under top feed below place (stage, at, inr lower) = (stage, at, below_trans (key_of stage) feed top lower below)
+  under top feed below place (stage, at, inr lower) = (stage, at, below-trans (key_of stage) feed top lower below)
 
   apart_all : (place : ℕ) (stage : StageId) (others : List ℕ) → slice_get stages place ≡ Some stage → Each (IsUnder (key_of stage)) others → AllByRecursion (λ z. nat_eq place z ≡ false) others
   apart_all place stage [] at all = tt
   apart_all place stage (z ∷ others) at ((other, there, below), rest) = (
-    differ place z (λ same. never_below (key_of stage) (subst (λ id. Below (key_of id) (key_of stage)) (same_Some other stage (sym there ∙ ap (slice_get stages) same ∙ at)) below)),
+    differ place z (λ same. never-below (key_of stage) (subst (λ id. Below (key_of id) (key_of stage)) (same_Some other stage (sym there ∙ ap (slice_get stages) same ∙ at)) below)),
     apart_all place stage others at rest,
   )
 
@@ -163,7 +136,7 @@ is_free find false place spec none = absurd (none-some _ (sym none))
 
 first_is_place : (place : ℕ) (found : Option ℕ) → is_first place found ≡ true → found ≡ Some place
 first_is_place place None is = absurd (false≢true is)
-first_is_place place (Some first) is = let e : first ≡ place = grind (arith, nat_tests) in ap Some e
+first_is_place place (Some first) is = ap Some (eqb-true first place is)
 
 -- the name of each stage that is loaded leads to its place
 found_at : (find : List ℕ → Option ℕ) (a : ℕ) (specs : List Spec) (k : ℕ) (spec : Spec) → first_refused find a specs ≡ None → slice_get specs k ≡ Some spec → find spec.name ≡ Some (a + k)
@@ -202,17 +175,51 @@ pub length_mapped : {X Y : Type 0} (f : X → Y) (xs : List X) → length (map f
 length_mapped f [] = refl
 length_mapped f (x ∷ xs) = ap suc (length_mapped f xs)
 
-imported_sources : (scene : PlainScene) (stage : StageId) → (imported scene stage).sources ≡ map (name_of scene) (sources_of scene stage)
-imported_sources scene (Start place) = refl
-imported_sources scene (Whole place) = refl
-imported_sources scene (Entry span number) = refl
-imported_sources scene (Join span number) = refl
+-- the names of what a stage waits for
+abbrev pub names_of : PlainStage → List StageName
+names_of stage = stage.sources ++ option_to_list stage.inner
 
-imported_name : (scene : PlainScene) (stage : StageId) → (imported scene stage).name ≡ name_of scene stage
+end_names : (scene : PlainScene) (place : ℕ) (b : Bool)
+    → names_of (cond b (imported_join scene (Whole place) AnyOf (Limit place ∷ Answer place ∷ [])) (imported_work scene (Whole place) (whole_work scene place)))
+    ≡ map (name_of scene) (cond b (Limit place ∷ Answer place ∷ []) (option_list (whole_work scene place).source))
+end_names scene place true = refl
+end_names scene place false = append-nil (map (name_of scene) (option_list (whole_work scene place).source))
+
+pub imported_sources : (scene : PlainScene) (stage : StageId) → names_of (imported scene stage) ≡ map (name_of scene) (sources_of scene stage)
+imported_sources scene (Start place) = append-nil (map (name_of scene) (sources_of scene (Start place)))
+imported_sources scene (Whole place) = end_names scene place (gave_up scene.known place)
+imported_sources scene (Work span number) = append-nil (map (name_of scene) (sources_of scene (Work span number)))
+imported_sources scene (Tried place) = refl
+imported_sources scene (Limit place) = append-nil (map (name_of scene) (sources_of scene (Limit place)))
+imported_sources scene (Answer place) = append-nil (map (name_of scene) (sources_of scene (Answer place)))
+imported_sources scene (Entry span number) = append-nil (map (name_of scene) (sources_of scene (Entry span number)))
+imported_sources scene (Join span number) = append-nil (map (name_of scene) (sources_of scene (Join span number)))
+
+end_name : (scene : PlainScene) (place : ℕ) (b : Bool)
+    → (cond b (imported_join scene (Whole place) AnyOf (Limit place ∷ Answer place ∷ [])) (imported_work scene (Whole place) (whole_work scene place))).name ≡ name_of scene (Whole place)
+end_name scene place true = refl
+end_name scene place false = refl
+
+pub imported_name : (scene : PlainScene) (stage : StageId) → (imported scene stage).name ≡ name_of scene stage
 imported_name scene (Start place) = refl
-imported_name scene (Whole place) = refl
+imported_name scene (Whole place) = end_name scene place (gave_up scene.known place)
+imported_name scene (Work span number) = refl
+imported_name scene (Tried place) = refl
+imported_name scene (Limit place) = refl
+imported_name scene (Answer place) = refl
 imported_name scene (Entry span number) = refl
 imported_name scene (Join span number) = refl
+
+-- a feed is the place of a name
+named_feed : (find : List ℕ → Option ℕ) (names others : List (List ℕ)) (feed : ℕ) → In (places_of find names ++ places_of find others) feed → (name : List ℕ) × In (names ++ others) name × (unwrap_or (find name) 0 ≡ feed)
+named_feed find names others feed here = elim (in-append (places_of find names) (places_of find others) feed here) [
+  | inl front ↦ let found = in_map (λ name. unwrap_or (find name) 0) names feed front in (found.0, in-front names others found.0 found.1, found.2)
+  | inr back ↦ let found = in_map (λ name. unwrap_or (find name) 0) others feed back in (found.0, in-back names others found.0 found.1, found.2)
+]
+
+map_append : {X Y : Type 0} (f : X → Y) (xs ys : List X) → map f xs ++ map f ys ≡ map f (xs ++ ys)
+map_append f [] ys = refl
+map_append f (x ∷ xs) ys = ap (λ rest. f x ∷ rest) (map_append f xs ys)
 
 module _ (scene : PlainScene) (stages : List StageId) (have : HaveSources scene stages) (text : StageName → List ℕ) (spec_of : PlainStage → Spec) (named : (stage : PlainStage) → IsNamedBy text stage (spec_of stage)) where
   abbrev pub specs_of : List Spec
@@ -238,13 +245,17 @@ module _ (scene : PlainScene) (stages : List StageId) (have : HaveSources scene 
       (at.0, at.1, ap (place_of specs_of) (sym name) ∙ found ∙ ap Some e)
 
   feed_at : first_refused (place_of specs_of) 0 specs_of ≡ None → (place feed : ℕ) (stage : StageId) → slice_get stages place ≡ Some stage
-      → In (places_of (place_of specs_of) (spec_of (imported scene stage)).sources) feed → (source : StageId) × In (sources_of scene stage) source × (slice_get stages feed ≡ Some source)
+      → In (places_of (place_of specs_of) (spec_of (imported scene stage)).sources ++ places_of (place_of specs_of) (spec_of (imported scene stage)).inner) feed
+      → (source : StageId) × In (sources_of scene stage) source × (slice_get stages feed ≡ Some source)
   feed_at none place feed stage at here =
-      let by_name = in_map (λ name. unwrap_or (place_of specs_of name) 0) (spec_of (imported scene stage)).sources feed here in
-      let sources : (spec_of (imported scene stage)).sources ≡ map text (map (name_of scene) (sources_of scene stage)) = (named (imported scene stage)).sources ∙ ap (map text) (imported_sources scene stage) in
-      let by_text = in_map text (map (name_of scene) (sources_of scene stage)) by_name.0 (subst (λ names. In names by_name.0) sources by_name.1) in
+      let made = named (imported scene stage) in
+      let by_name = named_feed (place_of specs_of) (spec_of (imported scene stage)).sources (spec_of (imported scene stage)).inner feed here in
+      let all : (spec_of (imported scene stage)).sources ++ (spec_of (imported scene stage)).inner ≡ map text (map (name_of scene) (sources_of scene stage)) =
+      ap (λ names. names ++ (spec_of (imported scene stage)).inner) made.sources ∙ ap (λ names. map text (imported scene stage).sources ++ names) made.inner
+      ∙ map_append text (imported scene stage).sources (option_to_list (imported scene stage).inner) ∙ ap (map text) (imported_sources scene stage) in
+      let by_text = in_map text (map (name_of scene) (sources_of scene stage)) by_name.0 (subst (λ names. In names by_name.0) all by_name.1) in
       let by_source = in_map (name_of scene) (sources_of scene stage) by_text.0 by_text.1 in
-      let stands : In stages by_source.0 = contains_in stages by_source.0 (have stage by_source.0 (in_contains stages stage (Rattle.trace_faithful.proofs.Each.in-at stages place stage at)) (in_contains (sources_of scene stage) by_source.0 by_source.1)) in
+      let stands : In stages by_source.0 = contains_in stages by_source.0 (have stage by_source.0 (in_contains stages stage (in-at stages place stage at)) (in_contains (sources_of scene stage) by_source.0 by_source.1)) in
       let found = source_at none by_source.0 stands in
       let name : text (name_of scene by_source.0) ≡ by_name.0 = ap text by_source.2 ∙ by_text.2 in
       let same : found.0 ≡ feed = ap (λ j. unwrap_or j 0) (sym (sym (ap (place_of specs_of) name) ∙ found.2)) ∙ by_name.2 in
@@ -261,11 +272,8 @@ module _ (scene : PlainScene) (stages : List StageId) (have : HaveSources scene 
       by_spec None at here = absurd (contains_in [] feed here)
       by_spec (Some spec) at here =
           let mine = spec_at place spec at in
-          let inner : spec.inner ≡ [] = ap (λ those. those.inner) (sym mine.2) ∙ (named (imported scene mine.0)).inner in
           let all : In (places_of (place_of specs_of) spec.sources ++ places_of (place_of specs_of) spec.inner) feed = contains_in (places_of (place_of specs_of) spec.sources ++ places_of (place_of specs_of) spec.inner) feed here in
-          let sources : In (places_of (place_of specs_of) spec.sources) feed =
-          subst (λ those. In those feed) (ap (λ names. places_of (place_of specs_of) spec.sources ++ places_of (place_of specs_of) names) inner ∙ append-nil (places_of (place_of specs_of) spec.sources)) all in
-          let source = feed_at none place feed mine.0 mine.1 (subst (λ those. In (places_of (place_of specs_of) those.sources) feed) (sym mine.2) sources) in
+          let source = feed_at none place feed mine.0 mine.1 (subst (λ those. In (places_of (place_of specs_of) those.sources ++ places_of (place_of specs_of) those.inner) feed) (sym mine.2) all) in
           (mine.0, source.0, mine.1, source.2, down mine.0 source.0 source.1)
 
   pub ranked : (key_of : StageId → Key) → ((stage source : StageId) → In (sources_of scene stage) source → Below (key_of source) (key_of stage)) → (mode : Mode) (graph : PlainGraph) → loaded mode specs_of ≡ Ok graph → IsRanked graph.places
@@ -275,9 +283,10 @@ module _ (scene : PlainScene) (stages : List StageId) (have : HaveSources scene 
       subst IsRanked both.1 (is_ranked (stages_from (place_of specs_of) 0 specs_of) stages key_of count (feeds_down key_of down both.0))
 
 -- where what stages wait for are stages, there is no circle
-pub no_circle_among : (spans : List Span) (family : PlainFamily) (is : IsFamily spans family) (moments : List At) (are : AreMoments family.intervals moments) (order : List ℕ)
-    → HaveSources (trace_scene spans family moments order) (trace_stages spans family moments order) → (text : StageName → List ℕ) (spec_of : PlainStage → Spec) → ((stage : PlainStage) → IsNamedBy text stage (spec_of stage))
-    → (mode : Mode) (graph : PlainGraph) → loaded mode (map spec_of (map (imported (trace_scene spans family moments order)) (trace_stages spans family moments order))) ≡ Ok graph → IsRanked graph.places
-no_circle_among spans family is moments are order have text spec_of named mode graph loads =
-    ranked (trace_scene spans family moments order) (trace_stages spans family moments order) have text spec_of named
-    (key spans family is moments are (failures_by (known_of spans family moments) (visits family.parents order))) (lesser spans family is moments are (failures_by (known_of spans family moments) (visits family.parents order))) mode graph loads
+pub no_circle_among : (as_told : AsTold) (spans : List Span) (relations : PlainRelations) (is : IsFamily as_told spans relations) (moments : List At) (are : AreMoments relations.intervals moments)
+    → HaveSources (trace_scene spans relations as_told moments) (trace_stages spans relations as_told moments) → (text : StageName → List ℕ) (spec_of : PlainStage → Spec) → ((stage : PlainStage) → IsNamedBy text stage (spec_of stage))
+    → (mode : Mode) (graph : PlainGraph) → loaded mode (map spec_of (map (imported (trace_scene spans relations as_told moments)) (trace_stages spans relations as_told moments))) ≡ Ok graph → IsRanked graph.places
+no_circle_among as_told spans relations is moments are have text spec_of named mode graph loads =
+    ranked (trace_scene spans relations as_told moments) (trace_stages spans relations as_told moments) have text spec_of named
+    (key spans relations is moments are (failures_by (known_of spans relations as_told moments) (visits relations.parents relations.order)))
+    (lesser spans relations is moments are (failures_by (known_of spans relations as_told moments) (visits relations.parents relations.order))) mode graph loads

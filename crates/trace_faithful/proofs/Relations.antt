@@ -1,30 +1,46 @@
--- What holds of the spans of a family: ticks don't go back, parents and hosts are spans of the trace, and what a span waits for ends no later.
+-- What holds of the spans of a trace: ticks don't go back, parents and hosts are spans of the trace, and what a span waits for ends no later.
 use Rattle.std.proofs.Common.{◌≡◌, ℕ, suc, zero, ◌+◌, ◌*◌, ◌<◌, ◌≤◌, inl, inr, List, [], ◌∷◌, ◌++◌, Bool, true, false, cond, length, map, Option, Some, None, refl, sym, ap, ◌∙◌, subst, arith}
-use Rattle.std.specs.Prelude.{◌⊎◌, ◌==◌, ◌&&◌, ◌||◌, Result, Ok, Err, find, nat_eq, nat_le, nat_lt, not, slice_get}
+use Rattle.std.specs.Prelude.{◌⊎◌, ◌==◌, ◌&&◌, ◌||◌, ℤ, Result, Ok, Err, find, fold, nat_eq, nat_le, nat_lt, not, slice_get, slice_set, zip, IsPermutation}
 use Rattle.std.specs.List.{list_any, position_from, range_with_len}
-use Rattle.std.specs.Option.{option_and_then, option_map}
-use Rattle.std.proofs.lemmas.Bool.{false≢true}
+use Rattle.std.specs.Option.{option_and_then, option_eq, option_map}
+use Rattle.std.proofs.lemmas.Bool.{eqb-true, false≢true, leb-false, leb-true}
 use Rattle.std.proofs.lemmas.Bool.Decides.{nat_tests}
-use Rattle.std.proofs.lemmas.Option.{none-some, same_Some, slice_get-map}
-use Rattle.trace_family.specs.declared.hosts.Host.TheVariants.{Inside, After}
-use Rattle.trace_family.specs.declared.fault.FamilyFault.{FamilyFault}
-use Rattle.trace_family.specs.declared.fault.FamilyFault.TheVariants.{TooLate, TooManyStages}
-use Rattle.trace_family.specs.declared.moment.Interval.{Interval}
-use Rattle.trace_family.specs.declared.moment.Moment.{Moment}
-use Rattle.trace_family.specs.declared.moment.Turn.{Turn}
-use Rattle.trace_family.specs.declared.moment.Turn.TheVariants as turn
-use Rattle.trace_family.specs.declared.unit.Unit.{Unit as TickUnit}
-use Rattle.trace_family.specs.Ancestry.{ancestors, host_of, known, line, most_spans, parent_at, start_at}
-use Rattle.trace_family.specs.Family.{PlainFamily, family_of, family_with, parent_meant, parents_of}
-use Rattle.trace_family.specs.Hosts.{host_at, hosts_of}
-use Rattle.trace_family.specs.Moments.{end_after, end_moment, ended_before, interval_at, is_before, is_past, start_moment, turn_number}
-use Rattle.trace_family.specs.Parents.{all_references, other_place, place_of, references_from, unless_same, with_found, with_meant}
-use Rattle.trace_family.specs.Ticks.{earliest_time, interval_between, interval_of, intervals_of, is_too_late, then_on, tick_of}
-use Rattle.trace_family.specs.Waits.{ends_within, is_within, if_waiting, is_named, takes_from_queue, waiting_parent, waiting_parents}
+use Rattle.std.proofs.lemmas.List.FromFn.{length-map-range_with_len}
+use Rattle.std.proofs.lemmas.Option.{none-some, same_Some, slice_get-map, slice_get_within}
+use Rattle.trace_relations.specs.declared.hosts.Host.TheVariants.{Inside, After}
+use Rattle.trace_relations.specs.declared.fault.RelationsFault.{RelationsFault}
+use Rattle.trace_relations.specs.declared.moment.Interval.{Interval}
+use Rattle.trace_relations.specs.declared.moment.Moment.{Moment}
+use Rattle.trace_relations.specs.declared.moment.Turn.{Turn}
+use Rattle.trace_relations.specs.declared.moment.Turn.TheVariants as turn
+use Rattle.trace_relations.specs.declared.as_told.AsTold.{AsTold}
+use Rattle.trace_relations.specs.declared.times.Times.{Times}
+use Rattle.trace_relations.specs.declared.unit.Unit.{Unit as TickUnit}
+use Rattle.trace_relations.specs.Ancestry.{ancestors, host_of, known, line, most_spans, parent_at, start_at}
+use Rattle.trace_relations.specs.ByStart.{AreByStart, starts_from}
+use Rattle.trace_relations.specs.Calls.{is_message}
+use Rattle.trace_relations.specs.LateEnds.{end_of_caller, ended_with, if_late, is_a_little_late, late_with, with_callers_end, with_callers_ends}
+use Rattle.trace_relations.specs.Relations.{AreRelationsOf, PlainRelations, called_of, ended, given_up_of, parent_meant, parents_of, relations_with, told_times, tried_of}
+use Rattle.trace_relations.specs.Hosts.{host_at, hosts_of}
+use Rattle.trace_relations.specs.Moments.{end_after, end_moment, ended_before, interval_at, is_before, is_past, start_moment, turn_number}
+use Rattle.trace_relations.specs.Parents.{all_references, other_place, place_of, references_from, unless_same, with_found, with_meant}
+use Rattle.trace_relations.specs.Ticks.{earliest_time, interval_between, interval_of, intervals_from, intervals_of, is_too_late, then_on, tick_of}
+use Rattle.trace_relations.specs.Times.{times_from}
+use Rattle.trace_relations.specs.Waits.{caller_named, ends_within, is_within, if_waiting, is_named, takes_from_queue, waiting_parent, waiting_parents}
 use Rattle.trace_spans.specs.declared.span.Span.{Span}
 use Rattle.trace_faithful.proofs.Climbing.{left_parent, line_below}
-use Rattle.trace_faithful.proofs.Each.{Each, In, each-push}
-use Rattle.trace_faithful.proofs.Rising.{number, start_number}
+use Rattle.trace_faithful.proofs.Each.{Each, In, each-push, each-weaker}
+use Rattle.trace_faithful.proofs.Numbers.{number, start_number}
+
+-- ---- tests
+
+pub and_right : (a b : Bool) → (a && b) ≡ true → b ≡ true
+and_right true b is = is
+and_right false b is = absurd (false≢true is)
+
+pub and_left : (a b : Bool) → (a && b) ≡ true → a ≡ true
+and_left true b is = refl
+and_left false b is = absurd (false≢true is)
 
 -- ---- lists
 
@@ -59,6 +75,34 @@ found_in test (y ∷ ys) x found = by_test test y ys x (test y) refl found (foun
         → ((y ≡ x) ⊎ In ys x) × (test x ≡ true)
     by_test test y ys x true is found again = let same : y ≡ x = same_Some y x found in (inl same, subst (λ z. test z ≡ true) same is)
     by_test test y ys x false is found again = let rest = again found in (inr rest.0, rest.1)
+
+-- what is found comes after others that fail the test
+pub record IsFound {X : Type 0} (test : X → Bool) (xs : List X) (x : X) : Type 0 where
+  pub before : List X
+  pub after : List X
+  pub split : xs ≡ before ++ x ∷ after
+  pub fail : Each (λ y. test y ≡ false) before
+  pub passes : test x ≡ true
+
+pub found_split : {X : Type 0} (test : X → Bool) (xs : List X) (x : X) → find test xs ≡ Some x → IsFound test xs x
+found_split test [] x found = absurd (none-some x found)
+found_split test (y ∷ ys) x found = by_test test y ys x (test y) refl found (found_split test ys x)
+  where
+    by_test : {X : Type 0} (test : X → Bool) (y : X) (ys : List X) (x : X) (b : Bool) → test y ≡ b → cond b (Some y) (find test ys) ≡ Some x → (find test ys ≡ Some x → IsFound test ys x) → IsFound test (y ∷ ys) x
+    by_test test y ys x true is found again =
+        let same : y ≡ x = same_Some y x found in
+        record { before = []; after = ys; split = ap (λ z. z ∷ ys) same; fail = tt; passes = subst (λ z. test z ≡ true) same is }
+    by_test test y ys x false is found again =
+        let rest = again found in
+        record { before = y ∷ rest.before; after = rest.after; split = ap (λ those. y ∷ those) rest.split; fail = (is, rest.fail); passes = rest.passes }
+
+pub known_known : (found : Option (Option ℕ)) (parent : ℕ) → known found ≡ Some parent → found ≡ Some (Some parent)
+known_known None parent here = absurd (none-some parent here)
+known_known (Some found) parent here = ap Some here
+
+pub same_option : (found : Option ℕ) (place : ℕ) → option_eq nat_eq found (Some place) ≡ true → found ≡ Some place
+same_option None place here = absurd (false≢true here)
+same_option (Some other) place here = ap Some (eqb-true other place here)
 
 position_below : {X : Type 0} (test : X → Bool) (i : ℕ) (xs : List X) (k : ℕ) → position_from test i xs ≡ Some k → k < i + length xs
 position_below test i [] k found = absurd (none-some k found)
@@ -123,73 +167,146 @@ between_forward (Some start) None last is = absurd (none-some last is)
 between_forward None (Some end) last is = let e : end ≡ last = same_Some end last is in omega arith
 between_forward None None last is = absurd (none-some last is)
 
-interval_forward : (unit : TickUnit) (origin : ℕ) (span : Span) → IsForward (interval_of unit origin span)
+interval_forward : (unit : TickUnit) (origin : ℤ) (times : Times) → IsForward (interval_of unit origin times)
 unfolding interval_of
-interval_forward unit origin span = between_forward (option_map (tick_of unit origin) span.start) (option_map (tick_of unit origin) span.end)
+interval_forward unit origin times = between_forward (option_map (tick_of unit origin) times.start) (option_map (tick_of unit origin) times.end)
 
-then_ok : {A B : Type 0} (r : Result A FamilyFault) (next : A → Result B FamilyFault) (b : B) → then_on r next ≡ Ok b → (a : A) × (r ≡ Ok a) × (next a ≡ Ok b)
+then_ok : {A B : Type 0} (r : Result A RelationsFault) (next : A → Result B RelationsFault) (b : B) → then_on r next ≡ Ok b → (a : A) × (r ≡ Ok a) × (next a ≡ Ok b)
 then_ok (Ok a) next b is = (a, refl, is)
 then_ok (Err fault) next b is = absurd (cc)
 
-unless_ok : {A : Type 0} (c : Bool) (fault : FamilyFault) (r : Result A FamilyFault) (a : A) → cond c (Err fault) r ≡ Ok a → r ≡ Ok a
+unless_ok : {A : Type 0} (c : Bool) (fault : RelationsFault) (r : Result A RelationsFault) (a : A) → cond c (Err fault) r ≡ Ok a → r ≡ Ok a
 unless_ok true fault r a is = absurd (cc)
 unless_ok false fault r a is = is
 
-same_Ok : {A : Type 0} (a b : A) → ◌≡◌ {A = Result A FamilyFault} (Ok a) (Ok b) → a ≡ b
+same_Ok : {A : Type 0} (a b : A) → ◌≡◌ {A = Result A RelationsFault} (Ok a) (Ok b) → a ≡ b
 same_Ok a b e = cc
 
-intervals_forward : (unit : TickUnit) (origin : ℕ) (spans : List Span) (intervals : List Interval) → intervals_of unit origin spans ≡ Ok intervals → (length intervals ≡ length spans) × Each IsForward intervals
-intervals_forward unit origin [] intervals is = let e : [] ≡ intervals = same_Ok [] intervals is in subst (λ those. (length those ≡ 0) × Each IsForward those) e (refl, tt)
-intervals_forward unit origin (span ∷ spans) intervals is =
-    let rest = then_ok (intervals_of unit origin spans) (λ others. Ok (interval_of unit origin span ∷ others)) intervals (unless_ok (is_too_late unit origin span) (TooLate span.id) _ intervals is) in
-    let again = intervals_forward unit origin spans rest.0 rest.1 in
-    subst (λ those. (length those ≡ suc (length spans)) × Each IsForward those) (same_Ok (interval_of unit origin span ∷ rest.0) intervals rest.2) (ap suc again.0, (interval_forward unit origin span, again.1))
+intervals_forward : (unit : TickUnit) (origin : ℤ) (late : Span → RelationsFault) (spans : List (Span × Times)) (intervals : List Interval) → intervals_from unit origin late spans ≡ Ok intervals
+    → (length intervals ≡ length spans) × Each IsForward intervals
+intervals_forward unit origin late [] intervals is = let e : [] ≡ intervals = same_Ok [] intervals is in subst (λ those. (length those ≡ 0) × Each IsForward those) e (refl, tt)
+intervals_forward unit origin late ((span, times) ∷ spans) intervals is =
+    let rest = then_ok (intervals_from unit origin late spans) (λ others. Ok (interval_of unit origin times ∷ others)) intervals (unless_ok (is_too_late unit origin times) (late span) _ intervals is) in
+    let again = intervals_forward unit origin late spans rest.0 rest.1 in
+    subst (λ those. (length those ≡ suc (length spans)) × Each IsForward those) (same_Ok (interval_of unit origin times ∷ rest.0) intervals rest.2) (ap suc again.0, (interval_forward unit origin times, again.1))
 
--- ---- a family
+zipped_count : (moves : ℕ → ℤ) (place : ℕ) (spans : List Span) → length (zip spans (times_from moves place spans)) ≡ length spans
+zipped_count moves place [] = refl
+zipped_count moves place (span ∷ spans) = ap suc (zipped_count moves (place + 1) spans)
 
-pub record IsFamily (spans : List Span) (family : PlainFamily) : Type 0 where
+-- ---- ends that are a little late
+
+late_forward : (start : ℕ) (end : Option ℕ) (callers_start : ℕ) (callers_end : Option ℕ) → late_with start end callers_start callers_end ≡ true → (tick : ℕ) → callers_end ≡ Some tick → start ≤ tick
+late_forward start None callers_start None late tick is = absurd (false≢true late)
+late_forward start None callers_start (Some callers_end) late tick is = absurd (false≢true late)
+late_forward start (Some end) callers_start None late tick is = absurd (false≢true late)
+late_forward start (Some end) callers_start (Some callers_end) late tick is =
+    let le : start ≤ callers_end = leb-true start callers_end (and_left (nat_le start callers_end) _ (and_right (nat_le callers_start start) _ late)) in
+    let e : callers_end ≡ tick = same_Some callers_end tick is in
+    omega arith
+
+if_late_forward : (span calling : Option Span) (interval caller : Interval) (end : ℕ) → if_late span calling interval caller ≡ Some end → interval.start ≤ end
+if_late_forward None None interval caller end is = absurd (none-some end is)
+if_late_forward None (Some calling) interval caller end is = absurd (none-some end is)
+if_late_forward (Some span) None interval caller end is = absurd (none-some end is)
+if_late_forward (Some span) (Some calling) interval caller end is = by_test (not calling.failed) (not (is_message calling span)) (is_a_little_late interval caller) refl is
+  where
+    by_test : (a b c : Bool) → is_a_little_late interval caller ≡ c → cond (a && (b && c)) caller.end None ≡ Some end → interval.start ≤ end
+    by_test true true true late is = late_forward interval.start interval.end caller.start caller.end late end is
+    by_test true true false late is = absurd (none-some end is)
+    by_test true false c late is = absurd (none-some end is)
+    by_test false b c late is = absurd (none-some end is)
+
+caller_forward : (spans : List Span) (intervals : List Interval) (place : ℕ) (found : Option ℕ) (end : ℕ)
+    → option_and_then (λ caller. if_late (slice_get spans place) (slice_get spans caller) (interval_at intervals place) (interval_at intervals caller)) found ≡ Some end → (interval_at intervals place).start ≤ end
+caller_forward spans intervals place None end is = absurd (none-some end is)
+caller_forward spans intervals place (Some caller) end is = if_late_forward (slice_get spans place) (slice_get spans caller) (interval_at intervals place) (interval_at intervals caller) end is
+
+-- the same starts, and ticks that don't go back
+record KeepStarts (told intervals : List Interval) : Type 0 where
+  pub count : length intervals ≡ length told
+  pub forward : Each IsForward intervals
+  pub starts : (place : ℕ) → starts_from place intervals ≡ starts_from place told
+
+set_count : (intervals : List Interval) (place : ℕ) (interval : Interval) → length (slice_set intervals place interval) ≡ length intervals
+set_count [] place interval = refl
+set_count (first ∷ intervals) zero interval = refl
+set_count (first ∷ intervals) (suc place) interval = ap suc (set_count intervals place interval)
+
+set_forward : (intervals : List Interval) (place : ℕ) (interval : Interval) → IsForward interval → Each IsForward intervals → Each IsForward (slice_set intervals place interval)
+set_forward [] place interval forward all = tt
+set_forward (first ∷ intervals) zero interval forward all = (forward, all.1)
+set_forward (first ∷ intervals) (suc place) interval forward all = (all.0, set_forward intervals place interval forward all.1)
+
+set_starts : (intervals : List Interval) (place : ℕ) (interval : Interval) → interval.start ≡ (interval_at intervals place).start → (a : ℕ) → starts_from a (slice_set intervals place interval) ≡ starts_from a intervals
+set_starts [] place interval same a = refl
+set_starts (first ∷ intervals) zero interval same a = ap (λ start. (start, a) ∷ starts_from (a + 1) intervals) same
+set_starts (first ∷ intervals) (suc place) interval same a = ap (λ rest. (first.start, a) ∷ rest) (set_starts intervals place interval same (a + 1))
+
+end_kept : (told intervals : List Interval) (place : ℕ) (end : Option ℕ) → ((tick : ℕ) → end ≡ Some tick → (interval_at intervals place).start ≤ tick) → KeepStarts told intervals → KeepStarts told (ended_with intervals place end)
+end_kept told intervals place None later kept = kept
+end_kept told intervals place (Some tick) later kept = record {
+  count = set_count intervals place (record { start = (interval_at intervals place).start; end = Some tick }) ∙ kept.count;
+  forward = set_forward intervals place (record { start = (interval_at intervals place).start; end = Some tick })
+      (λ last is. let e : tick ≡ last = same_Some tick last is in let le : (interval_at intervals place).start ≤ tick = later tick refl in omega arith) kept.forward;
+  starts = λ a. set_starts intervals place (record { start = (interval_at intervals place).start; end = Some tick }) refl a ∙ kept.starts a;
+}
+
+ends_kept : (spans : List Span) (references : List (List ℕ × Bool)) (told intervals : List Interval) (order : List ℕ) → KeepStarts told intervals → KeepStarts told (fold (with_callers_end spans references) intervals order)
+ends_kept spans references told intervals [] kept = kept
+ends_kept spans references told intervals (place ∷ order) kept =
+    ends_kept spans references told (with_callers_end spans references intervals place) order
+    (end_kept told intervals place (end_of_caller spans references intervals place) (λ tick is. caller_forward spans intervals place (caller_named references place) tick is) kept)
+
+ended_kept : (b : Bool) (spans : List Span) (order : List ℕ) (told : List Interval) → Each IsForward told → KeepStarts told (cond b told (with_callers_ends spans (all_references spans) order told))
+ended_kept true spans order told forward = record { count = refl; forward = forward; starts = λ place. refl }
+ended_kept false spans order told forward = ends_kept spans (all_references spans) told told order (record { count = refl; forward = forward; starts = λ place. refl })
+
+-- ---- how spans stand to each other
+
+pub record IsFamily (as_told : AsTold) (spans : List Span) (relations : PlainRelations) : Type 0 where
   pub few : length spans ≤ most_spans
-  pub count : length family.intervals ≡ length spans
-  pub forward : (place end : ℕ) → (interval_at family.intervals place).end ≡ Some end → (interval_at family.intervals place).start ≤ end
-  pub references : family.references ≡ all_references spans
-  pub parents : family.parents ≡ parents_of spans family.intervals
-  pub hosts : family.hosts ≡ hosts_of family.intervals family.parents
-  pub waiting : family.waiting ≡ waiting_parents spans family.intervals family.references family.parents
+  pub count : length relations.intervals ≡ length spans
+  pub forward : (place end : ℕ) → (interval_at relations.intervals place).end ≡ Some end → (interval_at relations.intervals place).start ≤ end
+  pub by_start : AreByStart relations.intervals relations.order
+  pub references : relations.references ≡ all_references spans
+  pub parents : relations.parents ≡ parents_of spans relations.intervals
+  pub hosts : relations.hosts ≡ hosts_of relations.intervals relations.parents
+  pub waiting : relations.waiting ≡ waiting_parents spans relations.intervals relations.references relations.parents
+  pub attempts : relations.attempts ≡ tried_of as_told spans relations.intervals relations.order relations.hosts relations.waiting
+  pub given_up : relations.given_up ≡ given_up_of as_told spans relations.order (called_of spans relations.intervals relations.parents relations.waiting relations.attempts)
 
 forward_at : (intervals : List Interval) (place : ℕ) → Each IsForward intervals → IsForward (interval_at intervals place)
 forward_at [] place all = λ end is. absurd (none-some end is)
 forward_at (interval ∷ intervals) zero all = all.0
 forward_at (interval ∷ intervals) (suc place) all = forward_at intervals place all.1
 
-not_above : (b a : ℕ) → nat_lt b a ≡ false → a ≤ b
-not_above b a is = grind (arith, nat_tests)
-
-few_ok : (c : Bool) (spans : List Span) (origin : ℕ) (intervals : List Interval) (family : PlainFamily) → cond c (Err TooManyStages) (Ok (family_with spans origin intervals)) ≡ Ok family
-    → (c ≡ false) × (family_with spans origin intervals ≡ family)
-few_ok true spans origin intervals family is = absurd (cc)
-few_ok false spans origin intervals family is = (refl, same_Ok (family_with spans origin intervals) family is)
-
-pub family_is : (unit : TickUnit) (spans : List Span) (family : PlainFamily) → family_of unit spans ≡ Ok family → IsFamily spans family
-unfolding family_of
-family_is unit spans family is =
-    let first = then_ok (earliest_time spans) _ family is in
-    let second = then_ok (intervals_of unit first.0 spans) _ family first.2 in
-    let last = few_ok (nat_lt most_spans (length spans)) spans first.0 second.0 family second.2 in
-    let forward = intervals_forward unit first.0 spans second.0 second.1 in
-    let made : IsFamily spans (family_with spans first.0 second.0) = record {
-      few = not_above most_spans (length spans) last.0;
-      count = forward.0;
-      forward = λ place. forward_at second.0 place forward.1;
+pub family_is : (unit : TickUnit) (as_told : AsTold) (spans : List Span) (relations : PlainRelations) → AreRelationsOf unit as_told spans relations → length spans ≤ most_spans → IsFamily as_told spans relations
+family_is unit as_told spans relations (origin, told, order, ticks, by_start, same) few =
+    let times = told_times as_told spans in
+    let first = then_ok (earliest_time spans times) _ (origin, told) ticks in
+    let second = then_ok (intervals_of unit first.0 spans times) _ (origin, told) first.2 in
+    let is_told : second.0 ≡ told = ap (λ pair. pair.1) (same_Ok (first.0, second.0) (origin, told) second.2) in
+    let are = intervals_forward unit first.0 _ (zip spans times) second.0 second.1 in
+    let count : length told ≡ length spans = sym (ap length is_told) ∙ are.0 ∙ zipped_count _ 0 spans in
+    let kept : KeepStarts told (ended as_told spans order told) = ended_kept as_told.clocks spans order told (subst (Each IsForward) is_told are.1) in
+    let made : IsFamily as_told spans (relations_with as_told spans origin (ended as_told spans order told) order) = record {
+      few = few;
+      count = kept.count ∙ count;
+      forward = λ place. forward_at (ended as_told spans order told) place kept.forward;
+      by_start = (by_start.0, (subst (λ starts. IsPermutation starts by_start.0) (sym (kept.starts 0)) by_start.1.0, by_start.1.1), by_start.2);
       references = refl;
       parents = refl;
       hosts = refl;
       waiting = refl;
+      attempts = refl;
+      given_up = refl;
     } in
-    subst (IsFamily spans) last.1 made
+    subst (IsFamily as_told spans) (sym same) made
 
 -- ---- moments as numbers
 
-turn_three : (t : Turn) → turn_number t < 3
+pub turn_three : (t : Turn) → turn_number t < 3
 turn_three turn.Ends = omega arith
 turn_three turn.Starts = omega arith
 turn_three turn.EndsAtOnce = omega arith
@@ -200,13 +317,13 @@ before_number t s u v below others is = elim (split t s u v is) [ inl lt ↦ ome
     split : (t s u v : ℕ) → (nat_lt t s || (t == s && nat_lt u v)) ≡ true → (t < s) ⊎ ((t ≡ s) × (u < v))
     split t s u v is = grind (arith, nat_tests)
 
-not_before_number : (t s u v : ℕ) → u < 3 → v < 3 → (nat_lt t s || (t == s && nat_lt u v)) ≡ false → s * 3 + v ≤ t * 3 + u
+pub not_before_number : (t s u v : ℕ) → u < 3 → v < 3 → (nat_lt t s || (t == s && nat_lt u v)) ≡ false → s * 3 + v ≤ t * 3 + u
 not_before_number t s u v below others is = elim (split t s u v is) [ inl lt ↦ omega arith | inr same ↦ omega (arith, same.0, same.1) ]
   where
     split : (t s u v : ℕ) → (nat_lt t s || (t == s && nat_lt u v)) ≡ false → (s < t) ⊎ ((t ≡ s) × (v ≤ u))
     split t s u v is = grind (arith, nat_tests)
 
-is_before_number : (moment other : Moment) → is_before moment other ≡ true → number moment < number other
+pub is_before_number : (moment other : Moment) → is_before moment other ≡ true → number moment < number other
 is_before_number moment other is = before_number moment.tick other.tick (turn_number moment.turn) (turn_number other.turn) (turn_three moment.turn) (turn_three other.turn) is
 
 past : (end : Option Moment) (moment : Moment) → is_past end moment ≡ true → (last : Moment) × (end ≡ Some last) × (number last < number moment)
@@ -218,7 +335,7 @@ pub ended_number : (intervals : List Interval) (place other : ℕ) → ended_bef
     → (last : Moment) × (end_moment (interval_at intervals place) ≡ Some last) × (number last < start_number intervals other)
 ended_number intervals place other is = past (end_moment (interval_at intervals place)) (start_moment (interval_at intervals other)) is
 
-not_true : (b : Bool) → not b ≡ true → b ≡ false
+pub not_true : (b : Bool) → not b ≡ true → b ≡ false
 not_true true is = absurd (false≢true is)
 not_true false is = refl
 
@@ -260,15 +377,18 @@ ended_place [] place last is = absurd (none-some last is)
 ended_place (interval ∷ intervals) zero last is = omega arith
 ended_place (interval ∷ intervals) (suc place) last is = let lt : place < length intervals = ended_place intervals place last is in omega arith
 
+sooner_start : (s t u : ℕ) → (u ≡ 0) ⊎ (u ≡ 2) → s * 3 + 1 ≤ t * 3 + u → s * 3 + 1 < t * 3 + u
+sooner_start s t u (inl none) le = omega arith
+sooner_start s t u (inr two) le = omega arith
+
+-- a span that had not ended before another started ended after that
+pub not_past_number : (intervals : List Interval) (place other : ℕ) (end : Moment) → ended_before (interval_at intervals place) (start_moment (interval_at intervals other)) ≡ false
+    → end_moment (interval_at intervals place) ≡ Some end → start_number intervals other < number end
+not_past_number intervals place other end past ends =
+    sooner_start (interval_at intervals other).start end.tick (turn_number end.turn) (end_turn_at (interval_at intervals place) end ends)
+    (not_before_number end.tick (interval_at intervals other).start (turn_number end.turn) 1 (turn_three end.turn) (omega arith) (sym (ap (λ found. is_past found (start_moment (interval_at intervals other))) ends) ∙ past))
+
 -- ---- hosts, and what spans wait for
-
-and_right : (a b : Bool) → (a && b) ≡ true → b ≡ true
-and_right true b is = is
-and_right false b is = absurd (false≢true is)
-
-pub and_left : (a b : Bool) → (a && b) ≡ true → a ≡ true
-and_left true b is = refl
-and_left false b is = absurd (false≢true is)
 
 pub record IsHosted (intervals : List Interval) (parents : List (Option ℕ)) (place host : ℕ) : Type 0 where
   pub above : In (line parents most_spans (parent_at parents place)) host
@@ -282,6 +402,23 @@ hosted intervals parents place host is =
     nat_le_true : (a b : ℕ) → nat_le a b ≡ true → a ≤ b
     nat_le_true a b is = grind (arith, nat_tests)
 
+-- the host stands among the ancestors, after others that start later
+pub record HasHost (intervals : List Interval) (parents : List (Option ℕ)) (place host : ℕ) : Type 0 where
+  pub before : List ℕ
+  pub after : List ℕ
+  pub split : ancestors parents place ≡ before ++ host ∷ after
+  pub later : Each (λ other. start_at intervals place < start_at intervals other) before
+
+host_found : (intervals : List Interval) (parents : List (Option ℕ)) (place host : ℕ) → host_of intervals parents place ≡ Some host → HasHost intervals parents place host
+host_found intervals parents place host is =
+    let found = found_split (λ other. nat_le (start_at intervals other) (start_at intervals place)) (ancestors parents place) host is in
+    record {
+      before = found.before;
+      after = found.after;
+      split = found.split;
+      later = each-weaker (λ other. nat_le (start_at intervals other) (start_at intervals place) ≡ false) (λ other. start_at intervals place < start_at intervals other) (λ other. leb-false (start_at intervals other) (start_at intervals place)) found.before found.fail;
+    }
+
 inside_or_after : (b : Bool) (intervals : List Interval) (place host other : ℕ) → cond b (After other) (Inside other) ≡ Inside host → other ≡ host
 inside_or_after true intervals place host other is = absurd (cc)
 inside_or_after false intervals place host other is = cc
@@ -294,6 +431,17 @@ inside_host : (intervals : List Interval) (place host : ℕ) (found : Option ℕ
 inside_host intervals place host None is = absurd (cc)
 inside_host intervals place host (Some other) is = ap Some (inside_or_after (ended_before (interval_at intervals other) (start_moment (interval_at intervals place))) intervals place host other is)
 
+inside_open : (b : Bool) (host other : ℕ) → cond b (After other) (Inside other) ≡ Inside host → b ≡ false
+inside_open true host other is = absurd (cc)
+inside_open false host other is = refl
+
+still_open : (intervals : List Interval) (place host : ℕ) (found : Option ℕ) → host_at intervals place found ≡ Inside host → ended_before (interval_at intervals host) (start_moment (interval_at intervals place)) ≡ false
+still_open intervals place host None is = absurd (cc)
+still_open intervals place host (Some other) is =
+    subst (λ h. ended_before (interval_at intervals h) (start_moment (interval_at intervals place)) ≡ false)
+    (inside_or_after (ended_before (interval_at intervals other) (start_moment (interval_at intervals place))) intervals place host other is)
+    (inside_open (ended_before (interval_at intervals other) (start_moment (interval_at intervals place))) host other is)
+
 after_host : (intervals : List Interval) (place host : ℕ) (found : Option ℕ) → host_at intervals place found ≡ After host
     → (found ≡ Some host) × (ended_before (interval_at intervals host) (start_moment (interval_at intervals place)) ≡ true)
 after_host intervals place host None is = absurd (cc)
@@ -301,51 +449,88 @@ after_host intervals place host (Some other) is =
     let both = after_or_inside (ended_before (interval_at intervals other) (start_moment (interval_at intervals place))) host other is in
     (ap Some both.1, subst (λ h. ended_before (interval_at intervals h) (start_moment (interval_at intervals place)) ≡ true) both.1 both.0)
 
-module _ (spans : List Span) (family : PlainFamily) (is : IsFamily spans family) where
+module _ {as_told : AsTold} (spans : List Span) (relations : PlainRelations) (is : IsFamily as_told spans relations) where
   abbrev pub Parents : List (Option ℕ)
-  Parents = parents_of spans family.intervals
+  Parents = parents_of spans relations.intervals
 
-  same_hosts : family.hosts ≡ hosts_of family.intervals Parents
-  same_hosts = is.hosts ∙ ap (hosts_of family.intervals) is.parents
+  same_hosts : relations.hosts ≡ hosts_of relations.intervals Parents
+  same_hosts = is.hosts ∙ ap (hosts_of relations.intervals) is.parents
 
-  pub inside_is : (place host : ℕ) → slice_get family.hosts place ≡ Some (Inside host) → IsHosted family.intervals Parents place host
+  pub inside_is : (place host : ℕ) → slice_get relations.hosts place ≡ Some (Inside host) → IsHosted relations.intervals Parents place host
   inside_is place host here =
-      let at = mapped_at (λ p. host_at family.intervals p (host_of family.intervals Parents p)) (length Parents) place (Inside host) (sym (ap (λ hosts. slice_get hosts place) same_hosts) ∙ here) in
-      hosted family.intervals Parents place host (inside_host family.intervals place host (host_of family.intervals Parents place) at.1)
+      let at = mapped_at (λ p. host_at relations.intervals p (host_of relations.intervals Parents p)) (length Parents) place (Inside host) (sym (ap (λ hosts. slice_get hosts place) same_hosts) ∙ here) in
+      hosted relations.intervals Parents place host (inside_host relations.intervals place host (host_of relations.intervals Parents place) at.1)
 
-  pub after_is : (place host : ℕ) → slice_get family.hosts place ≡ Some (After host) → ended_before (interval_at family.intervals host) (start_moment (interval_at family.intervals place)) ≡ true
+  inside_at : (place host : ℕ) → slice_get relations.hosts place ≡ Some (Inside host) → host_at relations.intervals place (host_of relations.intervals Parents place) ≡ Inside host
+  inside_at place host here =
+      (mapped_at (λ p. host_at relations.intervals p (host_of relations.intervals Parents p)) (length Parents) place (Inside host) (sym (ap (λ hosts. slice_get hosts place) same_hosts) ∙ here)).1
+
+  pub inside_host_is : (place host : ℕ) → slice_get relations.hosts place ≡ Some (Inside host) → HasHost relations.intervals Parents place host
+  inside_host_is place host here = host_found relations.intervals Parents place host (inside_host relations.intervals place host (host_of relations.intervals Parents place) (inside_at place host here))
+
+  -- a span that starts inside another starts before that ends
+  pub inside_before_end : (place host : ℕ) (end : Moment) → slice_get relations.hosts place ≡ Some (Inside host) → end_moment (interval_at relations.intervals host) ≡ Some end → start_number relations.intervals place < number end
+  inside_before_end place host end here ends =
+      not_past_number relations.intervals host place end (still_open relations.intervals place host (host_of relations.intervals Parents place) (inside_at place host here)) ends
+
+  pub after_host_is : (place host : ℕ) → slice_get relations.hosts place ≡ Some (After host) → HasHost relations.intervals Parents place host
+  after_host_is place host here =
+      let at = mapped_at (λ p. host_at relations.intervals p (host_of relations.intervals Parents p)) (length Parents) place (After host) (sym (ap (λ hosts. slice_get hosts place) same_hosts) ∙ here) in
+      host_found relations.intervals Parents place host (after_host relations.intervals place host (host_of relations.intervals Parents place) at.1).0
+
+  pub after_is : (place host : ℕ) → slice_get relations.hosts place ≡ Some (After host) → ended_before (interval_at relations.intervals host) (start_moment (interval_at relations.intervals place)) ≡ true
   after_is place host here =
-      let at = mapped_at (λ p. host_at family.intervals p (host_of family.intervals Parents p)) (length Parents) place (After host) (sym (ap (λ hosts. slice_get hosts place) same_hosts) ∙ here) in
-      (after_host family.intervals place host (host_of family.intervals Parents place) at.1).1
+      let at = mapped_at (λ p. host_at relations.intervals p (host_of relations.intervals Parents p)) (length Parents) place (After host) (sym (ap (λ hosts. slice_get hosts place) same_hosts) ∙ here) in
+      (after_host relations.intervals place host (host_of relations.intervals Parents place) at.1).1
 
-  same_waiting : family.waiting ≡ waiting_parents spans family.intervals (all_references spans) Parents
-  same_waiting = is.waiting ∙ ap (λ references. waiting_parents spans family.intervals references family.parents) is.references ∙ ap (waiting_parents spans family.intervals (all_references spans)) is.parents
+  same_waiting : relations.waiting ≡ waiting_parents spans relations.intervals (all_references spans) Parents
+  same_waiting = is.waiting ∙ ap (λ references. waiting_parents spans relations.intervals references relations.parents) is.references ∙ ap (waiting_parents spans relations.intervals (all_references spans)) is.parents
 
-  if_waits : (place parent : ℕ) (found : Option ℕ) → option_and_then (if_waiting spans family.intervals (all_references spans) place) found ≡ Some parent
-      → (found ≡ Some parent) × (ends_within (interval_at family.intervals place) (interval_at family.intervals parent) ≡ true)
+  if_waits : (place parent : ℕ) (found : Option ℕ) → option_and_then (if_waiting spans relations.intervals (all_references spans) place) found ≡ Some parent
+      → (found ≡ Some parent) × (ends_within (interval_at relations.intervals place) (interval_at relations.intervals parent) ≡ true)
   if_waits place parent None waits = absurd (none-some parent waits)
-  if_waits place parent (Some other) waits = by_test (is_named (all_references spans) place && not (takes_from_queue spans place other)) (ends_within (interval_at family.intervals place) (interval_at family.intervals other)) refl waits
+  if_waits place parent (Some other) waits = by_test (is_named (all_references spans) place && not (takes_from_queue spans place other)) (ends_within (interval_at relations.intervals place) (interval_at relations.intervals other)) refl waits
     where
-      by_test : (a b : Bool) → ends_within (interval_at family.intervals place) (interval_at family.intervals other) ≡ b → cond (a && b) (Some other) None ≡ Some parent
-          → (Some other ≡ Some parent) × (ends_within (interval_at family.intervals place) (interval_at family.intervals parent) ≡ true)
-      by_test true true ends waits = (waits, subst (λ p. ends_within (interval_at family.intervals place) (interval_at family.intervals p) ≡ true) (same_Some other parent waits) ends)
+      by_test : (a b : Bool) → ends_within (interval_at relations.intervals place) (interval_at relations.intervals other) ≡ b → cond (a && b) (Some other) None ≡ Some parent
+          → (Some other ≡ Some parent) × (ends_within (interval_at relations.intervals place) (interval_at relations.intervals parent) ≡ true)
+      by_test true true ends waits = (waits, subst (λ p. ends_within (interval_at relations.intervals place) (interval_at relations.intervals p) ≡ true) (same_Some other parent waits) ends)
       by_test true false ends waits = absurd (none-some parent waits)
       by_test false b ends waits = absurd (none-some parent waits)
 
   pub record Waits (parent place : ℕ) : Type 0 where
     pub child : parent_at Parents place ≡ Some parent
-    pub ends : ends_within (interval_at family.intervals place) (interval_at family.intervals parent) ≡ true
+    pub ends : ends_within (interval_at relations.intervals place) (interval_at relations.intervals parent) ≡ true
 
-  pub waits_is : (place parent : ℕ) → slice_get family.waiting place ≡ Some (Some parent) → Waits parent place
+  pub waits_is : (place parent : ℕ) → slice_get relations.waiting place ≡ Some (Some parent) → Waits parent place
   waits_is place parent here =
-      let at = mapped_at (waiting_parent spans family.intervals (all_references spans) Parents) (length spans) place (Some parent) (sym (ap (λ waiting. slice_get waiting place) same_waiting) ∙ here) in
+      let at = mapped_at (waiting_parent spans relations.intervals (all_references spans) Parents) (length spans) place (Some parent) (sym (ap (λ waiting. slice_get waiting place) same_waiting) ∙ here) in
       let both = if_waits place parent (parent_at Parents place) at.1 in
       record { child = both.0; ends = both.1 }
 
   pub parent_below : (place parent : ℕ) → parent_at Parents place ≡ Some parent → parent < length spans
-  parent_below place parent here = parents_within spans place parent (left_parent family.intervals (map parent_meant (all_references spans)) place parent here).1
+  parent_below place parent here = parents_within spans place parent (left_parent relations.intervals (map parent_meant (all_references spans)) place parent here).1
 
   pub above_below : (place other : ℕ) → In (line Parents most_spans (parent_at Parents place)) other → other < length spans
   above_below place other here =
-      line_below family.intervals (map parent_meant (all_references spans)) (length spans) most_spans (parents_within spans)
+      line_below relations.intervals (map parent_meant (all_references spans)) (length spans) most_spans (parents_within spans)
       (parent_at Parents place) (parent_below place) other here
+
+  references_count : (a : ℕ) (rest : List Span) → length (references_from spans a rest) ≡ length rest
+  references_count a [] = refl
+  references_count a (span ∷ rest) = ap suc (references_count (a + 1) rest)
+
+  mapped_count : {X Y : Type 0} (f : X → Y) (xs : List X) → length (map f xs) ≡ length xs
+  mapped_count f [] = refl
+  mapped_count f (x ∷ xs) = ap suc (mapped_count f xs)
+
+  pub parents_count : length Parents ≡ length spans
+  parents_count = length-map-range_with_len _ 0 (length (map parent_meant (all_references spans))) ∙ mapped_count parent_meant (all_references spans) ∙ references_count 0 spans
+
+  -- what has a parent is a span of the trace
+  pub child_below : (place parent : ℕ) → parent_at Parents place ≡ Some parent → place < length relations.intervals
+  child_below place parent here =
+      let at : slice_get Parents place ≡ Some (Some parent) = known_known (slice_get Parents place) parent here in
+      let lt : place < length Parents = slice_get_within Parents place (Some parent) at in
+      let count : length Parents ≡ length spans = parents_count in
+      let same : length relations.intervals ≡ length spans = is.count in
+      omega arith

@@ -3,9 +3,9 @@ use Rattle.std.proofs.Common.{◌≡◌, ℕ, suc, zero, ◌+◌, ◌<◌, ◌�
 use Rattle.std.specs.Prelude.{fold, slice_get, unwrap_or}
 use Rattle.std.proofs.lemmas.Option.{none-some, same_Some, slice_get-get_or, slice_get_within}
 use Rattle.trace_stages.specs.Outcomes.{PlainSight, join_outcome, join_outcomes, latest, outcome_at, outcome_of, with_join}
-use Rattle.trace_walk.specs.Joins.{join_id}
-use Rattle.trace_walk.specs.declared.joins.JoinsOf.{JoinsOf}
-use Rattle.trace_walk.specs.declared.stage.StageId.{StageId}
+use Rattle.trace_stages.specs.Joins.{join_id}
+use Rattle.trace_stages.specs.declared.walk.joins.JoinsOf.{JoinsOf}
+use Rattle.trace_stages.specs.declared.walk.stage_id.StageId.{StageId}
 use Rattle.trace_faithful.proofs.Each.{Each, In, at-append, each-weaker}
 use Rattle.trace_faithful.proofs.Joining.{AreMade, Extends, Made, extends-refl, extends-trans, made-at}
 

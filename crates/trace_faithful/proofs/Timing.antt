@@ -6,31 +6,31 @@ use Rattle.std.specs.Option.{option_map}
 use Rattle.std.proofs.lemmas.Bool.{cases_lt}
 use Rattle.std.proofs.lemmas.Bool.Decides.{nat_tests}
 use Rattle.std.proofs.lemmas.Option.{none-some, same_Some, slice_get_within}
-use Rattle.trace_events.specs.Holdings.{held}
-use Rattle.trace_events.specs.Moments.{AreMoments, At}
-use Rattle.trace_family.specs.Family.{PlainFamily}
-use Rattle.trace_family.specs.Moments.{end_after, end_moment, ended_before, interval_at, start_moment, turn_number}
-use Rattle.trace_family.specs.declared.hosts.Host.{Host}
-use Rattle.trace_family.specs.declared.hosts.Host.TheVariants.{Nowhere, Inside, After}
-use Rattle.trace_family.specs.declared.moment.Interval.{Interval}
-use Rattle.trace_family.specs.declared.moment.Moment.{Moment}
+use Rattle.trace_stages.specs.Holdings.{held}
+use Rattle.trace_stages.specs.Moments.{AreMoments, At}
+use Rattle.trace_relations.specs.Relations.{PlainRelations}
+use Rattle.trace_relations.specs.Moments.{end_after, end_moment, ended_before, interval_at, start_moment, turn_number}
+use Rattle.trace_relations.specs.declared.hosts.Host.{Host}
+use Rattle.trace_relations.specs.declared.hosts.Host.TheVariants.{Nowhere, Inside, After}
+use Rattle.trace_relations.specs.declared.moment.Interval.{Interval}
+use Rattle.trace_relations.specs.declared.moment.Moment.{Moment}
 use Rattle.trace_spans.specs.declared.span.Span.{Span}
 use Rattle.trace_stages.specs.Beginnings.{all_begins, begun, by_host, from_host, is_begun, is_linked, links_at, nothing_joined, option_list, sources_of}
-use Rattle.trace_stages.specs.Failures.{own_sight}
+use Rattle.trace_stages.specs.EndOutcomes.{own_sight}
 use Rattle.trace_stages.specs.Known.{PlainKnown}
 use Rattle.trace_stages.specs.Order.{entry_sources, join_sources}
 use Rattle.trace_stages.specs.Outcomes.{PlainSight, join_outcome, join_outcomes, outcome_at, outcome_of}
 use Rattle.trace_stages.specs.Scene.{PlainScene, entry_at, list_at, scene_of, span_outcomes, thrown_join, whole_sight}
 use Rattle.trace_stages.specs.StagesOf.{had, known_of}
-use Rattle.trace_stages.specs.Throwers.{all_thrown}
+use Rattle.trace_stages.specs.HandedOn.{all_thrown}
 use Rattle.trace_stages.specs.TwoStages.{has_two, hosts, waits}
 use Rattle.trace_stages.specs.Works.{at_end}
 use Rattle.trace_stages.specs.declared.stage.Exception.{Exception}
-use Rattle.trace_walk.specs.Joins.{PlainJoined, joined_of}
-use Rattle.trace_walk.specs.declared.holding.Begin.{Begin}
-use Rattle.trace_walk.specs.declared.joins.JoinsOf.TheVariants as joins_of
-use Rattle.trace_walk.specs.declared.stage.StageId.{StageId}
-use Rattle.trace_walk.specs.declared.stage.StageId.TheVariants.{Start, Whole, Entry, Join}
+use Rattle.trace_stages.specs.Joins.{PlainJoined, joined_of}
+use Rattle.trace_stages.specs.declared.walk.holding.Begin.{Begin}
+use Rattle.trace_stages.specs.declared.walk.joins.JoinsOf.TheVariants as joins_of
+use Rattle.trace_stages.specs.declared.walk.stage_id.StageId.{StageId}
+use Rattle.trace_stages.specs.declared.walk.stage_id.StageId.TheVariants.{Start, Whole, Entry, Join}
 use Rattle.trace_faithful.proofs.Each.{Each, In, at-append, each-append, each-in, each-map, each-weaker}
 use Rattle.trace_faithful.proofs.Joining.{Joins, Made, extends-refl, joins_made, made-at, made-later, made-weaker}
 use Rattle.trace_faithful.proofs.Keys.{Part, WaitsFor, end_made, ended_waits, entry_is, filter_each, had_is, held_has, in_flat_map, in_mapped_range, join_place, joins_are_made, joins_at, least, least_is, no_entry, no_had, no_thrown, own_joins, past_end}
@@ -51,17 +51,17 @@ tick_of_end interval last is = at interval.end refl is
 sooner_tick : (t u s v : ℕ) → v < 3 → t * 3 + u ≤ s * 3 + v → t ≤ s
 sooner_tick t u s v below le = omega arith
 
-three_turns : (t : Rattle.trace_family.specs.declared.moment.Turn.Turn) → turn_number t < 3
-three_turns Rattle.trace_family.specs.declared.moment.Turn.TheVariants.Ends = omega arith
-three_turns Rattle.trace_family.specs.declared.moment.Turn.TheVariants.Starts = omega arith
-three_turns Rattle.trace_family.specs.declared.moment.Turn.TheVariants.EndsAtOnce = omega arith
+three_turns : (t : Rattle.trace_relations.specs.declared.moment.Turn.Turn) → turn_number t < 3
+three_turns Rattle.trace_relations.specs.declared.moment.Turn.TheVariants.Ends = omega arith
+three_turns Rattle.trace_relations.specs.declared.moment.Turn.TheVariants.Starts = omega arith
+three_turns Rattle.trace_relations.specs.declared.moment.Turn.TheVariants.EndsAtOnce = omega arith
 
-module _ (spans : List Span) (family : PlainFamily) (is : IsFamily spans family) (moments : List At) (are : AreMoments family.intervals moments) (failures : ℕ → Option Exception) where
+module _ (spans : List Span) (relations : PlainRelations) (is : IsFamily spans relations) (moments : List At) (are : AreMoments relations.intervals moments) (failures : ℕ → Option Exception) where
   abbrev Known : PlainKnown
-  Known = known_of spans family moments
+  Known = known_of spans relations moments
 
   abbrev Scene : PlainScene
-  Scene = scene_of (known_of spans family moments) failures
+  Scene = scene_of (known_of spans relations moments) failures
 
   abbrev own : PlainSight
   own = own_sight Known failures
@@ -70,39 +70,39 @@ module _ (spans : List Span) (family : PlainFamily) (is : IsFamily spans family)
   whole = whole_sight Known failures Scene.outcomes
 
   abbrev Joins_at : ℕ → List (List StageId)
-  Joins_at place = joins_at spans family is moments are failures place
+  Joins_at place = joins_at spans relations is moments are failures place
 
   abbrev Least : ℕ → ℕ → ℕ
-  Least place count = least spans family is moments are failures place count
+  Least place count = least spans relations is moments are failures place count
 
   abbrev PartOf : ℕ → ℕ → StageId → Type 0
-  PartOf place n id = Part spans family is moments are failures place n id
+  PartOf place n id = Part spans relations is moments are failures place n id
 
   abbrev Awaits : ℕ → ℕ → Type 0
-  Awaits place child = WaitsFor spans family is moments are failures place child
+  Awaits place child = WaitsFor spans relations is moments are failures place child
 
   -- how a stage ends
   abbrev pub outcome : StageId → Outcome
-  outcome (Start place) = record { tick = (interval_at family.intervals place).start; failure = None }
-  outcome (Whole place) = record { tick = unwrap_or (interval_at family.intervals place).end 0; failure = failures place }
+  outcome (Start place) = record { tick = (interval_at relations.intervals place).start; failure = None }
+  outcome (Whole place) = record { tick = unwrap_or (interval_at relations.intervals place).end 0; failure = failures place }
   outcome (Entry place count) = outcome_at (list_at Scene.entry_outcomes place) count
   outcome (Join place count) = outcome_at (join_outcomes own (Joins_at place)) (Least place count)
 
   -- it is not the end of an open span
   abbrev pub IsClosed : StageId → Type 0
   IsClosed (Start place) = Unit {0}
-  IsClosed (Whole place) = (tick : ℕ) × ((interval_at family.intervals place).end ≡ Some tick)
+  IsClosed (Whole place) = (tick : ℕ) × ((interval_at relations.intervals place).end ≡ Some tick)
   IsClosed (Entry place count) = Unit {0}
   IsClosed (Join place count) = Unit {0}
 
   -- it is not the start of a span that has one stage
   abbrev pub IsFine : StageId → Type 0
-  IsFine (Start place) = (place < length family.intervals) × (has_two family.hosts family.waiting place ≡ true)
+  IsFine (Start place) = (place < length relations.intervals) × (has_two relations.hosts relations.waiting place ≡ true)
   IsFine (Whole place) = Unit {0}
   IsFine (Entry place count) = Unit {0}
   IsFine (Join place count) = Unit {0}
 
-  pub part_fine : (place n : ℕ) (id : StageId) → place < length family.intervals → has_two family.hosts family.waiting place ≡ true → PartOf place n id → IsFine id
+  pub part_fine : (place n : ℕ) (id : StageId) → place < length relations.intervals → has_two relations.hosts relations.waiting place ≡ true → PartOf place n id → IsFine id
   part_fine place n id lt two (inl (inl same)) = subst IsFine (sym same) (lt, two)
   part_fine place n id lt two (inl (inr (child, waits, same))) = subst IsFine (sym same) tt
   part_fine place n id lt two (inr (k, short, same)) = subst IsFine (sym same) tt
@@ -122,11 +122,11 @@ module _ (spans : List Span) (family : PlainFamily) (is : IsFamily spans family)
   same_place : (place : ℕ) → nat_eq place place ≡ true
   same_place place = grind (arith, nat_tests)
 
-  pub hosts_two : (place host : ℕ) → slice_get family.hosts place ≡ Some (Inside host) → has_two family.hosts family.waiting host ≡ true
-  hosts_two place host here = true_or (list_any (hosts host) family.hosts) (list_any (waits host) family.waiting) (any_at (hosts host) family.hosts place (Inside host) here (same_place host))
+  pub hosts_two : (place host : ℕ) → slice_get relations.hosts place ≡ Some (Inside host) → has_two relations.hosts relations.waiting host ≡ true
+  hosts_two place host here = true_or (list_any (hosts host) relations.hosts) (list_any (waits host) relations.waiting) (any_at (hosts host) relations.hosts place (Inside host) here (same_place host))
 
-  pub waits_two : (child place : ℕ) → slice_get family.waiting child ≡ Some (Some place) → has_two family.hosts family.waiting place ≡ true
-  waits_two child place here = or_true (list_any (hosts place) family.hosts) (list_any (waits place) family.waiting) (any_at (waits place) family.waiting child (Some place) here (same_place place))
+  pub waits_two : (child place : ℕ) → slice_get relations.waiting child ≡ Some (Some place) → has_two relations.hosts relations.waiting place ≡ true
+  waits_two child place here = or_true (list_any (hosts place) relations.hosts) (list_any (waits place) relations.waiting) (any_at (waits place) relations.waiting child (Some place) here (same_place place))
 
   -- ---- what a span has
 
@@ -135,20 +135,20 @@ module _ (spans : List Span) (family : PlainFamily) (is : IsFamily spans family)
   part_own place id (inl (inr (child, waits, same))) = subst (λ those. outcome_of own (join_outcomes own (Joins_at place)) those ≡ outcome those) (sym same) refl
   part_own place id (inr (k, lt, same)) =
       subst (λ those. outcome_of own (join_outcomes own (Joins_at place)) those ≡ outcome those) (sym same)
-      (ap (outcome_at (join_outcomes own (Joins_at place))) (sym (least_is spans family is moments are failures place k lt)))
+      (ap (outcome_at (join_outcomes own (Joins_at place))) (sym (least_is spans relations is moments are failures place k lt)))
 
-  outcomes_are : (place : ℕ) → place < length family.intervals → slice_get Scene.outcomes place ≡ Some (join_outcomes own (Joins_at place))
-  outcomes_are place lt = mapped_range (span_outcomes Known failures (all_thrown Known failures)) (length family.intervals) place lt
+  outcomes_are : (place : ℕ) → place < length relations.intervals → slice_get Scene.outcomes place ≡ Some (join_outcomes own (Joins_at place))
+  outcomes_are place lt = mapped_range (span_outcomes Known failures (all_thrown Known failures)) (length relations.intervals) place lt
 
-  pub part_whole : (place : ℕ) (id : StageId) → place < length family.intervals → PartOf place (length (Joins_at place)) id → (those : List Outcome) → outcome_of whole those id ≡ outcome id
+  pub part_whole : (place : ℕ) (id : StageId) → place < length relations.intervals → PartOf place (length (Joins_at place)) id → (those : List Outcome) → outcome_of whole those id ≡ outcome id
   part_whole place id lt (inl (inl same)) those = subst (λ one. outcome_of whole those one ≡ outcome one) (sym same) refl
   part_whole place id lt (inl (inr (child, waits, same))) those = subst (λ one. outcome_of whole those one ≡ outcome one) (sym same) refl
   part_whole place id lt (inr (k, short, same)) those =
       subst (λ one. outcome_of whole those one ≡ outcome one) (sym same)
-      (ap (λ found. outcome_at (unwrap_or found those) k) (outcomes_are place lt) ∙ ap (outcome_at (join_outcomes own (Joins_at place))) (sym (least_is spans family is moments are failures place k short)))
+      (ap (λ found. outcome_at (unwrap_or found those) k) (outcomes_are place lt) ∙ ap (outcome_at (join_outcomes own (Joins_at place))) (sym (least_is spans relations is moments are failures place k short)))
 
-  closed_whole : (child : ℕ) (last : Moment) → end_moment (interval_at family.intervals child) ≡ Some last → IsClosed (Whole child)
-  closed_whole child last ends = (last.tick, tick_of_end (interval_at family.intervals child) last ends)
+  closed_whole : (child : ℕ) (last : Moment) → end_moment (interval_at relations.intervals child) ≡ Some last → IsClosed (Whole child)
+  closed_whole child last ends = (last.tick, tick_of_end (interval_at relations.intervals child) last ends)
 
   pub part_closed : (place n : ℕ) (id : StageId) → PartOf place n id → IsClosed id
   part_closed place n id (inl (inl same)) = subst IsClosed (sym same) tt
@@ -161,36 +161,36 @@ module _ (spans : List Span) (family : PlainFamily) (is : IsFamily spans family)
 
   -- ---- ticks of what ended
 
-  whole_tick : (child : ℕ) (last : Moment) → end_moment (interval_at family.intervals child) ≡ Some last → (outcome (Whole child)).tick ≡ last.tick
-  whole_tick child last ends = ap (λ end. unwrap_or end 0) (tick_of_end (interval_at family.intervals child) last ends)
+  whole_tick : (child : ℕ) (last : Moment) → end_moment (interval_at relations.intervals child) ≡ Some last → (outcome (Whole child)).tick ≡ last.tick
+  whole_tick child last ends = ap (λ end. unwrap_or end 0) (tick_of_end (interval_at relations.intervals child) last ends)
 
-  ended_tick : (child place : ℕ) (last : Moment) → end_moment (interval_at family.intervals child) ≡ Some last → number last ≤ start_number family.intervals place → (outcome (Whole child)).tick ≤ (interval_at family.intervals place).start
+  ended_tick : (child place : ℕ) (last : Moment) → end_moment (interval_at relations.intervals child) ≡ Some last → number last ≤ start_number relations.intervals place → (outcome (Whole child)).tick ≤ (interval_at relations.intervals place).start
   ended_tick child place last ends le =
       let at : (outcome (Whole child)).tick ≡ last.tick = whole_tick child last ends in
-      let less : last.tick ≤ (interval_at family.intervals place).start = sooner_tick last.tick (turn_number last.turn) (interval_at family.intervals place).start 1 (omega arith) le in
+      let less : last.tick ≤ (interval_at relations.intervals place).start = sooner_tick last.tick (turn_number last.turn) (interval_at relations.intervals place).start 1 (omega arith) le in
       omega arith
 
-  child_tick : (child place tick : ℕ) → Awaits place child → (interval_at family.intervals place).end ≡ Some tick → (outcome (Whole child)).tick ≤ tick
+  child_tick : (child place tick : ℕ) → Awaits place child → (interval_at relations.intervals place).end ≡ Some tick → (outcome (Whole child)).tick ≤ tick
   child_tick child place tick waits ends =
-      let end : Moment = end_after (interval_at family.intervals place).start tick in
-      let moment : end_moment (interval_at family.intervals place) ≡ Some (end_after (interval_at family.intervals place).start tick) = ap (option_map (end_after (interval_at family.intervals place).start)) ends in
-      let le : number waits.1.0 ≤ number (end_after (interval_at family.intervals place).start tick) =
-      within_number (end_moment (interval_at family.intervals child)) (end_moment (interval_at family.intervals place)) waits.1.0 (end_after (interval_at family.intervals place).start tick) (waits_is spans family is child place waits.0).ends waits.1.1 moment in
+      let end : Moment = end_after (interval_at relations.intervals place).start tick in
+      let moment : end_moment (interval_at relations.intervals place) ≡ Some (end_after (interval_at relations.intervals place).start tick) = ap (option_map (end_after (interval_at relations.intervals place).start)) ends in
+      let le : number waits.1.0 ≤ number (end_after (interval_at relations.intervals place).start tick) =
+      within_number (end_moment (interval_at relations.intervals child)) (end_moment (interval_at relations.intervals place)) waits.1.0 (end_after (interval_at relations.intervals place).start tick) (waits_is spans relations is child place waits.0).ends waits.1.1 moment in
       let at : (outcome (Whole child)).tick ≡ waits.1.0.tick = whole_tick child waits.1.0 waits.1.1 in
       let less : waits.1.0.tick ≤ tick =
-      sooner_tick waits.1.0.tick (turn_number waits.1.0.turn) tick (turn_number (end_after (interval_at family.intervals place).start tick).turn) (three_turns (end_after (interval_at family.intervals place).start tick).turn) le in
+      sooner_tick waits.1.0.tick (turn_number waits.1.0.turn) tick (turn_number (end_after (interval_at relations.intervals place).start tick).turn) (three_turns (end_after (interval_at relations.intervals place).start tick).turn) le in
       omega arith
 
   -- what a span has at its end ended no later
-  pub end_tick : (place tick : ℕ) (id : StageId) → place < length family.intervals → (interval_at family.intervals place).end ≡ Some tick → PartOf place (length (Joins_at place)) id → (outcome id).tick ≤ tick
+  pub end_tick : (place tick : ℕ) (id : StageId) → place < length relations.intervals → (interval_at relations.intervals place).end ≡ Some tick → PartOf place (length (Joins_at place)) id → (outcome id).tick ≤ tick
   end_tick place tick id lt ends part =
       let le : (outcome_of own (join_outcomes own (Joins_at place)) id).tick ≤ tick =
       made_by own (joins_of.Holding place) (λ those k. refl) (Base place (Awaits place)) (settled place) (Joins_at place) (Joins_at place) (Base place (Awaits place)) tick
-      (joins_are_made spans family is moments are failures place lt) (extends-refl (Joins_at place)) (joins_are_made spans family is moments are failures place lt) (early place tick ends) id part in
+      (joins_are_made spans relations is moments are failures place lt) (extends-refl (Joins_at place)) (joins_are_made spans relations is moments are failures place lt) (early place tick ends) id part in
       let same : (outcome_of own (join_outcomes own (Joins_at place)) id).tick ≡ (outcome id).tick = ap (λ o. o.tick) (part_own place id part) in
       omega arith
     where
-      early : (place tick : ℕ) → (interval_at family.intervals place).end ≡ Some tick → (id : StageId) → Base place (Awaits place) id → (outcome_of own (join_outcomes own (Joins_at place)) id).tick ≤ tick
+      early : (place tick : ℕ) → (interval_at relations.intervals place).end ≡ Some tick → (id : StageId) → Base place (Awaits place) id → (outcome_of own (join_outcomes own (Joins_at place)) id).tick ≤ tick
       early place tick ends id (inl start) = subst (λ one. (outcome_of own (join_outcomes own (Joins_at place)) one).tick ≤ tick) (sym start) (is.forward place tick ends)
       early place tick ends id (inr (child, waits, same)) = subst (λ one. (outcome_of own (join_outcomes own (Joins_at place)) one).tick ≤ tick) (sym same) (child_tick child place tick waits ends)
 
@@ -224,9 +224,9 @@ module _ (spans : List Span) (family : PlainFamily) (is : IsFamily spans family)
           let rest : length (fold (Rattle.trace_stages.specs.Outcomes.with_join own) (Rattle.trace_stages.specs.Outcomes.with_join own before sources) joins) ≡ length (Rattle.trace_stages.specs.Outcomes.with_join own before sources) + length joins = from_count (Rattle.trace_stages.specs.Outcomes.with_join own before sources) joins in
           omega arith
 
-  join_at : (place count : ℕ) (sources : List StageId) → place < length family.intervals → slice_get (Joins_at place) (Least place count) ≡ Some sources → outcome (Join place count) ≡ join_outcome (map outcome sources)
+  join_at : (place count : ℕ) (sources : List StageId) → place < length relations.intervals → slice_get (Joins_at place) (Least place count) ≡ Some sources → outcome (Join place count) ≡ join_outcome (map outcome sources)
   join_at place count sources lt at =
-      let made = joins_are_made spans family is moments are failures place lt in
+      let made = joins_are_made spans relations is moments are failures place lt in
       let short : Least place count < length (Joins_at place) = slice_get_within (Joins_at place) (Least place count) sources at in
       join_is own (joins_of.Holding place) (λ those k. refl) (Base place (Awaits place)) (settled place) (Joins_at place) (Least place count) sources made at
       ∙ ap join_outcome (part_outcomes place (Least place count) sources (omega arith) (made-at (joins_of.Holding place) (Base place (Awaits place)) 0 (Least place count) (Least place count) (Joins_at place) sources (omega arith) made at))
@@ -236,18 +236,18 @@ module _ (spans : List Span) (family : PlainFamily) (is : IsFamily spans family)
 
   -- a join ends with its sources
   pub join_ends : (place count : ℕ) → outcome (Join place count) ≡ join_outcome (map outcome (join_sources Scene place count))
-  join_ends place count = elim (cases_lt place (length family.intervals)) [
+  join_ends place count = elim (cases_lt place (length relations.intervals)) [
     | inl lt ↦ by_sources lt (join_sources Scene place count) refl
     | inr ge ↦
-        let none : own_joins spans family is moments are failures place ≡ [] = ap (λ those. those.joins) (no_had spans family is moments are failures place ge) in
-        let no_join : join_sources Scene place count ≡ [] = ap (λ those. unwrap_or (slice_get those count) (list_at (all_thrown Known failures) place)) none ∙ no_thrown spans family is moments are failures place ge in
-        let empty : Joins_at place ≡ [] = ap (λ those. those ++ thrown_join (list_at (all_thrown Known failures) place)) none ∙ ap thrown_join (no_thrown spans family is moments are failures place ge) in
+        let none : own_joins spans relations is moments are failures place ≡ [] = ap (λ those. those.joins) (no_had spans relations is moments are failures place ge) in
+        let no_join : join_sources Scene place count ≡ [] = ap (λ those. unwrap_or (slice_get those count) (list_at (all_thrown Known failures) place)) none ∙ no_thrown spans relations is moments are failures place ge in
+        let empty : Joins_at place ≡ [] = ap (λ those. those ++ thrown_join (list_at (all_thrown Known failures) place)) none ∙ ap thrown_join (no_thrown spans relations is moments are failures place ge) in
         past_none (Least place count) (join_outcomes own (Joins_at place)) (let n : length (join_outcomes own (Joins_at place)) ≡ 0 = outcomes_count (Joins_at place) ∙ ap length empty in omega arith)
         ∙ ap (λ those. join_outcome (map outcome those)) (sym no_join)
   ]
     where
-      by_sources : place < length family.intervals → (sources : List StageId) → join_sources Scene place count ≡ sources → outcome (Join place count) ≡ join_outcome (map outcome (join_sources Scene place count))
-      by_sources lt [] none = elim (nothing_at place count (own_joins spans family is moments are failures place) (list_at (all_thrown Known failures) place) (slice_get (own_joins spans family is moments are failures place) count) refl none) [
+      by_sources : place < length relations.intervals → (sources : List StageId) → join_sources Scene place count ≡ sources → outcome (Join place count) ≡ join_outcome (map outcome (join_sources Scene place count))
+      by_sources lt [] none = elim (nothing_at place count (own_joins spans relations is moments are failures place) (list_at (all_thrown Known failures) place) (slice_get (own_joins spans relations is moments are failures place) count) refl none) [
         | inl at ↦ join_at place count [] lt at ∙ ap (λ those. join_outcome (map outcome those)) (sym none)
         | inr past ↦
             past_none (Least place count) (join_outcomes own (Joins_at place)) (let n : length (join_outcomes own (Joins_at place)) ≡ length (Joins_at place) = outcomes_count (Joins_at place) in omega arith)
@@ -255,54 +255,54 @@ module _ (spans : List Span) (family : PlainFamily) (is : IsFamily spans family)
       ]
       by_sources lt (source ∷ sources) some =
           join_at place count (join_sources Scene place count) lt
-          (join_place spans family is moments are failures place count source (slice_get (own_joins spans family is moments are failures place) count) refl (subst (λ those. In those source) (sym some) (inl refl)))
+          (join_place spans relations is moments are failures place count source (slice_get (own_joins spans relations is moments are failures place) count) refl (subst (λ those. In those source) (sym some) (inl refl)))
 
   pub join_closed : (place count : ℕ) → Each IsClosed (join_sources Scene place count)
-  join_closed place count = Rattle.trace_faithful.proofs.Each.in-each IsClosed (join_sources Scene place count) (λ source here. elim (cases_lt place (length family.intervals)) [
+  join_closed place count = Rattle.trace_faithful.proofs.Each.in-each IsClosed (join_sources Scene place count) (λ source here. elim (cases_lt place (length relations.intervals)) [
     | inl lt ↦
-        let at : slice_get (Joins_at place) (Least place count) ≡ Some (join_sources Scene place count) = join_place spans family is moments are failures place count source (slice_get (own_joins spans family is moments are failures place) count) refl here in
+        let at : slice_get (Joins_at place) (Least place count) ≡ Some (join_sources Scene place count) = join_place spans relations is moments are failures place count source (slice_get (own_joins spans relations is moments are failures place) count) refl here in
         part_closed place (Least place count) source (each-in (PartOf place (Least place count)) (join_sources Scene place count)
-        (made-at (joins_of.Holding place) (Base place (Awaits place)) 0 (Least place count) (Least place count) (Joins_at place) (join_sources Scene place count) (omega arith) (joins_are_made spans family is moments are failures place lt) at) source here)
-    | inr ge ↦ absurd (subst (λ those. In those source) (Rattle.trace_faithful.proofs.Keys.no_join spans family is moments are failures place count ge) here)
+        (made-at (joins_of.Holding place) (Base place (Awaits place)) 0 (Least place count) (Least place count) (Joins_at place) (join_sources Scene place count) (omega arith) (joins_are_made spans relations is moments are failures place lt) at) source here)
+    | inr ge ↦ absurd (subst (λ those. In those source) (Rattle.trace_faithful.proofs.Keys.no_join spans relations is moments are failures place count ge) here)
   ])
 
   -- ---- what a span begins from
 
   -- it ended by the start of the span, whatever else is known
   abbrev pub IsBefore : ℕ → StageId → Type 0
-  IsBefore place id = ((those : List Outcome) → outcome_of whole those id ≡ outcome id) × ((outcome id).tick ≤ (interval_at family.intervals place).start) × IsClosed id × IsFine id
+  IsBefore place id = ((those : List Outcome) → outcome_of whole those id ≡ outcome id) × ((outcome id).tick ≤ (interval_at relations.intervals place).start) × IsClosed id × IsFine id
 
-  whole_before : (place child : ℕ) (last : Moment) → end_moment (interval_at family.intervals child) ≡ Some last → number last < start_number family.intervals place → IsBefore place (Whole child)
+  whole_before : (place child : ℕ) (last : Moment) → end_moment (interval_at relations.intervals child) ≡ Some last → number last < start_number relations.intervals place → IsBefore place (Whole child)
   whole_before place child last ends less = (λ those. refl, ended_tick child place last ends (omega arith), closed_whole child last ends, tt)
 
-  begin_before : (place host : ℕ) (begin : Begin) → host < length family.intervals → begin.span ≡ place → In (held family moments host).begins begin → IsBefore place begin.from
+  begin_before : (place host : ℕ) (begin : Begin) → host < length relations.intervals → begin.span ≡ place → In (held relations moments host).begins begin → IsBefore place begin.from
   begin_before place host begin within same here =
-      let has = (held_has spans family is moments are failures host).1 in
-      let well : BeginsWell host (EndedBy host family.intervals family.hosts family.waiting (length family.intervals)) (start_number family.intervals) (held family moments host).joins begin = each-in _ (held family moments host).begins has.begins begin here in
-      let inside : slice_get family.hosts place ≡ Some (Inside host) = subst (λ p. slice_get family.hosts p ≡ Some (Inside host)) same (each-in _ (held family moments host).begins has.inside begin here) in
-      let mine : own_joins spans family is moments are failures host ≡ (held family moments host).joins = ap (λ those. those.joins) (had_is spans family is moments are failures host within) in
+      let has = (held_has spans relations is moments are failures host).1 in
+      let well : BeginsWell host (EndedBy host relations.intervals relations.hosts relations.waiting (length relations.intervals)) (start_number relations.intervals) (held relations moments host).joins begin = each-in _ (held relations moments host).begins has.begins begin here in
+      let inside : slice_get relations.hosts place ≡ Some (Inside host) = subst (λ p. slice_get relations.hosts p ≡ Some (Inside host)) same (each-in _ (held relations moments host).begins has.inside begin here) in
+      let mine : own_joins spans relations is moments are failures host ≡ (held relations moments host).joins = ap (λ those. those.joins) (had_is spans relations is moments are failures host within) in
       let all : Joins_at host ≡ well.before ++ (well.extends.0 ++ thrown_join (list_at (all_thrown Known failures) host)) =
       ap (λ those. those ++ thrown_join (list_at (all_thrown Known failures) host)) (mine ∙ well.extends.1)
       ∙ append_assoc well.before well.extends.0 (thrown_join (list_at (all_thrown Known failures) host)) in
       let longer : length (Joins_at host) ≡ length well.before + length (well.extends.0 ++ thrown_join (list_at (all_thrown Known failures) host)) = ap length all ∙ length-append well.before (well.extends.0 ++ thrown_join (list_at (all_thrown Known failures) host)) in
       let part : PartOf host (length (Joins_at host)) begin.from =
       made-later (joins_of.Holding host) (Base host (Awaits host)) (length well.before) (length (Joins_at host)) (omega arith) begin.from
-      (made-weaker (joins_of.Holding host) (Base host (EndedBy host family.intervals family.hosts family.waiting (length family.intervals) (start_number family.intervals begin.span))) (Base host (Awaits host)) (ended_waits spans family is moments are failures host (start_number family.intervals begin.span)) (length well.before) begin.from well.«from») in
-      let le : (outcome_of own (join_outcomes own (Joins_at host)) begin.from).tick ≤ (interval_at family.intervals place).start =
+      (made-weaker (joins_of.Holding host) (Base host (EndedBy host relations.intervals relations.hosts relations.waiting (length relations.intervals) (start_number relations.intervals begin.span))) (Base host (Awaits host)) (ended_waits spans relations is moments are failures host (start_number relations.intervals begin.span)) (length well.before) begin.from well.«from») in
+      let le : (outcome_of own (join_outcomes own (Joins_at host)) begin.from).tick ≤ (interval_at relations.intervals place).start =
       made_by own (joins_of.Holding host) (λ those k. refl) (Base host (Awaits host)) (settled host) (Joins_at host) well.before
-      (Base host (EndedBy host family.intervals family.hosts family.waiting (length family.intervals) (start_number family.intervals begin.span))) (interval_at family.intervals place).start
-      (joins_are_made spans family is moments are failures host within) (well.extends.0 ++ thrown_join (list_at (all_thrown Known failures) host), all) well.made
+      (Base host (EndedBy host relations.intervals relations.hosts relations.waiting (length relations.intervals) (start_number relations.intervals begin.span))) (interval_at relations.intervals place).start
+      (joins_are_made spans relations is moments are failures host within) (well.extends.0 ++ thrown_join (list_at (all_thrown Known failures) host), all) well.made
       (early place host begin same inside) begin.from well.«from» in
       let tick : (outcome_of own (join_outcomes own (Joins_at host)) begin.from).tick ≡ (outcome begin.from).tick = ap (λ o. o.tick) (part_own host begin.from part) in
       (part_whole host begin.from within part, omega arith, part_closed host (length (Joins_at host)) begin.from part, part_fine host (length (Joins_at host)) begin.from within (hosts_two place host inside) part)
     where
-      early : (place host : ℕ) (begin : Begin) → begin.span ≡ place → slice_get family.hosts place ≡ Some (Inside host) → (id : StageId)
-          → Base host (EndedBy host family.intervals family.hosts family.waiting (length family.intervals) (start_number family.intervals begin.span)) id → (outcome_of own (join_outcomes own (Joins_at host)) id).tick ≤ (interval_at family.intervals place).start
+      early : (place host : ℕ) (begin : Begin) → begin.span ≡ place → slice_get relations.hosts place ≡ Some (Inside host) → (id : StageId)
+          → Base host (EndedBy host relations.intervals relations.hosts relations.waiting (length relations.intervals) (start_number relations.intervals begin.span)) id → (outcome_of own (join_outcomes own (Joins_at host)) id).tick ≤ (interval_at relations.intervals place).start
       early place host begin same inside id (inl start) =
-          subst (λ one. (outcome_of own (join_outcomes own (Joins_at host)) one).tick ≤ (interval_at family.intervals place).start) (sym start) (inside_is spans family is place host inside).sooner
+          subst (λ one. (outcome_of own (join_outcomes own (Joins_at host)) one).tick ≤ (interval_at relations.intervals place).start) (sym start) (inside_is spans relations is place host inside).sooner
       early place host begin same inside id (inr (child, ended, whole_is)) =
-          subst (λ one. (outcome_of own (join_outcomes own (Joins_at host)) one).tick ≤ (interval_at family.intervals place).start) (sym whole_is)
-          (ended_tick child place ended.0.0 ended.0.1 (subst (λ p. number ended.0.0 ≤ start_number family.intervals p) same ended.0.2))
+          subst (λ one. (outcome_of own (join_outcomes own (Joins_at host)) one).tick ≤ (interval_at relations.intervals place).start) (sym whole_is)
+          (ended_tick child place ended.0.0 ended.0.1 (subst (λ p. number ended.0.0 ≤ start_number relations.intervals p) same ended.0.2))
 
   begun_before : (place : ℕ) (id : StageId) → begun Known place ≡ Some id → IsBefore place id
   begun_before place id begins = by_find (find (λ begin. nat_eq begin.span place) (all_begins Known.hads)) refl begins
@@ -313,11 +313,11 @@ module _ (spans : List Span) (family : PlainFamily) (is : IsFamily spans family)
           let at = found_in (λ those. nat_eq those.span place) (all_begins Known.hads) begin found in
           let e : begin.span ≡ place = let test : nat_eq begin.span place ≡ true = at.1 in grind (arith, nat_tests) in
           let of_had = in_flat_map (λ those. those.begins) Known.hads begin at.0 in
-          let of_span = in_mapped_range (had family moments) 0 (length family.intervals) of_had.0 of_had.1 in
+          let of_span = in_mapped_range (had relations moments) 0 (length relations.intervals) of_had.0 of_had.1 in
           subst (IsBefore place) (same_Some begin.from id some)
           (begin_before place (0 + of_span.0) begin (omega (arith, of_span.1)) e (subst (λ those. In those.begins begin) (sym of_span.2) of_had.2))
 
-  host_before : (place : ℕ) (host : Option Host) → slice_get family.hosts place ≡ host → Each (IsBefore place) (option_list (by_host (begun Known) place (unwrap_or host Nowhere)))
+  host_before : (place : ℕ) (host : Option Host) → slice_get relations.hosts place ≡ host → Each (IsBefore place) (option_list (by_host (begun Known) place (unwrap_or host Nowhere)))
   host_before place None here = tt
   host_before place (Some Nowhere) here = tt
   host_before place (Some (Inside host)) here = by_begin (begun Known place) refl
@@ -326,21 +326,21 @@ module _ (spans : List Span) (family : PlainFamily) (is : IsFamily spans family)
       by_begin None none = tt
       by_begin (Some id) some = (begun_before place id some, tt)
   host_before place (Some (After host)) here =
-      let ended = ended_number family.intervals host place (after_is spans family is place host here) in
+      let ended = ended_number relations.intervals host place (after_is spans relations is place host here) in
       (whole_before place host ended.0 ended.1 ended.2, tt)
 
-  link_before : (place link : ℕ) («from» : Option StageId) → is_linked family.intervals place «from» link ≡ true → IsBefore place (Whole link)
+  link_before : (place link : ℕ) («from» : Option StageId) → is_linked relations.intervals place «from» link ≡ true → IsBefore place (Whole link)
   link_before place link «from» here =
-      let ended = ended_number family.intervals link place (and_left (ended_before (interval_at family.intervals link) (start_moment (interval_at family.intervals place))) _ here) in
+      let ended = ended_number relations.intervals link place (and_left (ended_before (interval_at relations.intervals link) (start_moment (interval_at relations.intervals place))) _ here) in
       whole_before place link ended.0 ended.1 ended.2
 
   all_before : (place : ℕ) → Each (IsBefore place) (sources_of Known (begun Known) place)
   all_before place =
-      each-append (IsBefore place) (option_list (from_host Known (begun Known) place)) (map Whole (filter (is_linked family.intervals place (from_host Known (begun Known) place)) (links_at family.references place)))
-      (host_before place (slice_get family.hosts place) refl)
-      (each-map (IsBefore place) Whole (filter (is_linked family.intervals place (from_host Known (begun Known) place)) (links_at family.references place))
-      (each-weaker (λ link. is_linked family.intervals place (from_host Known (begun Known) place) link ≡ true) (λ link. IsBefore place (Whole link)) (λ link here. link_before place link (from_host Known (begun Known) place) here)
-      (filter (is_linked family.intervals place (from_host Known (begun Known) place)) (links_at family.references place)) (filter_each _ (links_at family.references place))))
+      each-append (IsBefore place) (option_list (from_host Known (begun Known) place)) (map Whole (filter (is_linked relations.intervals place (from_host Known (begun Known) place)) (links_at relations.references place)))
+      (host_before place (slice_get relations.hosts place) refl)
+      (each-map (IsBefore place) Whole (filter (is_linked relations.intervals place (from_host Known (begun Known) place)) (links_at relations.references place))
+      (each-weaker (λ link. is_linked relations.intervals place (from_host Known (begun Known) place) link ≡ true) (λ link. IsBefore place (Whole link)) (λ link here. link_before place link (from_host Known (begun Known) place) here)
+      (filter (is_linked relations.intervals place (from_host Known (begun Known) place)) (links_at relations.references place)) (filter_each _ (links_at relations.references place))))
 
   entry_if : (place : ℕ) (b : Bool) → Joins (joins_of.Entry place) (IsBefore place) [] (cond b (joined_of (joins_of.Entry place) [] (sources_of Known (begun Known) place)) nothing_joined)
   entry_if place true =
@@ -349,9 +349,9 @@ module _ (spans : List Span) (family : PlainFamily) (is : IsFamily spans family)
   entry_if place false = record { extends = extends-refl []; joins = tt; stage = tt }
 
   pub entry_joins : (place : ℕ) → Joins (joins_of.Entry place) (IsBefore place) [] (entry_at Scene.entries place)
-  entry_joins place = elim (cases_lt place (length family.intervals)) [
-    | inl lt ↦ subst (Joins (joins_of.Entry place) (IsBefore place) []) (sym (entry_is spans family is moments are failures place lt)) (entry_if place (is_begun Known place))
-    | inr ge ↦ subst (Joins (joins_of.Entry place) (IsBefore place) []) (sym (no_entry spans family is moments are failures place ge)) (record { extends = extends-refl []; joins = tt; stage = tt })
+  entry_joins place = elim (cases_lt place (length relations.intervals)) [
+    | inl lt ↦ subst (Joins (joins_of.Entry place) (IsBefore place) []) (sym (entry_is spans relations is moments are failures place lt)) (entry_if place (is_begun Known place))
+    | inr ge ↦ subst (Joins (joins_of.Entry place) (IsBefore place) []) (sym (no_entry spans relations is moments are failures place ge)) (record { extends = extends-refl []; joins = tt; stage = tt })
   ]
 
   entry_outcomes_mapped : (entries : List PlainJoined) (place : ℕ) → list_at (map (λ joined. join_outcomes whole joined.joins) entries) place ≡ join_outcomes whole (entry_at entries place).joins
@@ -428,7 +428,7 @@ module _ (spans : List Span) (family : PlainFamily) (is : IsFamily spans family)
   -- the source of the first stage of a span
   pub record Begins (place : ℕ) (source : StageId) : Type 0 where
     pub seen : outcome_of whole (list_at Scene.entry_outcomes place) source ≡ outcome source
-    pub by : (outcome source).tick ≤ (interval_at family.intervals place).start
+    pub by : (outcome source).tick ≤ (interval_at relations.intervals place).start
     pub closed : IsClosed source
     pub fine : IsFine source
 
@@ -437,13 +437,13 @@ module _ (spans : List Span) (family : PlainFamily) (is : IsFamily spans family)
       let joins = entry_joins place in
       let made : Made (joins_of.Entry place) (IsBefore place) (length (entry_at Scene.entries place).joins) source = subst (λ found. IfSome found (Made (joins_of.Entry place) (IsBefore place) (length (entry_at Scene.entries place).joins))) stage joins.stage in
       let same : outcome_of whole (join_outcomes whole (entry_at Scene.entries place).joins) source ≡ outcome source = entry_part place (length (entry_at Scene.entries place).joins) source made in
-      let le : (outcome_of whole (join_outcomes whole (entry_at Scene.entries place).joins) source).tick ≤ (interval_at family.intervals place).start =
-      made_by whole (joins_of.Entry place) (λ those k. refl) (IsBefore place) (before_settled place) (entry_at Scene.entries place).joins (entry_at Scene.entries place).joins (IsBefore place) (interval_at family.intervals place).start
+      let le : (outcome_of whole (join_outcomes whole (entry_at Scene.entries place).joins) source).tick ≤ (interval_at relations.intervals place).start =
+      made_by whole (joins_of.Entry place) (λ those k. refl) (IsBefore place) (before_settled place) (entry_at Scene.entries place).joins (entry_at Scene.entries place).joins (IsBefore place) (interval_at relations.intervals place).start
       joins.joins (extends-refl (entry_at Scene.entries place).joins) joins.joins
-      (λ id before. subst (λ o. o.tick ≤ (interval_at family.intervals place).start) (sym (before.0 (join_outcomes whole (entry_at Scene.entries place).joins))) before.1) source made in
+      (λ id before. subst (λ o. o.tick ≤ (interval_at relations.intervals place).start) (sym (before.0 (join_outcomes whole (entry_at Scene.entries place).joins))) before.1) source made in
       record {
         seen = ap (λ those. outcome_of whole those source) (entry_outcomes_are place) ∙ same;
-        by = subst (λ o. o.tick ≤ (interval_at family.intervals place).start) same le;
+        by = subst (λ o. o.tick ≤ (interval_at relations.intervals place).start) same le;
         closed = entry_made_closed place (length (entry_at Scene.entries place).joins) source made;
         fine = entry_made_fine place (length (entry_at Scene.entries place).joins) source made;
       }
@@ -454,10 +454,10 @@ module _ (spans : List Span) (family : PlainFamily) (is : IsFamily spans family)
     pub by : (outcome (at_end Scene place)).tick ≤ tick
     pub closed : IsClosed (at_end Scene place)
 
-  pub last_ends : (place tick : ℕ) → (interval_at family.intervals place).end ≡ Some tick → Ends place tick
+  pub last_ends : (place tick : ℕ) → (interval_at relations.intervals place).end ≡ Some tick → Ends place tick
   last_ends place tick ends =
-      let lt : place < length family.intervals = ended_place family.intervals place (end_after (interval_at family.intervals place).start tick) (ap (option_map (end_after (interval_at family.intervals place).start)) ends) in
-      let part : PartOf place (length (Joins_at place)) (at_end Scene place) = end_made spans family is moments are failures place (list_at (all_thrown Known failures) place) refl lt in
+      let lt : place < length relations.intervals = ended_place relations.intervals place (end_after (interval_at relations.intervals place).start tick) (ap (option_map (end_after (interval_at relations.intervals place).start)) ends) in
+      let part : PartOf place (length (Joins_at place)) (at_end Scene place) = end_made spans relations is moments are failures place (list_at (all_thrown Known failures) place) refl lt in
       record {
         seen = part_whole place (at_end Scene place) lt part [];
         by = end_tick place tick (at_end Scene place) lt ends part;

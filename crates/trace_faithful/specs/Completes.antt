@@ -1,5 +1,5 @@
 -- How the stages of a trace complete.
-use Rattle.std.specs.Prelude.{◌≡◌, ℕ, List, [], map, Option, Some, None, option_map}
+use Rattle.std.specs.Prelude.{◌≡◌, ℕ, pos, List, [], map, option_to_list, Option, Some, None, option_map}
 use Rattle.act_expr.specs.Expression.{Expression, literal, conditional, failed, throw}
 use Rattle.act_expr.specs.declared.outcome.Outcome.{Outcome}
 use Rattle.act_expr.specs.declared.outcome.Outcome.TheVariants.{Value as Normal, Wrapped}
@@ -13,7 +13,7 @@ use Rattle.trace_stages.specs.declared.stage.Action.{Action}
 use Rattle.trace_stages.specs.declared.stage.Action.TheVariants as acts
 use Rattle.trace_stages.specs.declared.stage.Exception.{Exception}
 use Rattle.trace_stages.specs.declared.stage.Op.{Op as TraceOp}
-use Rattle.trace_stages.specs.declared.stage.Op.TheVariants.{Async, Manual, ThenRun, Handle, WhenComplete, AllOf}
+use Rattle.trace_stages.specs.declared.stage.Op.TheVariants.{Async, Manual, ThenRun, Handle, WhenComplete, ExceptionallyCompose, AllOf, AnyOf}
 use Rattle.trace_stages.specs.declared.stage.StageName.{StageName}
 
 abbrev pub op_of : TraceOp → Op
@@ -22,11 +22,14 @@ op_of Manual = op.Manual
 op_of ThenRun = op.ThenRun
 op_of Handle = op.Handle
 op_of WhenComplete = op.WhenComplete
+op_of ExceptionallyCompose = op.ExceptionallyCompose
 op_of AllOf = op.AllOf
+op_of AnyOf = op.AnyOf
 
--- null, an exception, or an exception if the source failed
+-- null, an exception, an exception if the source failed, or the number of the first inner stage
 abbrev pub action_of : (Exception → List ℕ) → Action → Expression
 action_of exceptions acts.Null = literal value.Null
+action_of exceptions acts.PicksFirst = literal (value.Num (pos 0))
 action_of exceptions (acts.Throws exception) = throw (exceptions exception)
 action_of exceptions (acts.ThrowsIfFailed exception) = conditional failed (throw (exceptions exception)) (literal value.Null)
 
@@ -36,7 +39,7 @@ spec_of text exceptions stage = record {
   name = text stage.name;
   op = op_of stage.op;
   sources = map text stage.sources;
-  inner = [];
+  inner = map text (option_to_list stage.inner);
   created = stage.created;
   queued = stage.queued;
   runs = stage.runs;

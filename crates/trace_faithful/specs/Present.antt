@@ -1,26 +1,23 @@
 -- Each span of a trace has its stages, and each exception its name.
-use Rattle.std.specs.Prelude.{◌≡◌, ℕ, ◌<◌, List, Contains, true, length, Ok, Some, slice_get}
-use Rattle.trace_events.specs.Moments.{AreMoments, At}
-use Rattle.trace_family.specs.Family.{PlainFamily, family_of}
-use Rattle.trace_family.specs.declared.unit.Unit.{Unit as TickUnit}
+use Rattle.std.specs.Prelude.{◌≡◌, ℕ, ◌<◌, List, Contains, true, length, is_some}
+use Rattle.trace_relations.specs.Relations.{PlainRelations}
+use Rattle.trace_relations.specs.declared.as_told.AsTold.{AsTold}
+use Rattle.trace_relations.specs.declared.unit.Unit.{Unit as TickUnit}
 use Rattle.trace_spans.specs.declared.span.Span.{Span}
-use Rattle.trace_stages.specs.ByStart.{AreByStart}
-use Rattle.trace_stages.specs.Fates.{exception_told}
+use Rattle.trace_stages.specs.Moments.{At}
 use Rattle.trace_stages.specs.TwoStages.{has_two}
-use Rattle.trace_text.specs.Texts.{exception_name}
-use Rattle.trace_walk.specs.declared.stage.StageId.TheVariants.{Start, Whole}
-use Rattle.trace_faithful.specs.Circles.{trace_stages}
+use Rattle.trace_stages.specs.declared.walk.stage_id.StageId.TheVariants.{Start, Whole, Tried, Limit, Answer}
+use Rattle.trace_stages.specs.Known.{gave_up}
+use Rattle.trace_stages.specs.StagesOf.{known_of}
+use Rattle.trace_faithful.specs.Circles.{IsTrace, trace_stages}
 
--- each span has a stage that ends when it did, and one that starts when it did where it has two
+-- each span has a stage that ends when it did, and one that starts when it did where it has two; one that gave calls up has its limit and its end with their answers
 abbrev pub EachSpanHasItsStages : Type 0
 EachSpanHasItsStages =
-    (unit : TickUnit) (spans : List Span) (family : PlainFamily) (moments : List At) (places : List ℕ) → family_of unit spans ≡ Ok family → AreMoments family.intervals moments → AreByStart family.intervals places
+    (unit : TickUnit) (as_told : AsTold) (spans : List Span) (relations : PlainRelations) (moments : List At) → IsTrace unit as_told spans relations moments
     → (place : ℕ) → place < length spans
-    → Contains (trace_stages spans family moments places) (Whole place)
-    × (has_two family.hosts family.waiting place ≡ true → Contains (trace_stages spans family moments places) (Start place))
-
--- the exception that a span tells is written by the name that it tells
-abbrev pub EachExceptionHasItsName : Type 0
-EachExceptionHasItsName =
-    (spans : List Span) (place : ℕ) (span : Span) (name : List ℕ) → slice_get spans place ≡ Some span → span.exception ≡ Some name
-    → exception_name spans (exception_told spans place name) ≡ name
+    → Contains (trace_stages spans relations as_told moments) (Whole place)
+    × (has_two relations.hosts relations.waiting place ≡ true → Contains (trace_stages spans relations as_told moments) (Start place))
+    × (gave_up (known_of spans relations as_told moments) place ≡ true
+    → Contains (trace_stages spans relations as_told moments) (Limit place) × Contains (trace_stages spans relations as_told moments) (Answer place))
+    × (is_some (relations.attempts.next place) ≡ true → Contains (trace_stages spans relations as_told moments) (Tried place))

@@ -1,7 +1,7 @@
 //! Laws of the definitions by which traces become recordings.
 ghost use Rattle.trace_faithful.specs.Circles.{EachSourceIsAStage, NoTraceHasACircle};
 ghost use Rattle.trace_faithful.specs.Faithful.{EachTraceIsFaithful};
-ghost use Rattle.trace_faithful.specs.Present.{EachExceptionHasItsName, EachSpanHasItsStages};
+ghost use Rattle.trace_faithful.specs.Present.{EachSpanHasItsStages};
 
 /// Each span of a trace has a stage that ends when it did, and one that starts when it did where it has two.
 pub fn each_span_has_its_stages()
@@ -21,9 +21,4 @@ pub fn no_trace_has_a_circle()
 /// Each stage of a trace completes when its span ended, and fails exactly if that did.
 pub fn each_trace_is_faithful()
     ensures { EachTraceIsFaithful }
-{}
-
-/// The exception that a span tells is written by the name that it tells.
-pub fn each_exception_has_its_name()
-    ensures { EachExceptionHasItsName }
 {}

@@ -4,6 +4,5 @@
 mod law;
 
 pub use law::{
-    each_exception_has_its_name, each_source_is_a_stage, each_span_has_its_stages,
-    each_trace_is_faithful, no_trace_has_a_circle,
+    each_source_is_a_stage, each_span_has_its_stages, each_trace_is_faithful, no_trace_has_a_circle,
 };

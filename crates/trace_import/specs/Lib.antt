@@ -1,2 +1,7 @@
+pub mod Actions
+pub mod ClockLabels
 pub mod Faults
 pub mod Imported
+pub mod Specs
+pub mod StageNames
+pub mod Texts

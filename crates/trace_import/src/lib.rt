@@ -1,15 +1,24 @@
 //! Recordings made from traces.
 //!
 //! `import` writes the recording that the spans of a trace make: what waited for what is inferred from the times inside
-//! each parent, and each span's stage ends when the span did. The definition `IsImported` says what it writes.
+//! each parent, and each span's stage ends when the span did. The definition `IsImported` says what it writes. What was
+//! guessed on the way is answered.
 #![tactic(auto)]
 
+mod actions;
+mod clock_labels;
 mod fault;
+mod imported_stage;
 mod importing;
+mod note;
+mod notes;
+mod options;
 mod reading;
+mod stage_names;
 mod text;
 
 pub use fault::ImportFault;
 pub use importing::import;
-pub use reading::Options;
-pub use trace_family::Unit;
+pub use note::{Attempt, GivenUp, LateCall, MovedClock, Note, NoteKind, Outliving};
+pub use options::Options;
+pub use trace_relations::{AsTold, Unit};

@@ -1,20 +1,13 @@
 //! What is read of a trace, and made of it.
-ghost use Rattle.std.specs.Prelude.{◌≡◌, option_copied};
-ghost use Rattle.trace_import.specs.Imported.{IsReading};
+ghost use Rattle.std.specs.Prelude.{◌≡◌};
+ghost use Rattle.trace_import.specs.Imported.{IsReading, asked_of};
 
 use crate::fault::ImportFault;
+use crate::options::Options;
 use std::alloc::Global;
-use trace_family::{Family, Unit, family_of};
+use trace_relations::{Relations, relations_of};
 use trace_spans::{Trace, read_trace};
 use trace_stages::{Stages, stages_of};
-
-/// What is asked of an import.
-#[derive(Clone, Copy, PartialEq, Eq, Debug)]
-pub struct Options<'a> {
-    /// The id of the trace, of several.
-    pub trace: Option<&'a str>,
-    pub unit: Unit,
-}
 
 /// The most stages of a recording.
 const MOST_STAGES: usize = 65_536;
@@ -23,7 +16,7 @@ const MOST_STAGES: usize = 65_536;
 #[derive(Drop)]
 pub(crate) struct Reading {
     pub trace: Trace,
-    pub family: Family,
+    pub relations: Relations,
     pub stages: Stages,
 }
 
@@ -31,21 +24,20 @@ pub(crate) struct Reading {
 pub(crate) fn read(
     alloc: Global,
     bytes: &[u8],
-    wanted: Option<&str>,
-    unit: Unit,
+    options: Options<'_>,
 ) -> Result<Reading, ImportFault>
-    ensures { IsReading bytes.now (option_copied wanted.entry) unit result }
+    ensures { IsReading bytes.now (asked_of options.entry) result }
 {
-    let trace = read_trace(alloc, bytes, wanted)?;
+    let trace = read_trace(alloc, bytes, options.trace)?;
     let spans = trace.spans.as_slice();
-    let family = family_of(alloc, unit, spans)?;
-    let stages = stages_of(alloc, spans, &family)?;
+    let relations = relations_of(alloc, options.unit, options.as_told, spans)?;
+    let stages = stages_of(alloc, spans, &relations, options.as_told)?;
     if stages.0.len() > MOST_STAGES {
         return Err(ImportFault::TooManyStages);
     }
     Ok(Reading {
         trace,
-        family,
+        relations,
         stages,
     })
 }

@@ -1,39 +1,124 @@
 //! The text of the recording that a trace makes.
-ghost use Rattle.std.specs.Prelude.{◌≡◌, option_copied};
-ghost use Rattle.trace_import.specs.Imported.{IsMade, IsMadeOf};
+ghost use Rattle.std.specs.Prelude.{◌≡◌};
+ghost use Rattle.trace_import.specs.Imported.{IsMadeOf};
 
+use crate::actions::Actions;
+use crate::clock_labels::{ClockText, clock_texts, labels_of_clocks};
 use crate::fault::ImportFault;
-use crate::reading::{Reading, read};
-use std::alloc::Global;
-use trace_family::Unit;
-use trace_names::names;
-use trace_stages::by_start;
-use trace_text::{Head, recording_text};
+use crate::imported_stage::{Making, imported_spec};
+use crate::options::Options;
+use crate::reading::Reading;
+use recording_text::{Head, Label, LabelGroup, LabelledText};
+use std::alloc::{AllocError, Global};
+use trace_spans::{Span, TextList};
+use trace_stages::{ImportedStage, StageName};
 
-/// The text of what was read.
-fn text_of(alloc: Global, unit: Unit, reading: &Reading) -> Result<String, ImportFault>
-    ensures { IsMadeOf unit reading.now result }
-{
-    let spans = reading.trace.spans.as_slice();
-    let places = by_start(alloc, &reading.family.intervals)?;
-    let names = names(alloc, spans, &places)?;
-    let head = Head {
-        trace: reading.trace.id.as_str(),
-        unit,
-        start: reading.family.origin,
-    };
-    Ok(recording_text(alloc, head, spans, &names, &reading.stages.0)?)
+/// The most bytes of a recording.
+const LONGEST: usize = 67_108_864;
+
+/// The id of a span under a name, if the span is one.
+fn id_label<'a>(spans: &'a [Span], name: &'static str, place: usize) -> Option<Label<'a>> {
+    let span = spans.get(place)?;
+    Some(Label {
+        name,
+        text: span.id.as_str(),
+    })
 }
 
-/// The text of the recording that a trace makes.
-pub(crate) fn imported_text(
+/// What a stage bears beside: that which ends when its span did the id of that, and own work that of the span whose it is.
+fn label_of<'a>(spans: &'a [Span], name: StageName) -> Option<Label<'a>> {
+    match name {
+        StageName::Whole(place) => id_label(spans, "span", place),
+        StageName::Work(place, _) => id_label(spans, "x-work-of", place),
+        _ => None,
+    }
+}
+
+/// Puts a stage at the end of a text.
+fn push_stage(
+    text: &mut LabelledText,
+    making: Making<'_>,
+    stage: &ImportedStage,
+) -> Result<(), AllocError> {
+    let spec = imported_spec(making, stage)?;
+    match label_of(making.spans, stage.name) {
+        Some(label) => text.push(&spec, &[label]),
+        None => text.push(&spec, &[]),
+    }
+}
+
+/// Puts stages at the end of a text; gives up where it gets too long.
+fn push_stages(
+    text: &mut LabelledText,
+    making: Making<'_>,
+    stages: &[ImportedStage],
+) -> Result<(), ImportFault> {
+    for stage in stages {
+        push_stage(text, making, stage)?;
+        if text.len() > LONGEST {
+            return Err(ImportFault::TooLong);
+        }
+    }
+    Ok(())
+}
+
+/// The text before the stages.
+fn text_before(
     alloc: Global,
-    bytes: &[u8],
-    wanted: Option<&str>,
-    unit: Unit,
-) -> Result<String, ImportFault>
-    ensures { IsMade bytes.now (option_copied wanted.entry) unit result }
+    options: Options<'_>,
+    reading: &Reading,
+    clocks: &[ClockText],
+) -> Result<LabelledText, AllocError> {
+    let start = reading.relations.origin;
+    let start = format!(in alloc; "{start}")?;
+    let labels = [
+        Label {
+            name: "trace",
+            text: reading.trace.id.as_str(),
+        },
+        Label {
+            name: "unit",
+            text: options.unit.text(),
+        },
+        Label {
+            name: "start",
+            text: start.as_str(),
+        },
+    ];
+    let moved = labels_of_clocks(alloc, clocks)?;
+    let head = Head {
+        labels: &labels,
+        group: LabelGroup {
+            name: "clocks",
+            labels: &moved,
+        },
+    };
+    LabelledText::new(alloc, head)
+}
+
+/// The text of what was read.
+pub(crate) fn text_of(
+    alloc: Global,
+    options: Options<'_>,
+    reading: &Reading,
+    names: &TextList,
+) -> Result<Vec<u8>, ImportFault>
+    ensures { IsMadeOf options.entry reading.now names.now result }
 {
-    let reading = read(alloc, bytes, wanted, unit)?;
-    text_of(alloc, unit, &reading)
+    let spans = reading.trace.spans.as_slice();
+    let actions = Actions::new(alloc)?;
+    let making = Making {
+        alloc,
+        spans,
+        names,
+        actions: &actions,
+    };
+    let clocks = clock_texts(alloc, spans, &reading.relations.moved)?;
+    let mut text = text_before(alloc, options, reading, &clocks)?;
+    push_stages(&mut text, making, &reading.stages.0)?;
+    let bytes = text.finish()?;
+    if bytes.len() > LONGEST {
+        return Err(ImportFault::TooLong);
+    }
+    Ok(bytes)
 }

@@ -6,8 +6,8 @@ use Rattle.std.proofs.lemmas.List.Sums.{fold-append}
 use Rattle.trace_stages.specs.declared.stage.Exception.{Exception}
 use Rattle.trace_stages.specs.Failures.{failure, failures_by, none_fails, with_visit}
 use Rattle.trace_stages.specs.Known.{PlainKnown}
-use Rattle.trace_tour.specs.declared.visit.Visit.{Visit}
-use Rattle.trace_tour.specs.declared.visit.Visit.TheVariants.{Enters, Leaves}
+use Rattle.trace_stages.specs.declared.tour.visit.Visit.{Visit}
+use Rattle.trace_stages.specs.declared.tour.visit.Visit.TheVariants.{Enters, Leaves}
 
 -- functions that agree everywhere are the same
 pub same_function : {A B : Type 0} (f g : A → B) → ((x : A) → f x ≡ g x) → f ≡ g

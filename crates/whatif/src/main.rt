@@ -34,7 +34,7 @@ use std::process::ExitCode;
 use std::sync::Wait;
 use std::thread::Threads;
 use text_io::{Sink, Source};
-use trace_import::{Options, Unit, import};
+use trace_import::{AsTold, Options, Unit, import};
 use version_store::StateRepresentation;
 
 fn main(rt: HostRuntime) -> ExitCode {
@@ -287,6 +287,11 @@ fn answered<K: StateRepresentation, W: Runner, R: Source, S: Sink>(
     flushed(sink, served(end))
 }
 
+/// Whether something of a trace is to be taken as it is told.
+fn is_told(matches: &ArgMatches<'_>, what: &str) -> bool {
+    matches.get_str(what) == Some("as-told")
+}
+
 /// Writes the recording that a trace makes.
 fn run_import<'a>(rt: &'a HostRuntime, matches: &ArgMatches<'a>) -> Result<(), Fault> {
     let Some(unit) = matches.get_str("unit").and_then(Unit::new) else {
@@ -295,6 +300,10 @@ fn run_import<'a>(rt: &'a HostRuntime, matches: &ArgMatches<'a>) -> Result<(), F
     let options = Options {
         trace: matches.get_str("trace"),
         unit,
+        as_told: AsTold {
+            clocks: is_told(matches, "clocks"),
+            calls: is_told(matches, "calls"),
+        },
     };
     let voice = Voice::new(rt, matches);
     let trace = console::trace(rt, voice, matches.get_str("FILE"))?;

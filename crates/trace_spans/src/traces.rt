@@ -1,0 +1,104 @@
+//! All traces of a file.
+ghost use Rattle.std.specs.Prelude.{◌≡◌, List, [], ◌∷◌, ◌++◌, IfOk, OnOk, Some};
+ghost use Rattle.trace_spans.specs.declared.span.Span.{Span};
+ghost use Rattle.trace_spans.specs.Groups.{AreGroups, place_in};
+ghost use Rattle.trace_spans.specs.Reads.{IsReadAs};
+ghost use Rattle.trace_spans.specs.Traces.{ids_of, traces_of_bytes, with_id};
+
+use crate::choice::spans_of_trace;
+use crate::fault::Fault;
+use crate::span::{Span, Spans};
+use crate::text::Text;
+use crate::told::Told;
+use crate::trace::{Trace, read_told};
+use std::alloc::{AllocError, Global};
+use std::collections::HashMap;
+
+/// The spans of a trace, repeats too.
+#[derive(Drop)]
+struct Group {
+    trace: Text,
+    spans: Spans,
+}
+
+/// Spans by their traces, in the order of the first ones.
+#[derive(Drop)]
+struct Groups {
+    groups: Vec<Group>,
+    /// The place of each trace, by its id.
+    places: HashMap<String, usize>,
+}
+
+impl Groups {
+    /// No spans.
+    fn new(alloc: Global) -> Groups
+        ensures { AreGroups result [] [] }
+    {
+        Groups {
+            groups: Vec::new(alloc),
+            places: HashMap::new(alloc),
+        }
+    }
+
+    /// The place of a trace; one that isn't there yet gets the next.
+    fn place_of(&mut self, alloc: Global, trace: &str) -> Result<usize, AllocError>
+        ensures { (spans : List Span) → AreGroups self.old (ids_of spans) spans → IfOk result (λ place. AreGroups self.new (with_id (ids_of spans) trace.now) spans × (place_in (with_id (ids_of spans) trace.now) trace.now ≡ Some place)) }
+    {
+        let id = String::from_str(alloc, trace)?;
+        if let Some(place) = self.places.get(&id) {
+            return Ok(*place);
+        }
+        let place = self.groups.len();
+        self.groups.push(Group {
+            trace: Text::new(alloc, trace)?,
+            spans: Spans::new(alloc),
+        })?;
+        self.places.insert(id, place)?;
+        Ok(place)
+    }
+
+    /// Adds a span to those of its trace.
+    fn add(&mut self, alloc: Global, span: Span) -> Result<(), AllocError>
+        ensures { (spans : List Span) → AreGroups self.old (ids_of spans) spans → OnOk result (AreGroups self.new (ids_of (spans ++ span ∷ [])) (spans ++ span ∷ [])) }
+    {
+        let place = self.place_of(alloc, span.trace.as_str())?;
+        if let Some(group) = self.groups.get_mut(place) {
+            group.spans.push(span)?;
+        }
+        Ok(())
+    }
+}
+
+/// Adds a trace at the end.
+fn add_trace(traces: &mut Vec<Trace>, trace: Trace) -> Result<(), AllocError>
+    ensures { OnOk result (traces.new.items ≡ traces.old.items ++ trace ∷ []) }
+{
+    traces.push(trace)?;
+    Ok(())
+}
+
+/// All traces of a file, in the order of their first spans, each with its spans but for repeats.
+#[tactic(auto, unfolding(crate::specs::Traces::traces_of_bytes))]
+pub fn read_traces(alloc: Global, bytes: &[u8]) -> Result<Vec<Trace>, Fault>
+    ensures { IsReadAs (λ traces. traces.items) result (traces_of_bytes bytes.now) }
+{
+    let Told { spans, is_cut } = read_told(alloc, bytes)?;
+    let mut groups = Groups::new(alloc);
+    for span in spans.into_vec() {
+        groups.add(alloc, span)?;
+    }
+    let mut traces = Vec::new(alloc);
+    for Group { trace, spans } in groups.groups {
+        let spans = spans_of_trace(alloc, &trace, spans)?;
+        let trace = Trace {
+            id: trace,
+            spans,
+            is_cut,
+        };
+        add_trace(&mut traces, trace)?;
+    }
+    if traces.is_empty() {
+        return Err(Fault::NoTrace);
+    }
+    Ok(traces)
+}
