@@ -10,11 +10,13 @@ pub(crate) struct Argument {
     pub(crate) takes: Takes,
 }
 
-/// What an argument takes. The first five are options, whose name stands after two dashes, the others are told by their place.
+/// What an argument takes. The first six are options, whose name stands after two dashes, the others are told by their place.
 #[derive(Clone, Copy)]
 pub(crate) enum Takes {
     /// Nothing: it is there or not.
     Nothing,
+    /// The same, and none of these others may be there.
+    NothingBeside(&'static [&'static str]),
     /// A text, by the name that help has for it.
     Text(&'static str),
     /// The same, required where the other argument is the word.
@@ -61,6 +63,10 @@ pub(crate) fn arg_of<'a>(alloc: Global, argument: Argument) -> Result<Arg<'a>, A
     let arg = Arg::new(alloc, argument.name).help(argument.help);
     Ok(match argument.takes {
         Takes::Nothing => arg.long(argument.name).action(ArgAction::SetTrue),
+        Takes::NothingBeside(others) => arg
+            .long(argument.name)
+            .action(ArgAction::SetTrue)
+            .conflicts_with_all(others)?,
         Takes::Text(value) => arg.long(argument.name).value_name(value),
         Takes::TextIf(value, other, word) => {
             arg.long(argument.name)

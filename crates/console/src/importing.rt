@@ -2,14 +2,15 @@
 use crate::explaining::{told, value_of};
 use crate::fault::Fault;
 use crate::guesses::tell_notes;
+use crate::not_made::NotMade;
 use crate::voice::Voice;
 use diagnosis::{beginning_of, json_fault};
 use std::alloc::{AllocError, Global};
-use std::str;
 use std::fmt::Write;
-use trace_import::{ImportFault, Note, Options, Unit};
+use std::str;
+use trace_import::{ImportFault, Mapping, Note, Options};
 use trace_relations::RelationsFault;
-use trace_spans::{Fault as TraceFault, Why, list_traces};
+use trace_spans::{Fault as TraceFault, Summary, Why, list_traces};
 
 /// The end of an import: what was guessed is told, or why a trace makes no recording.
 pub fn imported(
@@ -21,18 +22,49 @@ pub fn imported(
 ) -> Result<(), Fault> {
     match end {
         Ok(notes) => {
-            tell_notes(voice, options.unit, &notes);
+            tell_notes(voice, options.mapping.unit, &notes);
             Ok(())
         }
-        Err(ImportFault::Write) => Err(Fault::Write(None)),
-        Err(ImportFault::Memory) => Err(Fault::Memory),
-        Err(ImportFault::Refused(TraceFault::Memory)) => Err(Fault::Memory),
-        Err(ImportFault::Unticked(RelationsFault::Memory)) => Err(Fault::Memory),
-        Err(fault) => {
+        Err(fault) => Err(not_imported(alloc, voice, trace, options, fault)),
+    }
+}
+
+/// What ends the program where a trace makes no recording.
+pub(crate) fn not_imported(
+    alloc: Global,
+    voice: Voice<'_>,
+    trace: &[u8],
+    options: Options<'_>,
+    fault: ImportFault,
+) -> Fault {
+    match fault {
+        ImportFault::Write => Fault::Write(None),
+        ImportFault::Memory
+        | ImportFault::Refused(TraceFault::Memory)
+        | ImportFault::Unticked(RelationsFault::Memory) => Fault::Memory,
+        fault => {
             // (where memory is out nothing is told)
             let why = why_not_imported(alloc, voice, trace, options, &fault).unwrap_or(None);
-            Err(Fault::NotImported(fault, why))
+            Fault::NotImported(fault, why)
         }
+    }
+}
+
+/// The rows of the table of a file's traces, or why there are none.
+pub fn listed(
+    alloc: Global,
+    voice: Voice<'_>,
+    traces: &[u8],
+    mapping: Mapping,
+    rows: Result<Vec<Summary>, TraceFault>,
+) -> Result<Vec<Summary>, Fault> {
+    let options = Options {
+        trace: None,
+        mapping,
+    };
+    match rows {
+        Ok(rows) => Ok(rows),
+        Err(fault) => Err(not_imported(alloc, voice, traces, options, ImportFault::Refused(fault))),
     }
 }
 
@@ -49,13 +81,13 @@ fn why_not_imported(
     }
     match fault {
         ImportFault::Refused(fault) => why_refused(alloc, voice, trace, options, fault),
-        ImportFault::Unticked(fault) => why_unticked(voice, options.unit, fault),
-        ImportFault::TooManyStages => told(
+        fault => told(
             voice,
-            "its recording would have more than 65536 stages",
+            NotMade {
+                unit: options.mapping.unit,
+                fault,
+            },
         ),
-        ImportFault::TooLong => told(voice, "its recording would have more than 67108864 bytes"),
-        ImportFault::Write | ImportFault::Memory => Ok(None),
     }
 }
 
@@ -77,53 +109,6 @@ fn why_refused(
         },
         TraceFault::Memory => Ok(None),
         fault => told(voice, Why(fault)),
-    }
-}
-
-/// What would do where a tick is too late.
-fn coarser(unit: Unit) -> &'static str {
-    match unit {
-        Unit::Nanosecond => "a coarser unit helps, as --unit us or --unit ms",
-        Unit::Microsecond => "a coarser unit helps, as --unit ms",
-        Unit::Millisecond => "one of the two has a wrong time",
-    }
-}
-
-/// Why a trace has no ticks.
-fn why_unticked(
-    voice: Voice<'_>,
-    unit: Unit,
-    fault: &RelationsFault,
-) -> Result<Option<String>, AllocError> {
-    match fault {
-        RelationsFault::NoTime(span) => {
-            let id = span.id.as_str();
-            let name = span.name.as_str();
-            told(
-                voice,
-                format_args!("the span {id} (\"{name}\") has neither a start nor an end"),
-            )
-        }
-        RelationsFault::TooLate(late) => {
-            let id = late.span.id.as_str();
-            let name = late.span.name.as_str();
-            let first_id = late.first.id.as_str();
-            let first_name = late.first.name.as_str();
-            let remedy = coarser(unit);
-            told(
-                voice,
-                format_args!(
-                    "the span {id} (\"{name}\") starts or ends more than 1099511627776 ticks after the first one, {first_id} (\"{first_name}\"): {remedy}"
-                ),
-            )
-        }
-        RelationsFault::TooManyStages => {
-            told(
-                voice,
-                "it has more than 65536 spans, so its recording would have too many stages",
-            )
-        }
-        RelationsFault::Memory => Ok(None),
     }
 }
 

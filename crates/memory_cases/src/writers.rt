@@ -18,7 +18,7 @@ use stage_graph::Graph;
 use std::alloc::Global;
 use std::marker::PhantomData;
 use text_io::{CountedReader, CountedWriter};
-use trace_import::{AsTold, ImportFault, Note, Options, Unit, import};
+use trace_import::{AsTold, ImportFault, Mapping, Note, Options, Unit, import};
 use version_store::StateRepresentation;
 
 /// What is written, and of what.
@@ -96,10 +96,12 @@ fn imported(alloc: Global, trace: &str, sink: &mut CountedWriter<Vec<u8>>) -> Op
 {
     let options = Options {
         trace: None,
-        unit: Unit::Microsecond,
-        as_told: AsTold {
-            clocks: false,
-            calls: false,
+        mapping: Mapping {
+            unit: Unit::Microsecond,
+            as_told: AsTold {
+                clocks: false,
+                calls: false,
+            },
         },
     };
     let answer = import(alloc, trace.as_bytes(), options, sink);

@@ -31,12 +31,12 @@ abbrev recording_of : List Spec → Recording
 recording_of specs = record { mode = Computed; stages = specs }
 
 pub import_read : EachImportIsRead
-import_read asked trace relations stages tells related made short few low =
-    let all = import_fine asked.unit asked.as_told trace.spans relations stages related made short few in
+import_read mapping trace relations stages tells related made short few low =
+    let all = import_fine mapping.unit mapping.as_told trace.spans relations stages related made short few in
     let own = names trace.spans relations.order in
     let plain = plain_stages stages.0.items in
     let written = all_written trace.spans own plain all tells.spans in
-    let read : recorded (text_of asked trace relations stages) ≡ Ok (record { mode = Computed; stages = specs_of trace.spans relations stages }) =
-    read_back None (head_of asked trace relations) (labelled_stages trace.spans own plain) (head_beside asked trace relations tells) written low ∙ ap Ok (ap recording_of (without_labels trace.spans own plain)) in
-    let loads = import_loaded asked.unit asked.as_told trace.spans relations stages related made short few in
-    record { as_stages = read; as_graph = with_name (text_of asked trace relations stages) (recording_of (specs_of trace.spans relations stages)) (graph_of (specs_of trace.spans relations stages)) read (ap as_read loads) }
+    let read : recorded (text_of mapping trace relations stages) ≡ Ok (record { mode = Computed; stages = specs_of trace.spans relations stages }) =
+    read_back None (head_of mapping trace relations) (labelled_stages trace.spans own plain) (head_beside mapping trace relations tells) written low ∙ ap Ok (ap recording_of (without_labels trace.spans own plain)) in
+    let loads = import_loaded mapping.unit mapping.as_told trace.spans relations stages related made short few in
+    record { as_stages = read; as_graph = with_name (text_of mapping trace relations stages) (recording_of (specs_of trace.spans relations stages)) (graph_of (specs_of trace.spans relations stages)) read (ap as_read loads) }

@@ -29,7 +29,8 @@ use Rattle.trace_spans.specs.declared.trace.Trace.{Trace}
 use Rattle.trace_stages.specs.declared.stage.StageName.{StageName}
 use Rattle.trace_stages.specs.declared.stage.StageName.TheVariants.{Whole, Work}
 use Rattle.trace_import.specs.ClockLabels.{clock_labels, is_moved, told_clock, with_clock}
-use Rattle.trace_import.specs.Imported.{Asked, head_of}
+use Rattle.trace_import.specs.declared.options.Mapping.{Mapping}
+use Rattle.trace_import.specs.Imported.{head_of}
 use Rattle.trace_import.specs.Specs.{id_label, labels_of}
 use Rattle.trace_import.specs.Texts.{HasTexts, TellsTexts}
 use Rattle.trace_accepted.proofs.Wellnamed.{IsNamed, decimal_named}
@@ -123,16 +124,16 @@ clocks_told as_told spans all (place ∷ places) labels are =
     clocks_told as_told spans all places (with_clock as_told spans labels place)
     (inserted labels (told_clock (slice_get spans place)) (signed_decimal (moves_of as_told spans place)) are (clock_utf8 spans all place) (signed_text (moves_of as_told spans place)))
 
-pub head_beside : (asked : Asked) (trace : Trace) (relations : PlainRelations) → TellsTexts trace → IsBeside (head_of asked trace relations)
-head_beside asked trace relations tells =
+pub head_beside : (mapping : Mapping) (trace : Trace) (relations : PlainRelations) → TellsTexts trace → IsBeside (head_of mapping trace relations)
+head_beside mapping trace relations tells =
     let spans = recursion_from_All HasTexts trace.spans tells.spans in
-    let clocks = clocks_told asked.as_told trace.spans spans (filter (is_moved asked.as_told trace.spans) (range_with_len 0 (length trace.spans))) [] tt in
+    let clocks = clocks_told mapping.as_told trace.spans spans (filter (is_moved mapping.as_told trace.spans) (range_with_len 0 (length trace.spans))) [] tt in
     record {
-      labels = All-from_recursion (IsLabel recording_members) (head_of asked trace relations).0 (
+      labels = All-from_recursion (IsLabel recording_members) (head_of mapping trace relations).0 (
         record { name = IsUtf8-are_ascii _ refl; text = tells.id; unread = refl },
-        (record { name = IsUtf8-are_ascii _ refl; text = unit_utf8 asked.unit; unread = refl }, (record { name = IsUtf8-are_ascii _ refl; text = signed_text relations.origin; unread = refl }, tt)),
+        (record { name = IsUtf8-are_ascii _ refl; text = unit_utf8 mapping.unit; unread = refl }, (record { name = IsUtf8-are_ascii _ refl; text = signed_text relations.origin; unread = refl }, tt)),
       );
       group = IsUtf8-are_ascii _ refl;
       unread = refl;
-      grouped = All-from_recursion (IsLabel []) (clock_labels asked.as_told trace.spans) (each_weaker IsTextLabel (IsLabel []) (λ label is. record { name = is.name; text = is.text; unread = refl }) (clock_labels asked.as_told trace.spans) clocks);
+      grouped = All-from_recursion (IsLabel []) (clock_labels mapping.as_told trace.spans) (each_weaker IsTextLabel (IsLabel []) (λ label is. record { name = is.name; text = is.text; unread = refl }) (clock_labels mapping.as_told trace.spans) clocks);
     }

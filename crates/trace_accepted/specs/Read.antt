@@ -7,18 +7,19 @@ use Rattle.trace_relations.specs.Relations.{AreRelationsOf, PlainRelations}
 use Rattle.trace_spans.specs.declared.trace.Trace.{Trace}
 use Rattle.trace_stages.specs.StagesOf.{AreStages}
 use Rattle.trace_stages.specs.declared.stage.Stages.{Stages}
-use Rattle.trace_import.specs.Imported.{Asked, count_of, longest, most_stages, text_of}
+use Rattle.trace_import.specs.declared.options.Mapping.{Mapping}
+use Rattle.trace_import.specs.Imported.{count_of, longest, most_stages, text_of}
 use Rattle.trace_import.specs.Texts.{TellsTexts}
 use Rattle.trace_accepted.specs.Accepted.{graph_of, specs_of}
 
 -- the text is read as the stages of a trace, of which none is refused
-pub record IsRead (asked : Asked) (trace : Trace) (relations : PlainRelations) (stages : Stages) : Type 0 where
-  pub as_stages : recorded (text_of asked trace relations stages) ≡ Ok (record { mode = Computed; stages = specs_of trace.spans relations stages })
-  pub as_graph : named (text_of asked trace relations stages) ≡ Ok (graph_of (specs_of trace.spans relations stages))
+pub record IsRead (mapping : Mapping) (trace : Trace) (relations : PlainRelations) (stages : Stages) : Type 0 where
+  pub as_stages : recorded (text_of mapping trace relations stages) ≡ Ok (record { mode = Computed; stages = specs_of trace.spans relations stages })
+  pub as_graph : named (text_of mapping trace relations stages) ≡ Ok (graph_of (specs_of trace.spans relations stages))
 
 -- the text of the stages of each trace is read so, if neither spans nor stages are too many and it is not too long
 abbrev pub EachImportIsRead : Type 0
 EachImportIsRead =
-    (asked : Asked) (trace : Trace) (relations : PlainRelations) (stages : Stages)
-    → TellsTexts trace → AreRelationsOf asked.unit asked.as_told trace.spans relations → AreStages trace.spans relations asked.as_told stages → length trace.spans ≤ most_spans → count_of stages ≤ most_stages
-    → length (text_of asked trace relations stages) ≤ longest → IsRead asked trace relations stages
+    (mapping : Mapping) (trace : Trace) (relations : PlainRelations) (stages : Stages)
+    → TellsTexts trace → AreRelationsOf mapping.unit mapping.as_told trace.spans relations → AreStages trace.spans relations mapping.as_told stages → length trace.spans ≤ most_spans → count_of stages ≤ most_stages
+    → length (text_of mapping trace relations stages) ≤ longest → IsRead mapping trace relations stages

@@ -1,5 +1,5 @@
 -- What an import writes: the recording that a trace makes.
-use Rattle.std.specs.Prelude.{◌≡◌, ℕ, ◌<◌, ◌≤◌, List, [], ◌∷◌, codes, length, Option, Result, Ok, Err, option_copied, Vec}
+use Rattle.std.specs.Prelude.{◌≡◌, ℕ, ◌<◌, ◌≤◌, List, [], ◌∷◌, codes, length, Option, Result, Ok, Err, Vec}
 use Rattle.std.specs.Fmt.{signed_decimal}
 use Rattle.std.specs.Io.KnownBytes.{Appends, Keeps}
 use Rattle.std.specs.declared.alloc.Global.{Global}
@@ -9,9 +9,7 @@ use Rattle.trace_relations.specs.Ancestry.{most_spans}
 use Rattle.trace_relations.specs.Reads.{IsFault as IsRelationsFault}
 use Rattle.trace_relations.specs.Relations.{AreRelationsOf, PlainRelations, fault_in, plain}
 use Rattle.trace_relations.specs.Units.{unit_text}
-use Rattle.trace_relations.specs.declared.as_told.AsTold.{AsTold}
 use Rattle.trace_relations.specs.declared.fault.RelationsFault.{RelationsFault}
-use Rattle.trace_relations.specs.declared.unit.Unit.{Unit as TickUnit}
 use Rattle.trace_spans.specs.Reads.{IsFault}
 use Rattle.trace_spans.specs.Spans.{spans_of}
 use Rattle.trace_spans.specs.declared.span.Span.{Span}
@@ -22,10 +20,12 @@ use Rattle.trace_stages.specs.StagesOf.{AreStages}
 use Rattle.trace_stages.specs.declared.stage.Stages.{Stages}
 use Rattle.trace_import.specs.ClockLabels.{clock_labels}
 use Rattle.trace_import.specs.Specs.{labelled_stages}
+use Rattle.trace_import.specs.Texts.{TellsTexts}
 use Rattle.trace_import.specs.declared.fault.ImportFault.{ImportFault}
 use Rattle.trace_import.specs.declared.fault.ImportFault.TheVariants.{Refused, Unticked, TooManyStages, TooLong, Write, Memory}
 use Rattle.trace_import.specs.declared.note.Note.{Note}
-use Rattle.trace_import.specs.declared.options.Options.{Options}
+use Rattle.trace_import.specs.declared.options.Mapping.{Mapping}
+use Rattle.trace_import.specs.declared.recorded.Recorded.{Recorded}
 use Rattle.trace_import.specs.declared.reading.Reading.{Reading}
 
 abbrev pub most_stages : ℕ
@@ -37,80 +37,91 @@ longest = 67_108_864
 abbrev pub count_of : Stages → ℕ
 count_of stages = length stages.0.items
 
--- what is asked of an import
-pub record Asked : Type 0 where
-  pub trace : Option (List ℕ)
-  pub unit : TickUnit
-  pub as_told : AsTold
-
-abbrev pub asked_of : Options → Asked
-asked_of options = record { trace = option_copied options.trace; unit = options.unit; as_told = options.as_told }
-
--- the bytes tell this trace, whose spans are not too many; they stand so to each other, and these are its stages
-pub record IsMadeFrom (bytes : List ℕ) (asked : Asked) (trace : Trace) (relations : PlainRelations) (stages : Stages) : Type 0 where
-  pub tells : spans_of bytes asked.trace ≡ Ok trace
+-- a trace whose spans are not too many; they stand so to each other, and these are its stages
+pub record IsMadeFrom (mapping : Mapping) (trace : Trace) (relations : PlainRelations) (stages : Stages) : Type 0 where
   pub few : length trace.spans ≤ most_spans
-  pub stand : AreRelationsOf asked.unit asked.as_told trace.spans relations
-  pub stages_are : AreStages trace.spans relations asked.as_told stages
+  pub texts : TellsTexts trace
+  pub stand : AreRelationsOf mapping.unit mapping.as_told trace.spans relations
+  pub stages_are : AreStages trace.spans relations mapping.as_told stages
 
 -- the trace has no ticks, for this reason
-abbrev pub IsUnticked : List ℕ → Asked → RelationsFault → Type 0
-IsUnticked bytes asked fault = (trace : Trace) × (spans_of bytes asked.trace ≡ Ok trace) × IsRelationsFault fault (fault_in asked.unit asked.as_told trace.spans)
+abbrev pub IsUnticked : Mapping → Trace → RelationsFault → Type 0
+IsUnticked mapping trace fault = IsRelationsFault fault (fault_in mapping.unit mapping.as_told trace.spans)
 
 -- there are too many stages
-abbrev pub HasTooMany : List ℕ → Asked → Type 0
-HasTooMany bytes asked =
-    (trace : Trace) × (relations : PlainRelations) × (stages : Stages) × IsMadeFrom bytes asked trace relations stages × (most_stages < count_of stages)
+abbrev pub HasTooMany : Mapping → Trace → Type 0
+HasTooMany mapping trace = (relations : PlainRelations) × (stages : Stages) × IsMadeFrom mapping trace relations stages × (most_stages < count_of stages)
 
 -- ---- the text
 
 -- the trace, the unit of ticks, the earliest time, and the clocks that are moved
-abbrev pub head_of : Asked → Trace → PlainRelations → PlainHead
-head_of asked trace relations =
-    ((codes "trace", trace.id) ∷ (codes "unit", unit_text asked.unit) ∷ (codes "start", signed_decimal relations.origin) ∷ [], (codes "clocks", clock_labels asked.as_told trace.spans))
+abbrev pub head_of : Mapping → Trace → PlainRelations → PlainHead
+head_of mapping trace relations =
+    ((codes "trace", trace.id) ∷ (codes "unit", unit_text mapping.unit) ∷ (codes "start", signed_decimal relations.origin) ∷ [], (codes "clocks", clock_labels mapping.as_told trace.spans))
 
 -- the text of the recording of stages
-abbrev pub text_of : Asked → Trace → PlainRelations → Stages → List ℕ
-text_of asked trace relations stages =
-    labelled_recording (head_of asked trace relations) (labelled_stages trace.spans (names trace.spans relations.order) (plain_stages stages.0.items))
+abbrev pub text_of : Mapping → Trace → PlainRelations → Stages → List ℕ
+text_of mapping trace relations stages =
+    labelled_recording (head_of mapping trace relations) (labelled_stages trace.spans (names trace.spans relations.order) (plain_stages stages.0.items))
 
--- the text of the recording that bytes make, which may be too long
-abbrev pub IsTextOf : List ℕ → Asked → List ℕ → Type 0
-IsTextOf bytes asked text =
-    (trace : Trace) × (relations : PlainRelations) × (stages : Stages) × IsMadeFrom bytes asked trace relations stages × (count_of stages ≤ most_stages) × (text ≡ text_of asked trace relations stages)
+-- the text of the recording that a trace makes, which may be too long
+abbrev pub IsTextOf : Mapping → Trace → List ℕ → Type 0
+IsTextOf mapping trace text = (relations : PlainRelations) × (stages : Stages) × IsMadeFrom mapping trace relations stages × (count_of stages ≤ most_stages) × (text ≡ text_of mapping trace relations stages)
 
--- what is read, or why nothing is
-abbrev pub IsReading : List ℕ → Asked → Result Reading ImportFault → Type 0
-IsReading bytes asked (Ok reading) = IsMadeFrom bytes asked reading.trace (plain reading.relations) reading.stages × (count_of reading.stages ≤ most_stages)
-IsReading bytes asked (Err (Refused fault)) = IsFault fault (spans_of bytes asked.trace)
-IsReading bytes asked (Err (Unticked fault)) = IsUnticked bytes asked fault
-IsReading bytes asked (Err TooManyStages) = HasTooMany bytes asked
-IsReading bytes asked (Err TooLong) = ⊥
-IsReading bytes asked (Err Write) = ⊥
-IsReading bytes asked (Err Memory) = Unit {0}
+-- the text of the recording that a trace makes
+abbrev pub IsRecordingOf : Mapping → Trace → List ℕ → Type 0
+IsRecordingOf mapping trace text = IsTextOf mapping trace text × (length text ≤ longest)
 
--- the text of stages whose spans have these names, or why there is none
-abbrev pub IsMadeOf : Options → Reading → List (List ℕ) → Result (Vec ℕ Global) ImportFault → Type 0
-IsMadeOf options reading named (Ok text) =
-    (named ≡ names reading.trace.spans (plain reading.relations).order → text.items ≡ text_of (asked_of options) reading.trace (plain reading.relations) reading.stages) × (length text.items ≤ longest)
-IsMadeOf options reading named (Err TooLong) =
-    named ≡ names reading.trace.spans (plain reading.relations).order → longest < length (text_of (asked_of options) reading.trace (plain reading.relations) reading.stages)
-IsMadeOf options reading named (Err Memory) = Unit {0}
-IsMadeOf options reading named (Err other) = ⊥
+-- the recording that a trace makes is too long
+abbrev pub IsTooLong : Mapping → Trace → Type 0
+IsTooLong mapping trace = (text : List ℕ) × IsTextOf mapping trace text × (longest < length text)
 
--- what was written, from what the sink held and holds, by how the call ended
-abbrev pub IsImported : List ℕ → Asked → Option (List ℕ) → Option (List ℕ) → Result (Vec Note Global) ImportFault → Type 0
+-- ---- why a trace makes no recording
+
+abbrev pub IsNotMade : Mapping → Trace → ImportFault → Type 0
+IsNotMade mapping trace (Refused fault) = ⊥
+-- it has no ticks
+IsNotMade mapping trace (Unticked fault) = IsUnticked mapping trace fault
+IsNotMade mapping trace TooManyStages = HasTooMany mapping trace
+IsNotMade mapping trace TooLong = IsTooLong mapping trace
+IsNotMade mapping trace Write = ⊥
+IsNotMade mapping trace Memory = Unit {0}
+
+-- ---- what the calls inside answer
+
+-- what is made of a trace
+abbrev pub IsReadingOf : Mapping → Trace → Result Reading ImportFault → Type 0
+IsReadingOf mapping trace (Ok reading) = (reading.trace ≡ trace) × IsMadeFrom mapping trace (plain reading.relations) reading.stages × (count_of reading.stages ≤ most_stages)
+IsReadingOf mapping trace (Err TooLong) = ⊥
+IsReadingOf mapping trace (Err fault) = IsNotMade mapping trace fault
+
+-- the text of what was made, whose spans have these names, or why there is none
+abbrev pub IsTextOfReading : Mapping → Reading → List (List ℕ) → Result (Vec ℕ Global) ImportFault → Type 0
+IsTextOfReading mapping reading named (Ok text) =
+    (named ≡ names reading.trace.spans (plain reading.relations).order → text.items ≡ text_of mapping reading.trace (plain reading.relations) reading.stages) × (length text.items ≤ longest)
+IsTextOfReading mapping reading named (Err TooLong) =
+    named ≡ names reading.trace.spans (plain reading.relations).order → longest < length (text_of mapping reading.trace (plain reading.relations) reading.stages)
+IsTextOfReading mapping reading named (Err Memory) = Unit {0}
+IsTextOfReading mapping reading named (Err other) = ⊥
+
+-- the recording of a trace, or why there is none
+abbrev pub IsRecordedFrom : Mapping → Trace → Result Recorded ImportFault → Type 0
+IsRecordedFrom mapping trace (Ok recorded) = IsRecordingOf mapping trace recorded.text.items
+IsRecordedFrom mapping trace (Err fault) = IsNotMade mapping trace fault
+
+-- ---- imports
+
+-- what was written of the trace that bytes tell, from what the sink held and holds, by how the call ended
+abbrev pub IsWrittenOf : Mapping → Trace → Option (List ℕ) → Option (List ℕ) → Result (Vec Note Global) ImportFault → Type 0
 -- the whole recording
-IsImported bytes asked old new (Ok notes) = (text : List ℕ) × IsTextOf bytes asked text × (length text ≤ longest) × Appends old new text
--- nothing, as the file is refused
-IsImported bytes asked old new (Err (Refused fault)) = IsFault fault (spans_of bytes asked.trace) × Keeps old new
--- nothing, as the trace has no ticks
-IsImported bytes asked old new (Err (Unticked fault)) = IsUnticked bytes asked fault × Keeps old new
--- nothing, as there are too many stages
-IsImported bytes asked old new (Err TooManyStages) = HasTooMany bytes asked × Keeps old new
--- nothing, as the recording is too long
-IsImported bytes asked old new (Err TooLong) = ((text : List ℕ) × IsTextOf bytes asked text × (longest < length text)) × Keeps old new
+IsWrittenOf mapping trace old new (Ok notes) = (text : List ℕ) × IsRecordingOf mapping trace text × Appends old new text
 -- a part of the recording, as a write failed
-IsImported bytes asked old new (Err Write) = (text : List ℕ) × IsTextOf bytes asked text × (length text ≤ longest) × AppendsPrefix old new text
--- nothing, as memory was out
-IsImported bytes asked old new (Err Memory) = Keeps old new
+IsWrittenOf mapping trace old new (Err Write) = (text : List ℕ) × IsRecordingOf mapping trace text × AppendsPrefix old new text
+-- nothing, as none is made
+IsWrittenOf mapping trace old new (Err fault) = IsNotMade mapping trace fault × Keeps old new
+
+-- what was written of the trace that is asked for; nothing, if the file is refused or memory is out
+abbrev pub IsImported : List ℕ → Option (List ℕ) → Mapping → Option (List ℕ) → Option (List ℕ) → Result (Vec Note Global) ImportFault → Type 0
+IsImported bytes wanted mapping old new (Err (Refused fault)) = IsFault fault (spans_of bytes wanted) × Keeps old new
+IsImported bytes wanted mapping old new (Err Memory) = Keeps old new
+IsImported bytes wanted mapping old new result = (trace : Trace) × (spans_of bytes wanted ≡ Ok trace) × IsWrittenOf mapping trace old new result

@@ -1,5 +1,6 @@
 pub mod Actions
 pub mod ClockLabels
+pub mod Each
 pub mod Faults
 pub mod Imported
 pub mod Specs

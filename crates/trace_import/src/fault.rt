@@ -42,6 +42,19 @@ impl ImportFault {
     }
 }
 
+impl ImportFault {
+    /// Whether nothing more can be written of other traces either.
+    pub(crate) fn ends_all(&self) -> bool {
+        matches!(
+            self,
+            ImportFault::Refused(Fault::Memory)
+                | ImportFault::Unticked(RelationsFault::Memory)
+                | ImportFault::Write
+                | ImportFault::Memory
+        )
+    }
+}
+
 impl fmt::Display for ImportFault {
     ghost use Rattle.std.specs.Prelude.{Some};
     ghost use Rattle.trace_import.specs.Faults.{import_text};

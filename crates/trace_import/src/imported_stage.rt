@@ -56,20 +56,13 @@ fn inner_of(making: Making<'_>, inner: Option<StageName>) -> Result<NameList, Al
 /// The action of a stage, if it has one.
 fn action_of(making: Making<'_>, stage: &ImportedStage) -> Result<Option<Expr>, AllocError> {
     match stage.action {
-        Some(action) => Ok(Some(making.actions.imported(
-            making.alloc,
-            making.spans,
-            action,
-        )?)),
+        Some(action) => Ok(Some(making.actions.imported(making.alloc, making.spans, action)?)),
         None => Ok(None),
     }
 }
 
 /// The stage of a recording that a stage of an import is.
-pub(crate) fn imported_spec(
-    making: Making<'_>,
-    stage: &ImportedStage,
-) -> Result<Spec, AllocError>
+pub(crate) fn imported_spec(making: Making<'_>, stage: &ImportedStage) -> Result<Spec, AllocError>
     ensures { IfOk result (λ spec. spec ≡ imported_spec making.entry.spans.now making.entry.names.now (plain_stage stage.now)) }
 {
     Ok(Spec {

@@ -2,11 +2,12 @@
 //!
 //! `import` writes the recording that the spans of a trace make: what waited for what is inferred from the times inside
 //! each parent, and each span's stage ends when the span did. The definition `IsImported` says what it writes. What was
-//! guessed on the way is answered.
+//! guessed on the way is answered. `import_each` does so for each trace of a file.
 #![tactic(auto)]
 
 mod actions;
 mod clock_labels;
+mod each;
 mod fault;
 mod imported_stage;
 mod importing;
@@ -14,11 +15,13 @@ mod note;
 mod notes;
 mod options;
 mod reading;
+mod recorded;
 mod stage_names;
 mod text;
 
+pub use each::{Outcome, import_each};
 pub use fault::ImportFault;
 pub use importing::import;
 pub use note::{Attempt, GivenUp, LateCall, MovedClock, Note, NoteKind, Outliving};
-pub use options::Options;
+pub use options::{Mapping, Options};
 pub use trace_relations::{AsTold, Unit};

@@ -1,8 +1,6 @@
 //! What is told of an import.
 
-use crate::note::{
-    Attempt, GivenUp, LateCall, MovedClock, Note, NoteKind, Outliving,
-};
+use crate::note::{Attempt, GivenUp, LateCall, MovedClock, Note, NoteKind, Outliving};
 use crate::reading::Reading;
 use crate::stage_names::name_at;
 use std::alloc::{AllocError, Global};
@@ -115,7 +113,10 @@ fn lies_outside(caller: &Span, span: &Span) -> bool {
 fn calls_outside(trace: Trace<'_>, clock: &Span) -> usize {
     let mut calls: usize = 0;
     for (place, span) in trace.spans.iter().enumerate() {
-        if let Some(caller) = trace.caller(place).and_then(|caller| trace.spans.get(caller)) {
+        if let Some(caller) = trace
+            .caller(place)
+            .and_then(|caller| trace.spans.get(caller))
+        {
             let has_clock = span.clock.same(&clock.clock) != caller.clock.same(&clock.clock);
             if has_clock && lies_outside(caller, span) {
                 calls = calls.saturating_add(1);
@@ -240,8 +241,7 @@ fn outlives(trace: Trace<'_>, place: usize, caller: usize) -> bool {
     let (Some(span), Some(calling)) = (trace.spans.get(place), trace.spans.get(caller)) else {
         return false;
     };
-    let has_message =
-        matches!(calling.kind, Kind::Producer) || matches!(span.kind, Kind::Consumer);
+    let has_message = matches!(calling.kind, Kind::Producer) || matches!(span.kind, Kind::Consumer);
     let callers_end = trace.interval(caller).end_moment();
     let outlives = match (callers_end, trace.interval(place).end_moment()) {
         (Some(callers_end), Some(end)) => callers_end.is_before(end),

@@ -1,12 +1,12 @@
-//! What is read of a trace, and made of it.
+//! What is made of a trace.
 ghost use Rattle.std.specs.Prelude.{◌≡◌};
-ghost use Rattle.trace_import.specs.Imported.{IsReading, asked_of};
+ghost use Rattle.trace_import.specs.Imported.{IsReadingOf};
 
 use crate::fault::ImportFault;
-use crate::options::Options;
+use crate::options::Mapping;
 use std::alloc::Global;
 use trace_relations::{Relations, relations_of};
-use trace_spans::{Trace, read_trace};
+use trace_spans::Trace;
 use trace_stages::{Stages, stages_of};
 
 /// The most stages of a recording.
@@ -20,18 +20,17 @@ pub(crate) struct Reading {
     pub stages: Stages,
 }
 
-/// Reads a trace, and makes its stages.
-pub(crate) fn read(
+/// Makes the stages of a trace.
+pub(crate) fn reading_of(
     alloc: Global,
-    bytes: &[u8],
-    options: Options<'_>,
+    mapping: Mapping,
+    trace: Trace,
 ) -> Result<Reading, ImportFault>
-    ensures { IsReading bytes.now (asked_of options.entry) result }
+    ensures { IsReadingOf mapping trace result }
 {
-    let trace = read_trace(alloc, bytes, options.trace)?;
     let spans = trace.spans.as_slice();
-    let relations = relations_of(alloc, options.unit, options.as_told, spans)?;
-    let stages = stages_of(alloc, spans, &relations, options.as_told)?;
+    let relations = relations_of(alloc, mapping.unit, mapping.as_told, spans)?;
+    let stages = stages_of(alloc, spans, &relations, mapping.as_told)?;
     if stages.0.len() > MOST_STAGES {
         return Err(ImportFault::TooManyStages);
     }

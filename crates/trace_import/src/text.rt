@@ -1,12 +1,12 @@
 //! The text of the recording that a trace makes.
 ghost use Rattle.std.specs.Prelude.{◌≡◌};
-ghost use Rattle.trace_import.specs.Imported.{IsMadeOf};
+ghost use Rattle.trace_import.specs.Imported.{IsTextOfReading};
 
 use crate::actions::Actions;
 use crate::clock_labels::{ClockText, clock_texts, labels_of_clocks};
 use crate::fault::ImportFault;
 use crate::imported_stage::{Making, imported_spec};
-use crate::options::Options;
+use crate::options::Mapping;
 use crate::reading::Reading;
 use recording_text::{Head, Label, LabelGroup, LabelledText};
 use std::alloc::{AllocError, Global};
@@ -65,7 +65,7 @@ fn push_stages(
 /// The text before the stages.
 fn text_before(
     alloc: Global,
-    options: Options<'_>,
+    mapping: Mapping,
     reading: &Reading,
     clocks: &[ClockText],
 ) -> Result<LabelledText, AllocError> {
@@ -78,7 +78,7 @@ fn text_before(
         },
         Label {
             name: "unit",
-            text: options.unit.text(),
+            text: mapping.unit.text(),
         },
         Label {
             name: "start",
@@ -99,11 +99,11 @@ fn text_before(
 /// The text of what was read.
 pub(crate) fn text_of(
     alloc: Global,
-    options: Options<'_>,
+    mapping: Mapping,
     reading: &Reading,
     names: &TextList,
 ) -> Result<Vec<u8>, ImportFault>
-    ensures { IsMadeOf options.entry reading.now names.now result }
+    ensures { IsTextOfReading mapping reading.now names.now result }
 {
     let spans = reading.trace.spans.as_slice();
     let actions = Actions::new(alloc)?;
@@ -114,7 +114,7 @@ pub(crate) fn text_of(
         actions: &actions,
     };
     let clocks = clock_texts(alloc, spans, &reading.relations.moved)?;
-    let mut text = text_before(alloc, options, reading, &clocks)?;
+    let mut text = text_before(alloc, mapping, reading, &clocks)?;
     push_stages(&mut text, making, &reading.stages.0)?;
     let bytes = text.finish()?;
     if bytes.len() > LONGEST {
