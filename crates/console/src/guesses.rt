@@ -91,14 +91,14 @@ fn tell_outliving(voice: Voice<'_>, outliving: &Outliving) {
     voice.say(format_args!("{call} outlives its caller {caller}: nothing waits for it"));
 }
 
-/// What is told of so many more of a kind.
-fn more_of(kind: NoteKind) -> &'static str {
+/// The things of a kind.
+fn things_of(kind: NoteKind) -> &'static str {
     match kind {
-        NoteKind::Moved => "more clocks are moved",
-        NoteKind::EndedLate => "more calls ended a little after their callers",
-        NoteKind::TriedAgain => "more calls are taken for further attempts",
-        NoteKind::GivenUp => "more calls were given up",
-        NoteKind::Outlives => "more calls outlive their callers",
+        NoteKind::Moved => "clocks that are moved",
+        NoteKind::EndedLate => "calls that ended a little after their callers",
+        NoteKind::TriedAgain => "calls that are taken for further attempts",
+        NoteKind::GivenUp => "calls that were given up",
+        NoteKind::Outlives => "calls that outlive their callers",
     }
 }
 
@@ -111,13 +111,16 @@ pub(crate) fn tell_notes(voice: Voice<'_>, unit: Unit, notes: &[Note]) {
             Note::TriedAgain(attempt) => tell_attempt(voice, attempt),
             Note::GivenUp(given_up) => tell_given_up(voice, given_up),
             Note::Outlives(outliving) => tell_outliving(voice, outliving),
+            Note::NoParent(1) => voice.say(
+                "1 span names parents that are not in the trace: it is taken for a root",
+            ),
             Note::NoParent(spans) => voice.say(format_args!(
                 "{spans} spans name parents that are not in the trace: they are taken for roots"
             )),
             Note::CutLine => voice.say("the last line is cut, and was left out"),
             Note::More(kind, more) => {
-                let what = more_of(*kind);
-                voice.say(format_args!("{more} {what}"));
+                let things = things_of(*kind);
+                voice.say(format_args!("{things}: {more} more"));
             }
         }
     }

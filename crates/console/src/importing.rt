@@ -118,6 +118,12 @@ fn why_no_json(
     voice: Voice<'_>,
     trace: &[u8],
 ) -> Result<Option<String>, AllocError> {
+    if trace.iter().all(|byte| byte.is_ascii_whitespace()) {
+        return told(
+            voice,
+            "it has no text: a trace is one JSON text, or one on each line",
+        );
+    }
     if let Some(beginning) = beginning_of(trace) {
         return told(voice, beginning);
     }
