@@ -1,5 +1,5 @@
 -- What an import writes: the recording that a trace makes.
-use Rattle.std.specs.Prelude.{◌≡◌, ℕ, ◌<◌, ◌≤◌, List, [], ◌∷◌, codes, length, Option, Result, Ok, Err, Vec}
+use Rattle.std.specs.Prelude.{◌≡◌, ⊥, ℕ, ◌<◌, ◌≤◌, List, [], ◌∷◌, codes, length, Option, Result, Ok, Err, Unit, Vec}
 use Rattle.std.specs.Fmt.{signed_decimal}
 use Rattle.std.specs.Io.KnownBytes.{Appends, Keeps}
 use Rattle.std.specs.declared.alloc.Global.{Global}
@@ -19,6 +19,7 @@ use Rattle.trace_stages.specs.Naming.{plain_stages}
 use Rattle.trace_stages.specs.StagesOf.{AreStages}
 use Rattle.trace_stages.specs.declared.stage.Stages.{Stages}
 use Rattle.trace_import.specs.ClockLabels.{clock_labels}
+use Rattle.trace_import.specs.Limits.{longest, most_stages}
 use Rattle.trace_import.specs.Specs.{labelled_stages}
 use Rattle.trace_import.specs.Texts.{TellsTexts}
 use Rattle.trace_import.specs.declared.fault.ImportFault.{ImportFault}
@@ -27,12 +28,6 @@ use Rattle.trace_import.specs.declared.note.Note.{Note}
 use Rattle.trace_import.specs.declared.options.Mapping.{Mapping}
 use Rattle.trace_import.specs.declared.recorded.Recorded.{Recorded}
 use Rattle.trace_import.specs.declared.reading.Reading.{Reading}
-
-abbrev pub most_stages : ℕ
-most_stages = 65_536
-
-abbrev pub longest : ℕ
-longest = 67_108_864
 
 abbrev pub count_of : Stages → ℕ
 count_of stages = length stages.0.items

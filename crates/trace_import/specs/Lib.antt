@@ -2,7 +2,9 @@ pub mod Actions
 pub mod ClockLabels
 pub mod Each
 pub mod Faults
+pub mod Gains
 pub mod Imported
+pub mod Limits
 pub mod Specs
 pub mod StageNames
 pub mod Texts

@@ -1,4 +1,7 @@
 //! The clocks that are moved, as labels of a recording.
+ghost use Rattle.std.specs.Prelude.{◌≡◌, IfOk, map, slice_get, string_bytes};
+ghost use Rattle.recording_text.specs.Labels.{plain_label};
+ghost use Rattle.trace_import.specs.ClockLabels.{plain_clock, told_clock, told_clocks};
 
 use recording_text::Label;
 use std::alloc::{AllocError, Global};
@@ -13,25 +16,33 @@ pub(crate) struct ClockText {
     pub by: String,
 }
 
-/// The clocks that are moved, as they are told, in the order of their texts; of several that are told alike one.
+/// The clock of the span at a place, as it is told.
+fn clock_told(alloc: Global, spans: &[Span], place: usize) -> Result<String, AllocError>
+    ensures { IfOk result (λ text. string_bytes text ≡ told_clock (slice_get spans.now place)) }
+{
+    match spans.get(place) {
+        Some(span) => Ok(span.clock.told(alloc)?.into_string()),
+        None => Ok(String::new(alloc)),
+    }
+}
+
+/// The clocks that are moved, as they are told, in the order of their texts; of several that are told alike the last.
 pub(crate) fn clock_texts(
     alloc: Global,
     spans: &[Span],
     moved: &[Moved],
-) -> Result<Vec<ClockText>, AllocError> {
+) -> Result<Vec<ClockText>, AllocError>
+    ensures { IfOk result (λ texts. map plain_clock texts.items ≡ told_clocks spans.now moved.now) }
+{
     let mut by_text = BTreeMap::new(alloc);
     for clock in moved {
-        if let Some(span) = spans.get(clock.clock) {
-            let told = span.clock.told(alloc)?.into_string();
-            by_text.insert(told, clock.by)?;
-        }
+        let by = clock.by;
+        let by = format!(in alloc; "{by}")?;
+        by_text.insert(clock_told(alloc, spans, clock.clock)?, by)?;
     }
     let mut texts = Vec::new(alloc);
     for (clock, by) in by_text {
-        texts.push(ClockText {
-            clock,
-            by: format!(in alloc; "{by}")?,
-        })?;
+        texts.push(ClockText { clock, by })?;
     }
     Ok(texts)
 }
@@ -40,7 +51,9 @@ pub(crate) fn clock_texts(
 pub(crate) fn labels_of_clocks<'a>(
     alloc: Global,
     clocks: &'a [ClockText],
-) -> Result<Vec<Label<'a>>, AllocError> {
+) -> Result<Vec<Label<'a>>, AllocError>
+    ensures { IfOk result (λ labels. map plain_label labels.items ≡ map plain_clock clocks.now) }
+{
     let mut labels = Vec::with_capacity(alloc, clocks.len())?;
     for clock in clocks {
         labels.push(Label {

@@ -1,6 +1,12 @@
 //! The text of the recording that a trace makes.
-ghost use Rattle.std.specs.Prelude.{◌≡◌};
-ghost use Rattle.trace_import.specs.Imported.{IsTextOfReading};
+ghost use Rattle.std.specs.Prelude.{◌≡◌, [], IfErr, IfOk, OnOk, map, option_map, option_to_list, slice_get};
+ghost use Rattle.recording_text.specs.Labels.{GainsStage, begun, plain_label};
+ghost use Rattle.trace_import.specs.ClockLabels.{clock_labels, plain_clock};
+ghost use Rattle.trace_import.specs.Gains.{GainStages, StaysTooLong};
+ghost use Rattle.trace_import.specs.Imported.{IsTextOfReading, head_of};
+ghost use Rattle.trace_import.specs.Specs.{id_label, labelled_stage, labelled_stages, labels_of};
+ghost use Rattle.trace_relations.specs.Relations.{plain};
+ghost use Rattle.trace_stages.specs.Naming.{plain_stage, plain_stages};
 
 use crate::actions::Actions;
 use crate::clock_labels::{ClockText, clock_texts, labels_of_clocks};
@@ -17,7 +23,9 @@ use trace_stages::{ImportedStage, StageName};
 const LONGEST: usize = 67_108_864;
 
 /// The id of a span under a name, if the span is one.
-fn id_label<'a>(spans: &'a [Span], name: &'static str, place: usize) -> Option<Label<'a>> {
+fn id_label<'a>(spans: &'a [Span], name: &'static str, place: usize) -> Option<Label<'a>>
+    ensures { option_to_list (option_map plain_label result) ≡ id_label name.now (slice_get spans.now place) }
+{
     let span = spans.get(place)?;
     Some(Label {
         name,
@@ -26,7 +34,9 @@ fn id_label<'a>(spans: &'a [Span], name: &'static str, place: usize) -> Option<L
 }
 
 /// What a stage bears beside: that which ends when its span did the id of that, and own work that of the span whose it is.
-fn label_of<'a>(spans: &'a [Span], name: StageName) -> Option<Label<'a>> {
+fn label_of<'a>(spans: &'a [Span], name: StageName) -> Option<Label<'a>>
+    ensures { option_to_list (option_map plain_label result) ≡ labels_of spans.now name }
+{
     match name {
         StageName::Whole(place) => id_label(spans, "span", place),
         StageName::Work(place, _) => id_label(spans, "x-work-of", place),
@@ -39,7 +49,9 @@ fn push_stage(
     text: &mut LabelledText,
     making: Making<'_>,
     stage: &ImportedStage,
-) -> Result<(), AllocError> {
+) -> Result<(), AllocError>
+    ensures { OnOk result (GainsStage text.old text.new (labelled_stage making.entry.spans.now making.entry.names.now (plain_stage stage.now))) }
+{
     let spec = imported_spec(making, stage)?;
     match label_of(making.spans, stage.name) {
         Some(label) => text.push(&spec, &[label]),
@@ -52,7 +64,10 @@ fn push_stages(
     text: &mut LabelledText,
     making: Making<'_>,
     stages: &[ImportedStage],
-) -> Result<(), ImportFault> {
+) -> Result<(), ImportFault>
+    ensures ok { OnOk result (GainStages text.old text.new (labelled_stages making.entry.spans.now making.entry.names.now (plain_stages stages.now))) }
+    ensures err { IfErr result (λ fault. StaysTooLong fault text.old (labelled_stages making.entry.spans.now making.entry.names.now (plain_stages stages.now))) }
+{
     for stage in stages {
         push_stage(text, making, stage)?;
         if text.len() > LONGEST {
@@ -68,7 +83,9 @@ fn text_before(
     mapping: Mapping,
     reading: &Reading,
     clocks: &[ClockText],
-) -> Result<LabelledText, AllocError> {
+) -> Result<LabelledText, AllocError>
+    ensures { map plain_clock clocks.now ≡ clock_labels mapping.as_told reading.now.trace.spans → IfOk result (λ text. text ≡ begun (head_of mapping reading.now.trace (plain reading.now.relations)) []) }
+{
     let start = reading.relations.origin;
     let start = format!(in alloc; "{start}")?;
     let labels = [
