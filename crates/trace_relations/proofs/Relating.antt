@@ -100,6 +100,11 @@ parent_kept intervals parents place parent is =
 pub parents_are_spans : (spans : List Span) (intervals : List Interval) (place parent : ℕ) → parent_at (parents_of spans intervals) place ≡ Some parent → parent < length spans
 parents_are_spans spans intervals place parent is = meant_within spans place parent (parent_kept intervals (map parent_meant (all_references spans)) place parent is)
 
+pub parents_within : (spans : List Span) (intervals : List Interval) (references : List (List ℕ × Bool)) (named parents : List (Option ℕ)) → references ≡ all_references spans → named ≡ map parent_meant references → parents ≡ without_circles intervals named
+    → (place caller : ℕ) → parent_at parents place ≡ Some caller → caller < length spans
+parents_within spans intervals references named parents meant_are named_are parents_are place caller is =
+    parents_are_spans spans intervals place caller (ap (λ those. parent_at those place) (sym (parents_are ∙ ap (without_circles intervals) (named_are ∙ ap (map parent_meant) meant_are))) ∙ is)
+
 -- ---- all relations
 
 made : ℤ → List Interval → List (List ℕ × Bool) → List ℕ → List (Option ℕ) → List Host → List (Option ℕ) → Attempts → List (Option ℕ) → PlainRelations

@@ -1,5 +1,5 @@
 -- How the spans of a trace stand to each other.
-use Rattle.std.specs.Prelude.{◌≡◌, ℕ, ℤ, pos, List, [], ◌∷◌, Bool, length, map, nat_lt, if◌then◌else◌, Option, None, Result, Ok, Err, slice_get, unwrap_or}
+use Rattle.std.specs.Prelude.{◌≡◌, ◌≤◌, ℕ, ℤ, pos, List, [], ◌∷◌, Bool, length, map, nat_lt, if◌then◌else◌, Option, None, Result, Ok, Err, slice_get, unwrap_or}
 use Rattle.trace_spans.specs.declared.span.Span.{Span}
 use Rattle.trace_relations.specs.declared.as_told.AsTold.{AsTold}
 use Rattle.trace_relations.specs.declared.fault.RelationsFault.{RelationsFault}
@@ -58,7 +58,7 @@ parent_meant references = slice_get references.0 0
 
 -- by how much the clock of each span is moved
 abbrev pub moves_of : AsTold → List Span → ℕ → ℤ
-moves_of as_told spans = if as_told.clocks then λ place. pos 0 else all_moves spans
+moves_of as_told spans = if as_told.clocks then (λ place. pos 0) else all_moves spans
 
 abbrev pub told_times : AsTold → List Span → List Times
 told_times as_told spans = times_of (moves_of as_told spans) spans
@@ -143,5 +143,5 @@ abbrev pub fault_in : Unit → AsTold → List Span → Result (ℤ × List Inte
 fault_in unit as_told spans = if nat_lt most_spans (length spans) then Err TooManyStages else ticks_of unit as_told spans
 
 abbrev pub AreRelations : Unit → AsTold → List Span → Result Relations RelationsFault → Type 0
-AreRelations unit as_told spans (Ok relations) = AreRelationsOf unit as_told spans (plain relations)
+AreRelations unit as_told spans (Ok relations) = (length spans ≤ most_spans) × AreRelationsOf unit as_told spans (plain relations)
 AreRelations unit as_told spans (Err fault) = IsFault fault (fault_in unit as_told spans)

@@ -1,6 +1,6 @@
 //! Calls that were given up.
 ghost use Rattle.std.specs.Prelude.{◌≡◌, ◌<◌, ◌++◌, [], ◌∷◌, ℕ, List, true, false, not, length, IfOk, slice_get, unwrap_or};
-ghost use Rattle.trace_relations.specs.GivenUp.{all_given_up, answers, failed_by_itself, given_up_by, is_child, is_failure, is_late, is_unnamed, runs_on, says_late, sends_none, was_called};
+ghost use Rattle.trace_relations.specs.GivenUp.{all_given_up, answers, failed_by_itself, given_up_by, has_word, is_child, is_failure, is_late, is_unnamed, runs_on, says_late, sends_none, was_called};
 ghost use Rattle.trace_relations.specs.KeptCalled.{AreCallers, HasAllPlaces, ParentsAreSpans, answered, called_with, failed_for, outlived};
 
 use crate::ancestry::parent_at;
@@ -36,16 +36,24 @@ struct Callers {
     answer: Vec<Option<usize>>,
 }
 
+/// Whether a word begins somewhere in a name.
+fn has_word(name: &str, word: &str) -> bool
+    ensures { result ≡ has_word name.now word.now }
+{
+    name.contains(word)
+}
+
 /// Whether the name of an exception says that time was up.
 fn says_late(alloc: Global, name: &str) -> Result<bool, AllocError>
     ensures { IfOk result (λ late. late ≡ says_late name.now) }
 {
     let name = name.to_ascii_lowercase(alloc)?;
+    let name = name.as_str();
     Ok(
-        name.contains("timeout")
-            || name.contains("timedout")
-            || name.contains("timed_out")
-            || name.contains("deadline"),
+        has_word(name, "timeout")
+            || has_word(name, "timedout")
+            || has_word(name, "timed_out")
+            || has_word(name, "deadline"),
     )
 }
 
@@ -201,9 +209,12 @@ fn was_called(
 {
     let is_late = is_late(alloc, called.spans, caller)?;
     if is_set(&callers.has_run_on, caller) {
-        return Ok(ran_on(called, caller, place) && (is_late || is_unnamed(called.spans, caller)));
+        let ran_on = ran_on(called, caller, place);
+        let is_unnamed = is_unnamed(called.spans, caller);
+        return Ok(ran_on && (is_late || is_unnamed));
     }
-    Ok(is_late && parent_at(&callers.answer, caller) == Some(place))
+    let is_answer = parent_at(&callers.answer, caller) == Some(place);
+    Ok(is_late && is_answer)
 }
 
 /// The caller that gave a span up.

@@ -1,4 +1,4 @@
-use Rattle.std.proofs.Common.{◌∙◌, ap, length}
+use Rattle.std.proofs.Common.{◌∙◌, ap, arith, length}
 use Rattle.trace_relations.specs.Relations.{relations_with}
 use Rattle.trace_relations.proofs.Ending.{ended_by_start, ended_long, ticks_long}
 use Rattle.trace_relations.proofs.relations.relations_of.Goals as goal
@@ -13,11 +13,11 @@ related-relations-requires-clause-count c =
     ∙ ticks_long c.args.unit c.args.as_told c.args.spans.now c.in_ok-timed.timed.origin c.in_ok-timed.ensures.told c.in_ok-timed.ensures.ticks
 
 pub returns : goal.returns
-returns c = (
+returns c = (omega arith, (
   c.in_ok-timed.timed.origin,
   c.in_ok-timed.ensures.told,
   c.in_ok-timed.timed.order.items,
   c.in_ok-timed.ensures.ticks,
   c.in_ok-timed.ensures.by_start,
   c.in_ok-relations.ensures ∙ ap (λ intervals. relations_with c.args.as_told c.args.spans.now c.in_ok-timed.timed.origin intervals c.in_ok-timed.timed.order.items) c.in_ok-timed.ensures.ended_with,
-)
+))
