@@ -6,7 +6,7 @@ ghost use Rattle.trace_import.specs.Faults.{failed_writes};
 use crate::fault::ImportFault;
 use crate::note::Note;
 use crate::options::Mapping;
-use crate::recorded::recorded;
+use crate::recorded::recording_of;
 use std::alloc::{AllocError, Global};
 use text_io::Sink;
 use trace_spans::{Text, Trace, read_traces};
@@ -45,7 +45,7 @@ fn import_one<S: Sink>(
     ensures failures { S.failures sink.new ≡ S.failures sink.old + failed_writes result }
 {
     let id = Text::new(alloc, trace.id.as_str())?;
-    let made = match recorded(alloc, mapping, trace) {
+    let made = match recording_of(alloc, mapping, trace) {
         Ok(recorded) => {
             sink.write(&on_one_line(recorded.text)?)?;
             Ok(recorded.notes)

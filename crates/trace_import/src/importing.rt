@@ -6,7 +6,7 @@ ghost use Rattle.trace_import.specs.Imported.{IsImported};
 use crate::fault::ImportFault;
 use crate::note::Note;
 use crate::options::Options;
-use crate::recorded::recorded;
+use crate::recorded::recording_of;
 use std::alloc::Global;
 use text_io::Sink;
 use trace_spans::read_trace;
@@ -23,7 +23,7 @@ pub fn import<S: Sink>(
     ensures failures { S.failures sink.new ≡ S.failures sink.old + failed_writes result }
 {
     let trace = read_trace(alloc, bytes, options.trace)?;
-    let recorded = recorded(alloc, options.mapping, trace)?;
+    let recorded = recording_of(alloc, options.mapping, trace)?;
     sink.write(&recorded.text)?;
     Ok(recorded.notes)
 }

@@ -19,7 +19,7 @@ pub(crate) struct Recorded {
 }
 
 /// The recording of a trace.
-pub(crate) fn recorded(
+pub(crate) fn recording_of(
     alloc: Global,
     mapping: Mapping,
     trace: Trace,

@@ -1,11 +1,14 @@
 -- How the spans of a trace stand to each other.
-use Rattle.std.specs.Prelude.{◌≡◌, ◌≤◌, ℕ, ℤ, pos, List, [], ◌∷◌, Bool, length, map, nat_lt, if◌then◌else◌, Option, None, Result, Ok, Err, slice_get, unwrap_or}
+use Rattle.std.specs.Prelude.{◌≡◌, ◌≤◌, ℕ, ℤ, pos, List, [], ◌∷◌, ◌&&◌, Bool, not, filter, length, map, nat_eq, nat_lt, if◌then◌else◌, Option, None, Result, Ok, Err, slice_get, unwrap_or}
+use Rattle.std.specs.List.{range_with_len}
+use Rattle.std.specs.Ordering.{int_eq}
 use Rattle.trace_spans.specs.declared.span.Span.{Span}
 use Rattle.trace_relations.specs.declared.as_told.AsTold.{AsTold}
 use Rattle.trace_relations.specs.declared.fault.RelationsFault.{RelationsFault}
 use Rattle.trace_relations.specs.declared.fault.RelationsFault.TheVariants.{TooManyStages}
 use Rattle.trace_relations.specs.declared.hosts.Host.{Host}
 use Rattle.trace_relations.specs.declared.moment.Interval.{Interval}
+use Rattle.trace_relations.specs.declared.placing.Moved.{Moved}
 use Rattle.trace_relations.specs.declared.relations.Relations.{Relations}
 use Rattle.trace_relations.specs.declared.relations.Timed.{Timed}
 use Rattle.trace_relations.specs.declared.times.Times.{Times}
@@ -14,6 +17,7 @@ use Rattle.trace_relations.specs.Ancestry.{known, most_spans, without_circles}
 use Rattle.trace_relations.specs.Attempts.{Attempts, CallsOf, attempts_of, caller_of, tried_once}
 use Rattle.trace_relations.specs.ByStart.{AreByStart}
 use Rattle.trace_relations.specs.GivenUp.{Called, all_given_up}
+use Rattle.trace_relations.specs.ClockNumbers.{clock_at}
 use Rattle.trace_relations.specs.Hosts.{hosts_of}
 use Rattle.trace_relations.specs.KeptAttempts.{plain_attempts}
 use Rattle.trace_relations.specs.LateEnds.{with_callers_ends}
@@ -59,6 +63,17 @@ parent_meant references = slice_get references.0 0
 -- by how much the clock of each span is moved
 abbrev pub moves_of : AsTold → List Span → ℕ → ℤ
 moves_of as_told spans = if as_told.clocks then (λ place. pos 0) else all_moves spans
+
+-- whether the clock that the span at a place is the first to have is moved
+abbrev pub is_moved : AsTold → List Span → ℕ → Bool
+is_moved as_told spans place = nat_eq (clock_at spans place) place && not (int_eq (moves_of as_told spans place) (pos 0))
+
+abbrev pub moved_at : AsTold → List Span → ℕ → Moved
+moved_at as_told spans place = record { clock = place; by = moves_of as_told spans place }
+
+-- the clocks that are moved, by the first spans that have them, and by how much
+abbrev pub moved_of : AsTold → List Span → List Moved
+moved_of as_told spans = map (moved_at as_told spans) (filter (is_moved as_told spans) (range_with_len 0 (length spans)))
 
 abbrev pub told_times : AsTold → List Span → List Times
 told_times as_told spans = times_of (moves_of as_told spans) spans
@@ -132,6 +147,7 @@ pub record AreTimes (unit : Unit) (as_told : AsTold) (spans : List Span) (timed 
   pub told : List Interval
   pub ticks : ticks_of unit as_told spans ≡ Ok (timed.origin, told)
   pub by_start : AreByStart told timed.order.items
+  pub moved : timed.moved.items ≡ moved_of as_told spans
   pub ended_with : timed.intervals.items ≡ ended as_told spans timed.order.items told
 
 abbrev pub IsTimed : Unit → AsTold → List Span → Result Timed RelationsFault → Type 0
@@ -143,5 +159,5 @@ abbrev pub fault_in : Unit → AsTold → List Span → Result (ℤ × List Inte
 fault_in unit as_told spans = if nat_lt most_spans (length spans) then Err TooManyStages else ticks_of unit as_told spans
 
 abbrev pub AreRelations : Unit → AsTold → List Span → Result Relations RelationsFault → Type 0
-AreRelations unit as_told spans (Ok relations) = (length spans ≤ most_spans) × AreRelationsOf unit as_told spans (plain relations)
+AreRelations unit as_told spans (Ok relations) = (length spans ≤ most_spans) × AreRelationsOf unit as_told spans (plain relations) × (relations.moved.items ≡ moved_of as_told spans)
 AreRelations unit as_told spans (Err fault) = IsFault fault (fault_in unit as_told spans)
