@@ -1,1 +1,3 @@
-pub mod Made
+pub mod Clocks
+pub mod Gaining
+pub mod Names

@@ -1,5 +1,5 @@
 -- What an import of each trace of a file writes: its recording on one line.
-use Rattle.std.specs.Prelude.{◌≡◌, ⊥, ℕ, ◌++◌, ◌⊎◌, List, [], ◌∷◌, filter, nat_eq, not, Option, Result, Ok, Err, Vec}
+use Rattle.std.specs.Prelude.{◌≡◌, ℕ, ◌++◌, ◌⊎◌, List, [], ◌∷◌, filter, nat_eq, not, Option, Result, Ok, Err, Vec}
 use Rattle.std.specs.Io.KnownBytes.{Appends, Keeps}
 use Rattle.std.specs.declared.alloc.Global.{Global}
 use Rattle.text_io.specs.Sink.{AppendsPrefix}

@@ -1,5 +1,5 @@
 -- A text that gains stages, or gets too long by them.
-use Rattle.std.specs.Prelude.{◌≡◌, ⊥, ◌<◌, List, ◌++◌, Unit, length}
+use Rattle.std.specs.Prelude.{◌≡◌, ◌<◌, List, ◌++◌, length}
 use Rattle.recording_text.specs.Labels.{Begun, Labelled, PlainHead, begun, labelled_recording}
 use Rattle.trace_import.specs.Limits.{longest}
 use Rattle.trace_import.specs.declared.fault.ImportFault.{ImportFault}

@@ -1,5 +1,5 @@
 -- What an import writes: the recording that a trace makes.
-use Rattle.std.specs.Prelude.{◌≡◌, ⊥, ℕ, ◌<◌, ◌≤◌, List, [], ◌∷◌, codes, length, Option, Result, Ok, Err, Unit, Vec}
+use Rattle.std.specs.Prelude.{◌≡◌, ℕ, ◌<◌, ◌≤◌, List, [], ◌∷◌, codes, length, Option, Result, Ok, Err, Vec}
 use Rattle.std.specs.Fmt.{signed_decimal}
 use Rattle.std.specs.Io.KnownBytes.{Appends, Keeps}
 use Rattle.std.specs.declared.alloc.Global.{Global}
@@ -7,7 +7,7 @@ use Rattle.recording_text.specs.Labels.{PlainGroup, PlainHead, PlainLabel, label
 use Rattle.text_io.specs.Sink.{AppendsPrefix}
 use Rattle.trace_relations.specs.Ancestry.{most_spans}
 use Rattle.trace_relations.specs.Reads.{IsFault as IsRelationsFault}
-use Rattle.trace_relations.specs.Relations.{AreRelationsOf, PlainRelations, fault_in, plain}
+use Rattle.trace_relations.specs.Relations.{AreRelationsOf, PlainRelations, fault_in, moved_of, plain}
 use Rattle.trace_relations.specs.Units.{unit_text}
 use Rattle.trace_relations.specs.declared.fault.RelationsFault.{RelationsFault}
 use Rattle.trace_spans.specs.Reads.{IsFault}
@@ -84,18 +84,26 @@ IsNotMade mapping trace Memory = Unit {0}
 
 -- ---- what the calls inside answer
 
+-- the clocks of what was made of a trace are moved as they are said to be
+abbrev pub HasMoved : Mapping → Reading → Type 0
+HasMoved mapping reading = reading.relations.moved.items ≡ moved_of mapping.as_told reading.trace.spans
+
 -- what is made of a trace
 abbrev pub IsReadingOf : Mapping → Trace → Result Reading ImportFault → Type 0
-IsReadingOf mapping trace (Ok reading) = (reading.trace ≡ trace) × IsMadeFrom mapping trace (plain reading.relations) reading.stages × (count_of reading.stages ≤ most_stages)
+IsReadingOf mapping trace (Ok reading) = (reading.trace ≡ trace) × IsMadeFrom mapping trace (plain reading.relations) reading.stages × (count_of reading.stages ≤ most_stages) × HasMoved mapping reading
 IsReadingOf mapping trace (Err TooLong) = ⊥
 IsReadingOf mapping trace (Err fault) = IsNotMade mapping trace fault
+
+-- the spans of what was made have these names
+abbrev pub HasNames : Mapping → Reading → List (List ℕ) → Type 0
+HasNames mapping reading named = HasMoved mapping reading × (named ≡ names reading.trace.spans (plain reading.relations).order)
 
 -- the text of what was made, whose spans have these names, or why there is none
 abbrev pub IsTextOfReading : Mapping → Reading → List (List ℕ) → Result (Vec ℕ Global) ImportFault → Type 0
 IsTextOfReading mapping reading named (Ok text) =
-    (named ≡ names reading.trace.spans (plain reading.relations).order → text.items ≡ text_of mapping reading.trace (plain reading.relations) reading.stages) × (length text.items ≤ longest)
+    (HasNames mapping reading named → text.items ≡ text_of mapping reading.trace (plain reading.relations) reading.stages) × (length text.items ≤ longest)
 IsTextOfReading mapping reading named (Err TooLong) =
-    named ≡ names reading.trace.spans (plain reading.relations).order → longest < length (text_of mapping reading.trace (plain reading.relations) reading.stages)
+    HasNames mapping reading named → longest < length (text_of mapping reading.trace (plain reading.relations) reading.stages)
 IsTextOfReading mapping reading named (Err Memory) = Unit {0}
 IsTextOfReading mapping reading named (Err other) = ⊥
 

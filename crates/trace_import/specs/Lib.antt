@@ -4,6 +4,7 @@ pub mod Each
 pub mod Faults
 pub mod Gains
 pub mod Imported
+pub mod KeptActions
 pub mod Limits
 pub mod Specs
 pub mod StageNames

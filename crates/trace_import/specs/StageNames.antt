@@ -16,6 +16,26 @@ name_at names place = text_or_none (slice_get names place)
 abbrev pub numbered : List ℕ → ℕ → List ℕ
 numbered ending number = if nat_lt 1 number then ending ++ codes "-" ++ decimal number else ending
 
+-- the span of a stage
+abbrev pub place_of : StageName → ℕ
+place_of (Whole place) = place
+place_of (Start place) = place
+place_of (Join place number) = place
+place_of (Work place number) = place
+place_of (Tried place) = place
+place_of (Limit place) = place
+place_of (Answer place) = place
+
+-- what a stage has after the name of its span
+abbrev pub ending_of : StageName → List ℕ
+ending_of (Whole place) = []
+ending_of (Start place) = codes ".start"
+ending_of (Join place number) = numbered (codes ".join") number
+ending_of (Work place number) = numbered (codes ".work") number
+ending_of (Tried place) = codes ".tried"
+ending_of (Limit place) = codes ".limit"
+ending_of (Answer place) = codes ".answer"
+
 -- NAME, NAME.start, or the name of another stage of NAME
 abbrev pub stage_name : List (List ℕ) → StageName → List ℕ
 stage_name names (Whole place) = name_at names place

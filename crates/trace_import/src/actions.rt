@@ -1,6 +1,7 @@
 //! The actions of stages.
 ghost use Rattle.std.specs.Prelude.{◌≡◌, IfOk};
-ghost use Rattle.trace_import.specs.Actions.{exception_name, imported_action, name_told};
+ghost use Rattle.trace_import.specs.Actions.{exception_name, imported_action, name_told, throw_of};
+ghost use Rattle.trace_import.specs.KeptActions.{AreActions};
 
 use act_expr::{ExName, Expr, Form, Value};
 use std::alloc::{AllocError, Global};
@@ -41,7 +42,9 @@ pub(crate) struct Actions {
 }
 
 impl Actions {
-    pub(crate) fn new(alloc: Global) -> Result<Actions, AllocError> {
+    pub(crate) fn new(alloc: Global) -> Result<Actions, AllocError>
+        ensures { IfOk result (λ actions. AreActions actions) }
+    {
         Ok(Actions {
             null: Expr::new(alloc, Form::Literal(Value::Null))?,
             first: Expr::new(alloc, Form::Literal(Value::Num(0)))?,
@@ -49,12 +52,10 @@ impl Actions {
     }
 
     /// The throw of an exception.
-    fn throw(
-        &self,
-        alloc: Global,
-        spans: &[Span],
-        exception: Exception,
-    ) -> Result<Expr, AllocError> {
+    fn throw(&self, alloc: Global, spans: &[Span], exception: Exception) -> Result<Expr, AllocError>
+        requires { AreActions self.now }
+        ensures { IfOk result (λ expression. expression ≡ throw_of (exception_name spans.now exception)) }
+    {
         match ExName::new(exception_name(spans, exception)) {
             Some(name) => Expr::new(alloc, Form::throw(alloc, name)?),
             None => self.null.clone(),
@@ -68,6 +69,7 @@ impl Actions {
         spans: &[Span],
         action: Action,
     ) -> Result<Expr, AllocError>
+        requires { AreActions self.now }
         ensures { IfOk result (λ expression. expression ≡ imported_action spans.now action) }
     {
         match action {

@@ -27,6 +27,7 @@ fn clock_told(alloc: Global, spans: &[Span], place: usize) -> Result<String, All
 }
 
 /// The clocks that are moved, as they are told, in the order of their texts; of several that are told alike the last.
+#[tactic(auto, using(crate::proofs::Clocks::put_in))]
 pub(crate) fn clock_texts(
     alloc: Global,
     spans: &[Span],

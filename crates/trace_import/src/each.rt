@@ -1,5 +1,5 @@
 //! The recordings of all traces of a file, each on one line.
-ghost use Rattle.std.specs.Prelude.{◌≡◌, ◌+◌, ◌-◌, ◌^◌, ◌<◌};
+ghost use Rattle.std.specs.Prelude.{◌≡◌, ◌+◌, ◌-◌, ◌^◌, ◌<◌, IfOk};
 ghost use Rattle.trace_import.specs.Each.{AreImported, IsImportedOne, on_one_line};
 ghost use Rattle.trace_import.specs.Faults.{failed_writes};
 
@@ -24,11 +24,15 @@ pub struct Outcome {
 }
 
 /// A text on one line: its line ends are left out, but for one at the end.
-fn on_one_line(text: Vec<u8>) -> Result<Vec<u8>, AllocError>
-    ensures { IfOk result (λ line. line.items ≡ on_one_line text.items) }
+fn on_one_line(alloc: Global, text: &[u8]) -> Result<Vec<u8>, AllocError>
+    ensures { IfOk result (λ line. line.items ≡ on_one_line text.now) }
 {
-    let mut line = text;
-    line.retain(|byte| *byte != LINE_END);
+    let mut line = Vec::new(alloc);
+    for byte in text {
+        if *byte != LINE_END {
+            line.push(*byte)?;
+        }
+    }
     line.push(LINE_END)?;
     Ok(line)
 }
@@ -47,7 +51,7 @@ fn import_one<S: Sink>(
     let id = Text::new(alloc, trace.id.as_str())?;
     let made = match recording_of(alloc, mapping, trace) {
         Ok(recorded) => {
-            sink.write(&on_one_line(recorded.text)?)?;
+            sink.write(&on_one_line(alloc, &recorded.text)?)?;
             Ok(recorded.notes)
         }
         Err(fault) if fault.ends_all() => return Err(fault),

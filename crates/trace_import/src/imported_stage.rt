@@ -1,6 +1,9 @@
 //! The stages of an import as stages of a recording.
-ghost use Rattle.std.specs.Prelude.{◌≡◌, IfOk, map};
+ghost use Rattle.std.specs.Prelude.{◌≡◌, IfOk, map, option_map, option_to_list};
+ghost use Rattle.trace_import.specs.Actions.{imported_action};
+ghost use Rattle.trace_import.specs.KeptActions.{AreActions};
 ghost use Rattle.trace_import.specs.Specs.{imported_op, imported_spec};
+ghost use Rattle.trace_import.specs.StageNames.{stage_name};
 ghost use Rattle.trace_stages.specs.Naming.{plain_stage};
 
 use crate::actions::Actions;
@@ -37,7 +40,9 @@ fn imported_op(op: ImportedOp) -> Op
 }
 
 /// The names of stages.
-fn names_of(making: Making<'_>, stages: &[StageName]) -> Result<NameList, AllocError> {
+fn names_of(making: Making<'_>, stages: &[StageName]) -> Result<NameList, AllocError>
+    ensures { IfOk result (λ names. names ≡ map (stage_name making.entry.names.now) stages.now) }
+{
     let mut names = NameList::new(making.alloc);
     for stage in stages {
         names.push(stage_name(making.alloc, making.names, *stage)?)?;
@@ -46,7 +51,9 @@ fn names_of(making: Making<'_>, stages: &[StageName]) -> Result<NameList, AllocE
 }
 
 /// The name of the stage that goes on where the source failed.
-fn inner_of(making: Making<'_>, inner: Option<StageName>) -> Result<NameList, AllocError> {
+fn inner_of(making: Making<'_>, inner: Option<StageName>) -> Result<NameList, AllocError>
+    ensures { IfOk result (λ names. names ≡ map (stage_name making.entry.names.now) (option_to_list inner)) }
+{
     match inner {
         Some(stage) => names_of(making, &[stage]),
         None => Ok(NameList::new(making.alloc)),
@@ -54,7 +61,10 @@ fn inner_of(making: Making<'_>, inner: Option<StageName>) -> Result<NameList, Al
 }
 
 /// The action of a stage, if it has one.
-fn action_of(making: Making<'_>, stage: &ImportedStage) -> Result<Option<Expr>, AllocError> {
+fn action_of(making: Making<'_>, stage: &ImportedStage) -> Result<Option<Expr>, AllocError>
+    requires { AreActions making.actions.now }
+    ensures { IfOk result (λ action. action ≡ option_map (imported_action making.entry.spans.now) stage.now.action) }
+{
     match stage.action {
         Some(action) => Ok(Some(making.actions.imported(making.alloc, making.spans, action)?)),
         None => Ok(None),
@@ -63,6 +73,7 @@ fn action_of(making: Making<'_>, stage: &ImportedStage) -> Result<Option<Expr>, 
 
 /// The stage of a recording that a stage of an import is.
 pub(crate) fn imported_spec(making: Making<'_>, stage: &ImportedStage) -> Result<Spec, AllocError>
+    requires { AreActions making.actions.now }
     ensures { IfOk result (λ spec. spec ≡ imported_spec making.entry.spans.now making.entry.names.now (plain_stage stage.now)) }
 {
     Ok(Spec {

@@ -1,6 +1,6 @@
 //! The texts that name stages.
 ghost use Rattle.std.specs.Prelude.{◌≡◌, ◌++◌, IfOk, OnOk, codes, string_bytes};
-ghost use Rattle.trace_import.specs.StageNames.{name_at, numbered, stage_name};
+ghost use Rattle.trace_import.specs.StageNames.{ending_of, name_at, numbered, place_of, stage_name};
 
 use stage_graph::Name;
 use std::alloc::{AllocError, Global};
@@ -30,7 +30,9 @@ fn push_numbered(text: &mut String, ending: &str, number: usize) -> Result<(), A
 }
 
 /// Puts what a stage has after the name of its span at the end of a text.
-fn push_ending(text: &mut String, name: StageName) -> Result<(), AllocError> {
+fn push_ending(text: &mut String, name: StageName) -> Result<(), AllocError>
+    ensures { OnOk result (string_bytes text.new ≡ string_bytes text.old ++ ending_of name) }
+{
     match name {
         StageName::Whole(_) => Ok(()),
         StageName::Start(_) => text.push_str(".start"),
@@ -43,7 +45,9 @@ fn push_ending(text: &mut String, name: StageName) -> Result<(), AllocError> {
 }
 
 /// The span of a stage.
-fn place_of(name: StageName) -> usize {
+fn place_of(name: StageName) -> usize
+    ensures { result ≡ place_of name }
+{
     match name {
         StageName::Whole(place)
         | StageName::Start(place)
@@ -56,6 +60,7 @@ fn place_of(name: StageName) -> usize {
 }
 
 /// The name of a stage.
+#[tactic(auto, using(crate::proofs::Names::put_together))]
 pub(crate) fn stage_name(
     alloc: Global,
     names: &TextList,

@@ -4,6 +4,7 @@ ghost use Rattle.recording_text.specs.Labels.{GainsStage, begun, plain_label};
 ghost use Rattle.trace_import.specs.ClockLabels.{clock_labels, plain_clock};
 ghost use Rattle.trace_import.specs.Gains.{GainStages, StaysTooLong};
 ghost use Rattle.trace_import.specs.Imported.{IsTextOfReading, head_of};
+ghost use Rattle.trace_import.specs.KeptActions.{AreActions};
 ghost use Rattle.trace_import.specs.Specs.{id_label, labelled_stage, labelled_stages, labels_of};
 ghost use Rattle.trace_relations.specs.Relations.{plain};
 ghost use Rattle.trace_stages.specs.Naming.{plain_stage, plain_stages};
@@ -50,6 +51,7 @@ fn push_stage(
     making: Making<'_>,
     stage: &ImportedStage,
 ) -> Result<(), AllocError>
+    requires { AreActions making.actions.now }
     ensures { OnOk result (GainsStage text.old text.new (labelled_stage making.entry.spans.now making.entry.names.now (plain_stage stage.now))) }
 {
     let spec = imported_spec(making, stage)?;
@@ -65,6 +67,7 @@ fn push_stages(
     making: Making<'_>,
     stages: &[ImportedStage],
 ) -> Result<(), ImportFault>
+    requires { AreActions making.actions.now }
     ensures ok { OnOk result (GainStages text.old text.new (labelled_stages making.entry.spans.now making.entry.names.now (plain_stages stages.now))) }
     ensures err { IfErr result (λ fault. StaysTooLong fault text.old (labelled_stages making.entry.spans.now making.entry.names.now (plain_stages stages.now))) }
 {
