@@ -123,9 +123,9 @@ fn try_call(calls: Calls<'_>, groups: &mut Groups, attempts: &mut Attempts, call
 
 /// Which calls are tried again, where those of one caller to the same stand together in groups.
 fn tried_in(calls: Calls<'_>, order: &[usize], groups: &mut Groups, attempts: &mut Attempts)
-    requires order { AreInTurn calls.entry.intervals.now order.now }
-    requires kept { AreKept (length calls.entry.spans.now) attempts.old }
-    requires groups { AreGroups (calls_with calls.entry) order.now (plain_attempts attempts.old) groups.old }
+    requires order { AreInTurn calls.intervals.now order.now }
+    requires kept { AreKept (length calls.spans.now) attempts.old }
+    requires groups { AreGroups (calls_with calls) order.now (plain_attempts attempts.old) groups.old }
     ensures { plain_attempts attempts.new ≡ fold (tried_again (calls_with calls.entry) order.now) (plain_attempts attempts.old) (filter (is_failed_call (calls_with calls.entry)) order.now) }
 {
     for call in order {
@@ -140,7 +140,7 @@ pub(crate) fn attempts_of(
     calls: Calls<'_>,
     order: &[usize],
 ) -> Result<Attempts, AllocError>
-    requires { AreInTurn calls.entry.intervals.now order.now }
+    requires { AreInTurn calls.intervals.now order.now }
     ensures { IfOk result (λ attempts. plain_attempts attempts ≡ attempts_of (calls_with calls.entry) order.now) }
 {
     let mut attempts = tried_once(alloc, calls.spans.len())?;

@@ -246,8 +246,8 @@ pub(crate) fn all_given_up(
     called: Called<'_>,
     order: &[usize],
 ) -> Result<Vec<Option<usize>>, AllocError>
-    requires places { HasAllPlaces (called_with called.entry) order.now }
-    requires parents { ParentsAreSpans (called_with called.entry) }
+    requires places { HasAllPlaces (called_with called) order.now }
+    requires parents { ParentsAreSpans (called_with called) }
     ensures { IfOk result (λ given_up. given_up.items ≡ all_given_up (called_with called.entry) order.now) }
 {
     let callers = callers_of(alloc, called, order)?;

@@ -144,7 +144,7 @@ fn tried_of(
     calls: Calls<'_>,
     order: &[usize],
 ) -> Result<Attempts, AllocError>
-    requires { AreInTurn calls.entry.intervals.now order.now }
+    requires { AreInTurn calls.intervals.now order.now }
     ensures { IfOk result (λ attempts. plain_attempts attempts ≡ tried_of as_told calls.entry.spans.now calls.entry.intervals.now order.now calls.entry.hosts.now calls.entry.waiting.now) }
 {
     if as_told.calls {
@@ -161,8 +161,8 @@ fn given_up_of(
     called: Called<'_>,
     order: &[usize],
 ) -> Result<Vec<Option<usize>>, AllocError>
-    requires places { HasAllPlaces (called_with called.entry) order.now }
-    requires parents { ParentsAreSpans (called_with called.entry) }
+    requires places { HasAllPlaces (called_with called) order.now }
+    requires parents { ParentsAreSpans (called_with called) }
     ensures { IfOk result (λ given_up. given_up.items ≡ given_up_of as_told called.entry.spans.now order.now (called_with called.entry)) }
 {
     if as_told.calls {
