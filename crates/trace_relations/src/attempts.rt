@@ -11,7 +11,7 @@ use crate::ancestry::parent_at;
 use crate::call_groups::{Groups, groups_of};
 use crate::hosts::Host;
 use crate::moment::{Interval, interval_at};
-use crate::set_at::set_at;
+use crate::set_at::{nothing_for, set_at};
 use std::alloc::{AllocError, Global};
 use trace_spans::Span;
 
@@ -69,9 +69,11 @@ pub(crate) fn tried_once(alloc: Global, count: usize) -> Result<Attempts, AllocE
         first.push(place)?;
         last.push(place)?;
     }
+    let next = nothing_for(alloc, count)?;
+    let previous = nothing_for(alloc, count)?;
     Ok(Attempts {
-        next: vec![in alloc; None; count]?,
-        previous: vec![in alloc; None; count]?,
+        next,
+        previous,
         first,
         last,
     })

@@ -17,6 +17,7 @@ use crate::late_ends::{LateEnd, end_with_callers};
 use crate::moment::Interval;
 use crate::placing::{Moved, Placed, placed_times, times_as_told};
 use crate::references::{References, all_references};
+use crate::set_at::nothing_for;
 use crate::starts::by_start;
 use crate::ticks::{earliest_time, intervals_of};
 use crate::unit::Unit;
@@ -75,9 +76,10 @@ fn times_of(
     ensures { IfOk result (λ placed. placed.times.items ≡ told_times as_told spans.now) }
 {
     if as_told.clocks {
+        let times = times_as_told(alloc, spans)?;
         return Ok(Placed {
             moved: Vec::new(alloc),
-            times: times_as_told(alloc, spans)?,
+            times,
         });
     }
     placed_times(alloc, spans, references)
@@ -166,7 +168,7 @@ fn given_up_of(
     ensures { IfOk result (λ given_up. given_up.items ≡ given_up_of as_told called.entry.spans.now order.now (called_with called.entry)) }
 {
     if as_told.calls {
-        Ok(vec![in alloc; None; called.spans.len()]?)
+        nothing_for(alloc, called.spans.len())
     } else {
         all_given_up(alloc, called, order)
     }

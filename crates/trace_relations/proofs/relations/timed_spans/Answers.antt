@@ -12,6 +12,6 @@ pub returns : goal.returns
 returns c = record {
   told = c.in_ok-intervals.intervals.items;
   ticks = ticks_are c.args.unit c.args.as_told c.args.spans.now _ c.in_ok-origin.origin c.in_ok-intervals.intervals.items c.in_ok-times_of.ensures (search rules) (search rules);
-  by_start = search rules;
-  ended_with = search rules;
+  by_start = search (rules, c.in_ok-order.ensures);
+  ended_with = search (rules, c.in_ok-late.ensures);
 }
