@@ -254,9 +254,9 @@ itself_is called order callers place failed ended has all are lt failed_is ended
 
 pub ran_is : (called : Called) (order : List ℕ) (callers : Callers) (caller place : ℕ) (ran late unnamed : Bool) → HasAllPlaces called order → AreCallers called order callers → is_child called.parents caller place ≡ true → caller < length called.spans
     → unwrap_or (slice_get callers.has_run_on.items caller) false ≡ true → ran ≡ runs_on called caller place → late ≡ is_late (slice_get called.spans caller) → unnamed ≡ is_unnamed (slice_get called.spans caller) → (ran && (late || unnamed)) ≡ was_called called order caller place
-ran_is called order callers caller place ran late unnamed all are child lt told ran_is late_is unnamed_is =
+ran_is called order callers caller place ran late unnamed all are child lt told own_is late_is unnamed_is =
     let any : list_any (ran_on called caller) (places called) ≡ true = sym (run_on_known called order callers caller all are lt) ∙ told in
-    let own : ran ≡ ran_on called caller place = ran_is ∙ ap (λ b. b && runs_on called caller place) (sym child) in
+    let own : ran ≡ ran_on called caller place = own_is ∙ ap (λ b. b && runs_on called caller place) (sym child) in
     ap (λ b. b && (late || unnamed)) own ∙ ap (λ b. ran_on called caller place && (b || unnamed)) late_is ∙ ap (λ b. ran_on called caller place && (is_late (slice_get called.spans caller) || b)) unnamed_is
     ∙ sym (ap (λ b. cond b (ran_on called caller place && (is_late (slice_get called.spans caller) || is_unnamed (slice_get called.spans caller))) (is_late (slice_get called.spans caller) && is_last_answer called order caller place)) any)
 

@@ -1,4 +1,4 @@
-use Rattle.std.proofs.Common.{◌≡◌, ◌∙◌, ℕ, List, None, ap, length, replicate, rules}
+use Rattle.std.proofs.Common.{◌≡◌, ℕ, None, length, replicate}
 use Rattle.std.specs.Prelude.{Option}
 use Rattle.std.proofs.lemmas.Result.{IfOk-weaker}
 use Rattle.trace_relations.specs.GivenUp.{all_given_up}
@@ -10,9 +10,8 @@ use Rattle.trace_relations.proofs.relations.given_up_of.Goals as goal
 pub returns-then-as_told : goal.returns-then-as_told
 returns-then-as_told c =
     let called = c.args.called in
-    let long : c.len.result ≡ length called.spans.now = search rules in
-    IfOk-weaker c.nothing_for.result (λ given_up. given_up.items ≡ replicate {A = Option ℕ} c.len.result None) (λ given_up. given_up.items ≡ given_up_of c.args.as_told called.spans.now c.args.order.now (called_with called))
-    (λ given_up is. given_up_told c.args.as_told called.spans.now c.args.order.now (called_with called) given_up.items c.if-as_told.true (is ∙ ap (λ n. replicate {A = Option ℕ} n None) long)) c.nothing_for.ensures
+    IfOk-weaker c.nothing_for.result (λ given_up. given_up.items ≡ replicate {A = Option ℕ} (length called.spans.now) None) (λ given_up. given_up.items ≡ given_up_of c.args.as_told called.spans.now c.args.order.now (called_with called))
+    (λ given_up is. given_up_told c.args.as_told called.spans.now c.args.order.now (called_with called) given_up.items c.if-as_told.true is) c.nothing_for.ensures
 
 pub returns-else-as_told : goal.returns-else-as_told
 returns-else-as_told c =
