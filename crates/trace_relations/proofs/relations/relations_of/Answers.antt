@@ -13,11 +13,14 @@ related-requires-clause-count c =
     ∙ ticks_long c.args.unit c.args.as_told c.args.spans.now c.in_ok-timed.timed.origin c.in_ok-timed.ensures.told c.in_ok-timed.ensures.ticks
 
 pub returns : goal.returns
-returns c = (omega arith, (
-  c.in_ok-timed.timed.origin,
-  c.in_ok-timed.ensures.told,
-  c.in_ok-timed.timed.order.items,
-  c.in_ok-timed.ensures.ticks,
-  c.in_ok-timed.ensures.by_start,
-  c.in_ok-relations.ensures ∙ ap (λ intervals. relations_with c.args.as_told c.args.spans.now c.in_ok-timed.timed.origin intervals c.in_ok-timed.timed.order.items) c.in_ok-timed.ensures.ended_with,
-))
+returns c = (
+  omega arith,
+  (
+    c.in_ok-timed.timed.origin,
+    c.in_ok-timed.ensures.told,
+    c.in_ok-timed.timed.order.items,
+    c.in_ok-timed.ensures.ticks,
+    c.in_ok-timed.ensures.by_start,
+    c.in_ok-relations.ensures ∙ ap (λ intervals. relations_with c.args.as_told c.args.spans.now c.in_ok-timed.timed.origin intervals c.in_ok-timed.timed.order.items) c.in_ok-timed.ensures.ended_with,
+  ),
+)
