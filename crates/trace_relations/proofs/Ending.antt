@@ -2,6 +2,7 @@
 use Rattle.std.proofs.Common.{◌≡◌, ℕ, suc, zero, ◌+◌, ◌<◌, ◌≤◌, List, [], ◌∷◌, Bool, true, false, cond, length, min, set, Option, Some, None, refl, sym, ap, ◌∙◌, subst, arith, ℤ}
 use Rattle.std.specs.Prelude.{IsPermutation, Result, Ok, Err}
 use Rattle.std.specs.List.{zip}
+use Rattle.std.specs.Result.{IsErrAnd}
 use Rattle.std.proofs.lemmas.List.{length-set}
 use Rattle.std.proofs.lemmas.Slice.Zip.{length-zip}
 use Rattle.trace_spans.specs.declared.span.Span.{Span}
@@ -9,6 +10,7 @@ use Rattle.trace_relations.specs.declared.as_told.AsTold.{AsTold}
 use Rattle.trace_relations.specs.declared.fault.RelationsFault.{RelationsFault}
 use Rattle.trace_relations.specs.declared.fault.RelationsFault.TheVariants.{NoTime, TooLate, TooManyStages, Memory}
 use Rattle.trace_relations.specs.declared.moment.Interval.{Interval}
+use Rattle.trace_relations.specs.declared.relations.Timed.{Timed}
 use Rattle.trace_relations.specs.declared.times.Times.{Times}
 use Rattle.trace_relations.specs.declared.unit.Unit.{Unit as TickUnit}
 use Rattle.trace_relations.specs.ByStart.{AreByStart, all_starts, starts_from}
@@ -16,7 +18,7 @@ use Rattle.trace_relations.specs.LateEnds.{end_of_caller, ended_with, with_calle
 use Rattle.trace_relations.specs.Moments.{interval_at}
 use Rattle.trace_relations.specs.Parents.{all_references}
 use Rattle.trace_relations.specs.Reads.{IsFault}
-use Rattle.trace_relations.specs.Relations.{ended, moves_of, ticks_of, told_times}
+use Rattle.trace_relations.specs.Relations.{IsTimed, ended, moves_of, ticks_of, told_times}
 use Rattle.trace_relations.specs.Ticks.{earliest_time, interval_of, intervals_from, intervals_of, is_too_late, then_on, too_late}
 use Rattle.trace_relations.specs.Times.{times_from, times_moved, times_of}
 
@@ -129,3 +131,8 @@ ticks_are unit as_told spans times origin intervals is from at =
     sym (ticks_same unit as_told spans times is)
     ∙ ap (λ r. then_on r (λ first. then_on (intervals_of unit first spans times) (λ those. Ok (first, those)))) from
     ∙ ap (λ r. then_on r (λ those. Ok (origin, those))) at
+
+-- a fault is passed on
+pub passed_on : (unit : TickUnit) (as_told : AsTold) (spans : List Span) (result : Result Timed RelationsFault) (fault : RelationsFault) → IsErrAnd result (λ other. other ≡ fault) → IsFault fault (ticks_of unit as_told spans) → IsTimed unit as_told spans result
+passed_on unit as_told spans (Ok timed) fault is at = absurd is
+passed_on unit as_told spans (Err other) fault is at = subst (λ those. IsFault those (ticks_of unit as_told spans)) (sym is) at

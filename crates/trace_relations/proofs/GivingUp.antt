@@ -33,7 +33,7 @@ starts_not name word lacks = false_from_ne_true (starts_with nat_eq name word) (
 word_there : (name word : List ℕ) (i : ℕ) (rest : List ℕ) → drop i name ≡ word ++ rest → has_word name word ≡ true
 word_there [] word i rest is = starts_here [] word rest (sym (drop_none i) ∙ is)
   where
-    drop_none : (n : ℕ) → drop n [] ≡ []
+    drop_none : (n : ℕ) → drop {A = ℕ} n [] ≡ []
     drop_none zero = refl
     drop_none (suc n) = refl
 word_there (c ∷ name) word zero rest is = or_left (starts_with nat_eq (c ∷ name) word) (has_word name word) (starts_here (c ∷ name) word rest is)
@@ -84,8 +84,8 @@ any_table : (p : ℕ → ℕ → Bool) (n : ℕ) (order : List ℕ) (place : ℕ
     → set_for (map (λ caller. list_any (p caller) order) (range_with_len 0 n)) who true ≡ map (λ caller. list_any (p caller) (order ++ place ∷ [])) (range_with_len 0 n)
 any_table p n order place who is =
     table_for (λ caller. list_any (p caller) order) (λ caller. list_any (p caller) (order ++ place ∷ [])) n who true
-    (λ k no. any_more (p k) order place false (is k ∙ no) ∙ or_none (list_any (p k) order))
-    (λ k yes. any_more (p k) order place true (is k ∙ yes) ∙ or_right (list_any (p k) order) true refl)
+    (λ k apart. any_more (p k) order place false (is k ∙ apart) ∙ or_none (list_any (p k) order))
+    (λ k same. any_more (p k) order place true (is k ∙ same) ∙ or_right (list_any (p k) order) true refl)
 
 last_pushed : (o : Option ℕ) (xs : List ℕ) (x : ℕ) → last_or o (xs ++ x ∷ []) ≡ Some x
 last_pushed o [] x = refl
@@ -98,8 +98,8 @@ last_table : (p : ℕ → ℕ → Bool) (n : ℕ) (order : List ℕ) (place : �
     → set_for (map (λ caller. last_or None (filter (p caller) order)) (range_with_len 0 n)) who (Some place) ≡ map (λ caller. last_or None (filter (p caller) (order ++ place ∷ []))) (range_with_len 0 n)
 last_table p n order place who is =
     table_for (λ caller. last_or None (filter (p caller) order)) (λ caller. last_or None (filter (p caller) (order ++ place ∷ []))) n who (Some place)
-    (λ k no. ap (last_or None) (filter_one (p k) order place false (is k ∙ no) ∙ append-nil (filter (p k) order)))
-    (λ k yes. ap (last_or None) (filter_one (p k) order place true (is k ∙ yes)) ∙ last_pushed None (filter (p k) order) place)
+    (λ k apart. ap (last_or None) (filter_one (p k) order place false (is k ∙ apart) ∙ append-nil (filter (p k) order)))
+    (λ k same. ap (last_or None) (filter_one (p k) order place true (is k ∙ same)) ∙ last_pushed None (filter (p k) order) place)
 
 and_turned : (a b : Bool) → (a && b) ≡ (b && a)
 and_turned true true = refl
@@ -254,16 +254,16 @@ itself_is called order callers place failed ended has all are lt failed_is ended
 
 pub ran_is : (called : Called) (order : List ℕ) (callers : Callers) (caller place : ℕ) (ran late unnamed : Bool) → HasAllPlaces called order → AreCallers called order callers → is_child called.parents caller place ≡ true → caller < length called.spans
     → unwrap_or (slice_get callers.has_run_on.items caller) false ≡ true → ran ≡ runs_on called caller place → late ≡ is_late (slice_get called.spans caller) → unnamed ≡ is_unnamed (slice_get called.spans caller) → (ran && (late || unnamed)) ≡ was_called called order caller place
-ran_is called order callers caller place ran late unnamed all are child lt known ran_is late_is unnamed_is =
-    let any : list_any (ran_on called caller) (places called) ≡ true = sym (run_on_known called order callers caller all are lt) ∙ known in
-    let own : ran ≡ ran_on called caller place = ran_is ∙ ap (λ b. b && runs_on called caller place) (sym child) in
+ran_is called order callers caller place ran late unnamed all are child lt told own_is late_is unnamed_is =
+    let any : list_any (ran_on called caller) (places called) ≡ true = sym (run_on_known called order callers caller all are lt) ∙ told in
+    let own : ran ≡ ran_on called caller place = own_is ∙ ap (λ b. b && runs_on called caller place) (sym child) in
     ap (λ b. b && (late || unnamed)) own ∙ ap (λ b. ran_on called caller place && (b || unnamed)) late_is ∙ ap (λ b. ran_on called caller place && (is_late (slice_get called.spans caller) || b)) unnamed_is
     ∙ sym (ap (λ b. cond b (ran_on called caller place && (is_late (slice_get called.spans caller) || is_unnamed (slice_get called.spans caller))) (is_late (slice_get called.spans caller) && is_last_answer called order caller place)) any)
 
 pub answer_is : (called : Called) (order : List ℕ) (callers : Callers) (caller place : ℕ) (late same : Bool) → HasAllPlaces called order → AreCallers called order callers → caller < length called.spans
     → unwrap_or (slice_get callers.has_run_on.items caller) false ≡ false → late ≡ is_late (slice_get called.spans caller) → same ≡ option_eq nat_eq (parent_at callers.answer.items caller) (Some place) → (late && same) ≡ was_called called order caller place
-answer_is called order callers caller place late same all are lt known late_is same_is =
-    let none : list_any (ran_on called caller) (places called) ≡ false = sym (run_on_known called order callers caller all are lt) ∙ known in
+answer_is called order callers caller place late same all are lt told late_is same_is =
+    let none : list_any (ran_on called caller) (places called) ≡ false = sym (run_on_known called order callers caller all are lt) ∙ told in
     ap (λ b. b && same) late_is ∙ ap (λ b. is_late (slice_get called.spans caller) && b) (same_is ∙ ap (λ o. option_eq nat_eq o (Some place)) (answer_known called order callers caller are lt))
     ∙ sym (ap (λ b. cond b (ran_on called caller place && (is_late (slice_get called.spans caller) || is_unnamed (slice_get called.spans caller))) (is_late (slice_get called.spans caller) && is_last_answer called order caller place)) none)
 

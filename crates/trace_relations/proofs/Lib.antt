@@ -7,6 +7,7 @@ pub mod GivingUp
 pub mod Grouped
 pub mod Hosting
 pub mod Keying
+pub mod LeftAsTold
 pub mod Lineage
 pub mod Meanings
 pub mod Moving

@@ -10,12 +10,14 @@ use Rattle.trace_relations.specs.declared.hosts.Host.{Host}
 use Rattle.trace_relations.specs.declared.moment.Interval.{Interval}
 use Rattle.trace_relations.specs.Ancestry.{is_first_of_circle, known, parent_at, parent_without_circles, without_circles}
 use Rattle.trace_relations.specs.Attempts.{Attempts}
+use Rattle.trace_relations.specs.ByStart.{AreByStart, AreInTurn}
 use Rattle.trace_relations.specs.GivenUp.{Called}
 use Rattle.trace_relations.specs.Hosts.{hosts_of}
 use Rattle.trace_relations.specs.KeptAttempts.{value_at}
 use Rattle.trace_relations.specs.Parents.{all_references, other_place, place_of, references_from, references_of, unless_same, with_found, with_meant}
 use Rattle.trace_relations.specs.Relations.{PlainRelations, given_up_of, parent_meant, parents_of, relations_with, tried_of}
 use Rattle.trace_relations.specs.Waits.{waiting_parents}
+use Rattle.trace_relations.proofs.Turns.{in_turn, place_among}
 use mathlib.Core.Path.{fun_ext}
 
 abbrev IsBelow : ℕ → ℕ → Type 0
@@ -100,11 +102,6 @@ parent_kept intervals parents place parent is =
 pub parents_are_spans : (spans : List Span) (intervals : List Interval) (place parent : ℕ) → parent_at (parents_of spans intervals) place ≡ Some parent → parent < length spans
 parents_are_spans spans intervals place parent is = meant_within spans place parent (parent_kept intervals (map parent_meant (all_references spans)) place parent is)
 
-pub parents_within : (spans : List Span) (intervals : List Interval) (references : List (List ℕ × Bool)) (named parents : List (Option ℕ)) → references ≡ all_references spans → named ≡ map parent_meant references → parents ≡ without_circles intervals named
-    → (place caller : ℕ) → parent_at parents place ≡ Some caller → caller < length spans
-parents_within spans intervals references named parents meant_are named_are parents_are place caller is =
-    parents_are_spans spans intervals place caller (ap (λ those. parent_at those place) (sym (parents_are ∙ ap (without_circles intervals) (named_are ∙ ap (map parent_meant) meant_are))) ∙ is)
-
 -- ---- all relations
 
 made : ℤ → List Interval → List (List ℕ × Bool) → List ℕ → List (Option ℕ) → List Host → List (Option ℕ) → Attempts → List (Option ℕ) → PlainRelations
@@ -167,3 +164,45 @@ known_or (Some place) = refl
 -- which call tries each again, as it is kept
 pub next_kept : (next : List (Option ℕ)) → parent_at next ≡ value_at next (λ place. None)
 next_kept next = fun_ext (λ place. known_or (slice_get next place))
+
+-- ---- the same of lists that are seen as slices
+
+pub hosts_seen : (i seen_i : List Interval) (p seen_p : List (Option ℕ)) (hosts : List Host) → seen_i ≡ i → seen_p ≡ p → hosts ≡ hosts_of seen_i seen_p → hosts ≡ hosts_of i p
+hosts_seen i seen_i p seen_p hosts e f is = is ∙ ap (λ those. hosts_of those seen_p) e ∙ ap (hosts_of i) f
+
+pub waiting_seen : (spans : List Span) (i seen_i : List Interval) (r seen_r : List (List ℕ × Bool)) (p seen_p waiting : List (Option ℕ)) → seen_i ≡ i → seen_r ≡ r → seen_p ≡ p → waiting ≡ waiting_parents spans seen_i seen_r seen_p → waiting ≡ waiting_parents spans i r p
+waiting_seen spans i seen_i r seen_r p seen_p waiting e f g is =
+    is ∙ ap (λ those. waiting_parents spans those seen_r seen_p) e ∙ ap (λ those. waiting_parents spans i those seen_p) f ∙ ap (waiting_parents spans i r) g
+
+pub tried_seen : (as_told : AsTold) (spans : List Span) (i seen_i : List Interval) (o seen_o : List ℕ) (h seen_h : List Host) (w seen_w : List (Option ℕ)) (attempts : Attempts) → seen_i ≡ i → seen_o ≡ o → seen_h ≡ h → seen_w ≡ w
+    → attempts ≡ tried_of as_told spans seen_i seen_o seen_h seen_w → attempts ≡ tried_of as_told spans i o h w
+tried_seen as_told spans i seen_i o seen_o h seen_h w seen_w attempts e f g k is =
+    is ∙ ap (λ those. tried_of as_told spans those seen_o seen_h seen_w) e ∙ ap (λ those. tried_of as_told spans i those seen_h seen_w) f ∙ ap (λ those. tried_of as_told spans i o those seen_w) g ∙ ap (tried_of as_told spans i o h) k
+
+pub given_up_seen : (as_told : AsTold) (spans : List Span) (o seen_o : List ℕ) (i seen_i : List Interval) (r seen_r : List (List ℕ × Bool)) (p seen_p w seen_w n seen_n given_up : List (Option ℕ)) → seen_o ≡ o → seen_i ≡ i → seen_r ≡ r → seen_p ≡ p → seen_w ≡ w → seen_n ≡ n
+    → given_up ≡ given_up_of as_told spans seen_o (record { spans = spans; intervals = seen_i; references = seen_r; parents = seen_p; waiting = seen_w; next = parent_at seen_n })
+    → given_up ≡ given_up_of as_told spans o (record { spans = spans; intervals = i; references = r; parents = p; waiting = w; next = parent_at n })
+unfolding called_made
+given_up_seen as_told spans o seen_o i seen_i r seen_r p seen_p w seen_w n seen_n given_up e f g h k l is =
+    is
+    ∙ ap (λ those. given_up_of as_told spans those (called_made spans seen_i seen_r seen_p seen_w (parent_at seen_n))) e
+    ∙ ap (λ those. given_up_of as_told spans o (called_made spans those seen_r seen_p seen_w (parent_at seen_n))) f
+    ∙ ap (λ those. given_up_of as_told spans o (called_made spans i those seen_p seen_w (parent_at seen_n))) g
+    ∙ ap (λ those. given_up_of as_told spans o (called_made spans i r those seen_w (parent_at seen_n))) h
+    ∙ ap (λ those. given_up_of as_told spans o (called_made spans i r p those (parent_at seen_n))) k
+    ∙ ap (λ those. given_up_of as_told spans o (called_made spans i r p w (parent_at those))) l
+
+pub parents_seen : (i seen_i : List Interval) (r seen_r : List (List ℕ × Bool)) (named seen_named parents : List (Option ℕ)) → seen_r ≡ r → seen_i ≡ i → seen_named ≡ named → named ≡ map parent_meant seen_r → parents ≡ without_circles seen_i seen_named → parents ≡ without_circles i (map parent_meant r)
+parents_seen i seen_i r seen_r named seen_named parents e f g named_is is =
+    is ∙ ap (λ those. without_circles those seen_named) f ∙ ap (without_circles i) (g ∙ named_is ∙ ap (map parent_meant) e)
+
+pub in_turn_seen : (i seen_i : List Interval) (o seen_o : List ℕ) → seen_i ≡ i → seen_o ≡ o → AreByStart i o → AreInTurn seen_i seen_o
+in_turn_seen i seen_i o seen_o e f by = subst (λ those. AreInTurn those seen_o) (sym e) (subst (AreInTurn i) (sym f) (in_turn i o by))
+
+pub places_seen : (spans : List Span) (i : List Interval) (o seen_o : List ℕ) → seen_o ≡ o → AreByStart i o → length i ≡ length spans → (place : ℕ) → place < length spans → list_any (nat_eq place) seen_o ≡ true
+places_seen spans i o seen_o f by long place lt = ap (list_any (nat_eq place)) f ∙ place_among i o by place (omega arith)
+
+pub spans_seen : (spans : List Span) (i : List Interval) (r : List (List ℕ × Bool)) (parents seen_parents : List (Option ℕ)) → r ≡ all_references spans → seen_parents ≡ parents → parents ≡ without_circles i (map parent_meant r)
+    → (place caller : ℕ) → parent_at seen_parents place ≡ Some caller → caller < length spans
+spans_seen spans i r parents seen_parents meant_are seen is place caller at =
+    parents_are_spans spans i place caller (ap (λ those. parent_at those place) (sym (seen ∙ is ∙ ap (λ those. without_circles i (map parent_meant those)) meant_are)) ∙ at)

@@ -14,11 +14,10 @@ use Rattle.std.specs.Prelude.{nat_eq}
 use mathlib.Core.Path.{fun_ext}
 use Rattle.trace_spans.specs.declared.span.Span.{Span}
 use Rattle.trace_relations.specs.declared.attempts.Attempts.{Attempts as Kept}
-use Rattle.trace_relations.specs.Attempts.{Attempts, CallsOf, can_try, first_try, is_failed_call, is_same_call, same_caller, tried_again, tried_once, with_try}
+use Rattle.trace_relations.specs.Attempts.{Attempts, CallsOf, can_try, first_try, has_failed, is_failed_call, is_same_call, same_caller, tried_again, tried_once, with_try}
 use Rattle.trace_relations.specs.KeptAttempts.{AreKept, plain_attempts, value_at}
 use Rattle.trace_relations.specs.Moments.{ended_before, interval_at, start_moment}
 use Rattle.trace_relations.proofs.Gets.{value-set}
-use Rattle.trace_relations.proofs.Grouped.{failed_is_call}
 
 made : (ℕ → Option ℕ) → (ℕ → Option ℕ) → (ℕ → ℕ) → (ℕ → ℕ) → Attempts
 made next previous first last = record { next = next; previous = previous; first = first; last = last }
@@ -29,7 +28,7 @@ same_attempts n n' p p' f f' l l' next previous first last =
 
 -- ---- each call is tried once
 
-none_at : (n place : ℕ) → unwrap_or (slice_get (replicate n None) place) None ≡ None
+none_at : (n place : ℕ) → unwrap_or {T = Option ℕ} (slice_get (replicate n None) place) None ≡ None
 none_at zero place = refl
 none_at (suc n) zero = refl
 none_at (suc n) (suc place) = none_at n place
@@ -116,11 +115,11 @@ tried_is count old new call again first kept lt lt_again tried =
 
 found_passes : (p : ℕ → Bool) (xs : List ℕ) (x : ℕ) → find p xs ≡ Some x → p x ≡ true
 found_passes p [] x found = absurd (none-some x found)
-found_passes p (y ∷ ys) x found = by_test (p y) refl found
+found_passes p (y ∷ ys) x found = by_test (p y) refl found (found_passes p ys x)
   where
-    by_test : (b : Bool) → p y ≡ b → cond b (Some y) (find p ys) ≡ Some x → p x ≡ true
-    by_test true is here = ap p (sym (same_Some y x here)) ∙ is
-    by_test false is here = found_passes p ys x here
+    by_test : (b : Bool) → p y ≡ b → cond b (Some y) (find p ys) ≡ Some x → (find p ys ≡ Some x → p x ≡ true) → p x ≡ true
+    by_test true is here rest = ap p (sym (same_Some y x here)) ∙ is
+    by_test false is here rest = rest here
 
 same_is_span : (span other : Option Span) → is_same_call span other ≡ true → is_some other ≡ true
 same_is_span None other same = absurd (false≢true same)
@@ -182,7 +181,11 @@ tried_next calls order first so_far i call lt is e = by_test (is_failed_call cal
     by_test false passes = tried_same calls order first so_far i call lt is passes e
 
 pub call_within : (calls : CallsOf) (call : ℕ) → is_failed_call calls call ≡ true → call < length calls.spans
-call_within calls call fails = let one = failed_is_call calls call fails in slice_get_within calls.spans call one.span one.span_is
+call_within calls call fails = failed_within calls.spans call (slice_get calls.spans call) refl (and_parts (has_failed (slice_get calls.spans call)) (is_some (calls.callers call)) fails).0
+  where
+    failed_within : (spans : List Span) (place : ℕ) (o : Option Span) → slice_get spans place ≡ o → has_failed o ≡ true → place < length spans
+    failed_within spans place None is failed = absurd (false≢true failed)
+    failed_within spans place (Some span) is failed = slice_get_within spans place span is
 
 -- ---- what one call comes to
 

@@ -48,10 +48,10 @@ once_from place i (x ∷ xs) = by_test (nat_eq place i) refl (once_from place (i
     by_test : (b : Bool) → nat_eq place i ≡ b → sum_by (one_at place) (starts_from (i + 1) xs) ≤ 1 → sum_by (one_at place) ((x.start, i) ∷ starts_from (i + 1) xs) ≤ 1
     by_test true is rest =
         let e : place ≡ i = eqb-true place i is in
-        let f : cond (nat_eq place i) 1 0 ≡ 1 = ap (λ b. cond b 1 0) is in
+        let f : ◌≡◌ {A = ℕ} (cond (nat_eq place i) 1 0) 1 = ap (λ b. cond b 1 0) is in
         omega (arith, sum_by-cons (one_at place) (x.start, i) (starts_from (i + 1) xs), f, none_below place (i + 1) xs (omega arith))
     by_test false is rest =
-        let f : cond (nat_eq place i) 1 0 ≡ 0 = ap (λ b. cond b 1 0) is in
+        let f : ◌≡◌ {A = ℕ} (cond (nat_eq place i) 1 0) 0 = ap (λ b. cond b 1 0) is in
         omega (arith, sum_by-cons (one_at place) (x.start, i) (starts_from (i + 1) xs), f, rest)
 
 abbrev AreApart : ℕ × ℕ → ℕ × ℕ → Type 0
@@ -60,12 +60,12 @@ AreApart start other = start.1 ≢ other.1
 pairs_apart : (starts : List (ℕ × ℕ)) → ((place : ℕ) → sum_by (one_at place) starts ≤ 1) → AllPairs AreApart starts
 pairs_apart [] once = λ i j d lt within. absurd (omega arith)
 pairs_apart (start ∷ starts) once =
-    let own : cond (nat_eq start.1 start.1) 1 0 ≡ 1 = ap (λ b. cond b 1 0) (eq-eqb start.1 start.1 refl) in
+    let own : ◌≡◌ {A = ℕ} (cond (nat_eq start.1 start.1) 1 0) 1 = ap (λ b. cond b 1 0) (eq-eqb start.1 start.1 refl) in
     let one : sum_by (one_at start.1) (start ∷ starts) ≤ 1 = once start.1 in
     let none : sum_by (one_at start.1) starts ≡ 0 = omega (arith, sum_by-cons (one_at start.1) start starts, own) in
     AllPairs-cons AreApart start starts
     (λ k d within same.
-    let here : cond (nat_eq start.1 (get_or starts k d).1) 1 0 ≡ 1 = ap (λ b. cond b 1 0) (eq-eqb start.1 (get_or starts k d).1 same) in
+    let here : ◌≡◌ {A = ℕ} (cond (nat_eq start.1 (get_or starts k d).1) 1 0) 1 = ap (λ b. cond b 1 0) (eq-eqb start.1 (get_or starts k d).1 same) in
     omega (arith, here, none, get_or-le-sum_by (one_at start.1) starts k d within))
     (pairs_apart starts (λ place. omega (arith, once place, sum_by-cons (one_at place) start starts)))
 

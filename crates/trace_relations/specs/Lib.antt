@@ -16,6 +16,7 @@ pub mod Hosts
 pub mod KeptAttempts
 pub mod KeptCalled
 pub mod KeptMoves
+pub mod KeptRelations
 pub mod Keys
 pub mod LateEnds
 pub mod Lines

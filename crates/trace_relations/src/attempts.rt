@@ -11,7 +11,7 @@ use crate::ancestry::parent_at;
 use crate::call_groups::{Groups, groups_of};
 use crate::hosts::Host;
 use crate::moment::{Interval, interval_at};
-use crate::set_at::set_at;
+use crate::set_at::{nothing_for, set_at};
 use std::alloc::{AllocError, Global};
 use trace_spans::Span;
 
@@ -69,9 +69,11 @@ pub(crate) fn tried_once(alloc: Global, count: usize) -> Result<Attempts, AllocE
         first.push(place)?;
         last.push(place)?;
     }
+    let next = nothing_for(alloc, count)?;
+    let previous = nothing_for(alloc, count)?;
     Ok(Attempts {
-        next: vec![in alloc; None; count]?,
-        previous: vec![in alloc; None; count]?,
+        next,
+        previous,
         first,
         last,
     })
@@ -123,9 +125,9 @@ fn try_call(calls: Calls<'_>, groups: &mut Groups, attempts: &mut Attempts, call
 
 /// Which calls are tried again, where those of one caller to the same stand together in groups.
 fn tried_in(calls: Calls<'_>, order: &[usize], groups: &mut Groups, attempts: &mut Attempts)
-    requires order { AreInTurn calls.entry.intervals.now order.now }
-    requires kept { AreKept (length calls.entry.spans.now) attempts.old }
-    requires groups { AreGroups (calls_with calls.entry) order.now (plain_attempts attempts.old) groups.old }
+    requires order { AreInTurn calls.intervals.now order.now }
+    requires kept { AreKept (length calls.spans.now) attempts.old }
+    requires groups { AreGroups (calls_with calls) order.now (plain_attempts attempts.old) groups.old }
     ensures { plain_attempts attempts.new ≡ fold (tried_again (calls_with calls.entry) order.now) (plain_attempts attempts.old) (filter (is_failed_call (calls_with calls.entry)) order.now) }
 {
     for call in order {
@@ -140,7 +142,7 @@ pub(crate) fn attempts_of(
     calls: Calls<'_>,
     order: &[usize],
 ) -> Result<Attempts, AllocError>
-    requires { AreInTurn calls.entry.intervals.now order.now }
+    requires { AreInTurn calls.intervals.now order.now }
     ensures { IfOk result (λ attempts. plain_attempts attempts ≡ attempts_of (calls_with calls.entry) order.now) }
 {
     let mut attempts = tried_once(alloc, calls.spans.len())?;

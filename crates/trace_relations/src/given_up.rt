@@ -1,6 +1,9 @@
 //! Calls that were given up.
-ghost use Rattle.std.specs.Prelude.{◌≡◌, ◌<◌, ◌++◌, [], ◌∷◌, ℕ, List, true, false, not, length, IfOk, slice_get, unwrap_or};
-ghost use Rattle.trace_relations.specs.GivenUp.{all_given_up, answers, failed_by_itself, given_up_by, has_word, is_child, is_failure, is_late, is_unnamed, runs_on, says_late, sends_none, was_called};
+ghost use Rattle.std.specs.Prelude.{◌≡◌, ◌<◌, ◌++◌, ◌&&◌, ◌||◌, [], ◌∷◌, ℕ, List, Some, true, false, nat_eq, not, length, IfOk, slice_get, unwrap_or};
+ghost use Rattle.std.specs.Option.{option_eq};
+ghost use Rattle.trace_relations.specs.Ancestry.{parent_at};
+ghost use Rattle.trace_relations.specs.Attempts.{has_failed};
+ghost use Rattle.trace_relations.specs.GivenUp.{all_given_up, answers, failed_by_itself, given_up_by, has_end, has_word, is_child, is_failure, is_late, is_unnamed, runs_on, says_late, sends_none, was_called};
 ghost use Rattle.trace_relations.specs.KeptCalled.{AreCallers, HasAllPlaces, ParentsAreSpans, answered, called_with, failed_for, outlived};
 
 use crate::ancestry::parent_at;
@@ -8,7 +11,7 @@ use crate::attempts::has_failed;
 use crate::calls::{is_message, produces};
 use crate::moment::{Interval, interval_at};
 use crate::references::References;
-use crate::set_at::set_for;
+use crate::set_at::{nothing_for, set_for};
 use crate::waits::is_named;
 use std::alloc::{AllocError, Global};
 use trace_spans::Span;
@@ -176,10 +179,13 @@ fn callers_of(alloc: Global, called: Called<'_>, order: &[usize]) -> Result<Call
     ensures { IfOk result (AreCallers (called_with called.entry) order.now) }
 {
     let count = called.spans.len();
+    let has_failure = vec![in alloc; false; count]?;
+    let has_run_on = vec![in alloc; false; count]?;
+    let answer = nothing_for(alloc, count)?;
     let mut callers = Callers {
-        has_failure: vec![in alloc; false; count]?,
-        has_run_on: vec![in alloc; false; count]?,
-        answer: vec![in alloc; None; count]?,
+        has_failure,
+        has_run_on,
+        answer,
     };
     for place in order {
         note(&mut callers, called, *place);
@@ -187,14 +193,35 @@ fn callers_of(alloc: Global, called: Called<'_>, order: &[usize]) -> Result<Call
     Ok(callers)
 }
 
+/// Whether a span failed and ended, of which it is told whether a call failed that it waits for.
+fn failed_alone(called: Called<'_>, place: usize, has_failure: bool) -> bool
+    ensures { result ≡ (has_failed (slice_get called.entry.spans.now place) && (has_end called.entry.intervals.now place && not has_failure)) }
+{
+    has_failed(called.spans, place)
+        && interval_at(called.intervals, place).end.is_some()
+        && !has_failure
+}
+
 /// Whether a span failed and ended, and no call that it waits for failed.
 fn failed_by_itself(callers: &Callers, called: Called<'_>, place: usize) -> bool
     ensures { (order : List ℕ) → HasAllPlaces (called_with called.entry) order → AreCallers (called_with called.entry) order callers.now → place < length called.entry.spans.now → result ≡ failed_by_itself (called_with called.entry) place }
 {
-    let failed = has_failed(called.spans, place);
-    let ended = interval_at(called.intervals, place).end.is_some();
     let has_failure = is_set(&callers.has_failure, place);
-    failed && ended && !has_failure
+    failed_alone(called, place, has_failure)
+}
+
+/// Whether a call ran on, and the exception of its caller says that time was up, as is told, or has no name.
+fn outran(called: Called<'_>, caller: usize, place: usize, is_late: bool) -> bool
+    ensures { result ≡ (runs_on (called_with called.entry) caller place && (is_late || is_unnamed (slice_get called.entry.spans.now caller))) }
+{
+    ran_on(called, caller, place) && (is_late || is_unnamed(called.spans, caller))
+}
+
+/// Whether a call was to answer last, and the exception of its caller says that time was up, as is told.
+fn was_answering(callers: &Callers, caller: usize, place: usize, is_late: bool) -> bool
+    ensures { result ≡ (is_late && option_eq nat_eq (parent_at callers.now.answer.items caller) (Some place)) }
+{
+    is_late && parent_at(&callers.answer, caller) == Some(place)
 }
 
 /// Whether a span was called when its caller gave up: it ran on, or was to answer.
@@ -209,12 +236,9 @@ fn was_called(
 {
     let is_late = is_late(alloc, called.spans, caller)?;
     if is_set(&callers.has_run_on, caller) {
-        let ran_on = ran_on(called, caller, place);
-        let is_unnamed = is_unnamed(called.spans, caller);
-        return Ok(ran_on && (is_late || is_unnamed));
+        return Ok(outran(called, caller, place, is_late));
     }
-    let is_answer = parent_at(&callers.answer, caller) == Some(place);
-    Ok(is_late && is_answer)
+    Ok(was_answering(callers, caller, place, is_late))
 }
 
 /// The caller that gave a span up.
@@ -246,8 +270,8 @@ pub(crate) fn all_given_up(
     called: Called<'_>,
     order: &[usize],
 ) -> Result<Vec<Option<usize>>, AllocError>
-    requires places { HasAllPlaces (called_with called.entry) order.now }
-    requires parents { ParentsAreSpans (called_with called.entry) }
+    requires places { HasAllPlaces (called_with called) order.now }
+    requires parents { ParentsAreSpans (called_with called) }
     ensures { IfOk result (λ given_up. given_up.items ≡ all_given_up (called_with called.entry) order.now) }
 {
     let callers = callers_of(alloc, called, order)?;

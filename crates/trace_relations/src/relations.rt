@@ -1,9 +1,10 @@
 //! How the spans of a trace stand to each other.
 ghost use Rattle.std.specs.Prelude.{◌≡◌, ◌≤◌, IfOk, OnOk, length, map};
-ghost use Rattle.trace_relations.specs.Ancestry.{most_spans};
+ghost use Rattle.trace_relations.specs.Ancestry.{most_spans, without_circles};
 ghost use Rattle.trace_relations.specs.ByStart.{AreByStart, AreInTurn};
 ghost use Rattle.trace_relations.specs.KeptAttempts.{plain_attempts};
 ghost use Rattle.trace_relations.specs.KeptCalled.{HasAllPlaces, ParentsAreSpans, called_with};
+ghost use Rattle.trace_relations.specs.KeptRelations.{AreTries, AreWithin, HasAll, IsFamily};
 ghost use Rattle.trace_relations.specs.Parents.{all_references};
 ghost use Rattle.trace_relations.specs.Relations.{AreRelations, IsTimed, ended, given_up_of, parent_meant, plain, relations_with, told_times, tried_of};
 
@@ -17,6 +18,7 @@ use crate::late_ends::{LateEnd, end_with_callers};
 use crate::moment::Interval;
 use crate::placing::{Moved, Placed, placed_times, times_as_told};
 use crate::references::{References, all_references};
+use crate::set_at::nothing_for;
 use crate::starts::by_start;
 use crate::ticks::{earliest_time, intervals_of};
 use crate::unit::Unit;
@@ -75,9 +77,10 @@ fn times_of(
     ensures { IfOk result (λ placed. placed.times.items ≡ told_times as_told spans.now) }
 {
     if as_told.clocks {
+        let times = times_as_told(alloc, spans)?;
         return Ok(Placed {
             moved: Vec::new(alloc),
-            times: times_as_told(alloc, spans)?,
+            times,
         });
     }
     placed_times(alloc, spans, references)
@@ -144,7 +147,7 @@ fn tried_of(
     calls: Calls<'_>,
     order: &[usize],
 ) -> Result<Attempts, AllocError>
-    requires { AreInTurn calls.entry.intervals.now order.now }
+    requires { AreInTurn calls.intervals.now order.now }
     ensures { IfOk result (λ attempts. plain_attempts attempts ≡ tried_of as_told calls.entry.spans.now calls.entry.intervals.now order.now calls.entry.hosts.now calls.entry.waiting.now) }
 {
     if as_told.calls {
@@ -161,15 +164,96 @@ fn given_up_of(
     called: Called<'_>,
     order: &[usize],
 ) -> Result<Vec<Option<usize>>, AllocError>
-    requires places { HasAllPlaces (called_with called.entry) order.now }
-    requires parents { ParentsAreSpans (called_with called.entry) }
+    requires places { HasAllPlaces (called_with called) order.now }
+    requires parents { ParentsAreSpans (called_with called) }
     ensures { IfOk result (λ given_up. given_up.items ≡ given_up_of as_told called.entry.spans.now order.now (called_with called.entry)) }
 {
     if as_told.calls {
-        Ok(vec![in alloc; None; called.spans.len()]?)
+        nothing_for(alloc, called.spans.len())
     } else {
         all_given_up(alloc, called, order)
     }
+}
+
+/// The parents of spans: those that their references mean, without circles.
+fn parents_of(
+    alloc: Global,
+    intervals: &[Interval],
+    references: &[References],
+) -> Result<Vec<Option<usize>>, AllocError>
+    ensures { IfOk result (λ parents. parents.items ≡ without_circles intervals.now (map parent_meant references.now)) }
+{
+    let named = named_parents(alloc, references)?;
+    let parents = without_circles(alloc, intervals, &named)?;
+    Ok(parents)
+}
+
+/// The parents of spans, where spans start, and which parents wait for them.
+#[derive(Drop)]
+struct Family {
+    parents: Vec<Option<usize>>,
+    hosts: Vec<Host>,
+    waiting: Vec<Option<usize>>,
+}
+
+/// The family of spans with these ticks.
+fn family_of(
+    alloc: Global,
+    spans: &[Span],
+    intervals: &[Interval],
+    references: &[References],
+) -> Result<Family, AllocError>
+    ensures { IfOk result (IsFamily spans.now intervals.now references.now) }
+{
+    let parents = parents_of(alloc, intervals, references)?;
+    let hosts = hosts_of(alloc, intervals, &parents)?;
+    let waiting = waiting_parents(alloc, spans, intervals, references, &parents)?;
+    Ok(Family {
+        parents,
+        hosts,
+        waiting,
+    })
+}
+
+/// Which calls were tried again, and which were given up.
+#[derive(Drop)]
+struct Tries {
+    attempts: Attempts,
+    given_up: Vec<Option<usize>>,
+}
+
+/// Which calls of a family were tried again, and which were given up.
+fn tries_of(
+    alloc: Global,
+    as_told: AsTold,
+    spans: &[Span],
+    intervals: &[Interval],
+    references: &[References],
+    order: &[usize],
+    family: &Family,
+) -> Result<Tries, AllocError>
+    requires turn { AreInTurn intervals.now order.now }
+    requires places { HasAll spans.now order.now }
+    requires parents { AreWithin spans.now family.now.parents.items }
+    ensures { IfOk result (AreTries as_told spans.now intervals.now references.now order.now family.now) }
+{
+    let calls = Calls {
+        spans,
+        intervals,
+        hosts: &family.hosts,
+        waiting: &family.waiting,
+    };
+    let attempts = tried_of(alloc, as_told, calls, order)?;
+    let called = Called {
+        spans,
+        intervals,
+        references,
+        parents: &family.parents,
+        waiting: &family.waiting,
+        next: &attempts.next,
+    };
+    let given_up = given_up_of(alloc, as_told, called, order)?;
+    Ok(Tries { attempts, given_up })
 }
 
 /// How spans with these times stand to each other.
@@ -185,45 +269,28 @@ fn related(
     requires count { length timed.intervals.items ≡ length spans.now }
     ensures { IfOk result (λ relations. plain relations ≡ relations_with as_told spans.now timed.origin timed.intervals.items timed.order.items) }
 {
-    let Timed {
-        moved,
-        origin,
-        intervals,
-        late,
-        order,
-    } = timed;
-    let named = named_parents(alloc, &references)?;
-    let parents = without_circles(alloc, &intervals, &named)?;
-    let hosts = hosts_of(alloc, &intervals, &parents)?;
-    let waiting = waiting_parents(alloc, spans, &intervals, &references, &parents)?;
-    let calls = Calls {
+    let family = family_of(alloc, spans, &timed.intervals, &references)?;
+    let tries = tries_of(
+        alloc,
+        as_told,
         spans,
-        intervals: &intervals,
-        hosts: &hosts,
-        waiting: &waiting,
-    };
-    let attempts = tried_of(alloc, as_told, calls, &order)?;
-    let called = Called {
-        spans,
-        intervals: &intervals,
-        references: &references,
-        parents: &parents,
-        waiting: &waiting,
-        next: &attempts.next,
-    };
-    let given_up = given_up_of(alloc, as_told, called, &order)?;
+        &timed.intervals,
+        &references,
+        &timed.order,
+        &family,
+    )?;
     Ok(Relations {
-        moved,
-        origin,
-        intervals,
-        late,
+        moved: timed.moved,
+        origin: timed.origin,
+        intervals: timed.intervals,
+        late: timed.late,
         references,
-        order,
-        parents,
-        hosts,
-        waiting,
-        attempts,
-        given_up,
+        order: timed.order,
+        parents: family.parents,
+        hosts: family.hosts,
+        waiting: family.waiting,
+        attempts: tries.attempts,
+        given_up: tries.given_up,
     })
 }
 

@@ -7,7 +7,11 @@ pub loop-place-preserved : goal.loop-place-preserved
 loop-place-preserved c = (grind (arith, common_steps, range_push c.loop-place.place), grind (arith, common_steps, range_push c.loop-place.place))
 
 pub returns-clause-once : goal.returns-clause-once
-returns-clause-once c = once_is c.args.count _ (record { next = search rules; previous = search rules; first = search rules; last = search rules })
+returns-clause-once c =
+    once_is c.args.count (record { next = c.in_ok-next.next; previous = c.in_ok-previous.previous; first = c.loop-place.first; last = c.loop-place.last })
+    (record { next = c.in_ok-next.ensures; previous = c.in_ok-previous.ensures; first = search rules; last = search rules })
 
 pub returns-clause-kept : goal.returns-clause-kept
-returns-clause-kept c = once_kept c.args.count _ (record { next = search rules; previous = search rules; first = search rules; last = search rules })
+returns-clause-kept c =
+    once_kept c.args.count (record { next = c.in_ok-next.next; previous = c.in_ok-previous.previous; first = c.loop-place.first; last = c.loop-place.last })
+    (record { next = c.in_ok-next.ensures; previous = c.in_ok-previous.ensures; first = search rules; last = search rules })

@@ -5,7 +5,8 @@ use Rattle.trace_relations.proofs.GivingUp.{none_noted}
 use Rattle.trace_relations.proofs.given_up.callers_of.Goals as goal
 
 pub loop-place-init : goal.loop-place-init
-loop-place-init c = none_noted (called_with c.args.called) _ (search rules) (search rules) (search rules)
+loop-place-init c =
+    none_noted (called_with c.args.called) (record { has_failure = c.in_ok-has_failure.has_failure; has_run_on = c.in_ok-has_run_on.has_run_on; answer = c.in_ok-answer.answer }) (search rules) (search rules) (search rules)
 
 pub loop-place-preserved : goal.loop-place-preserved
 loop-place-preserved c =

@@ -1,30 +1,34 @@
-use Rattle.std.proofs.Common.{◌∙◌, ap, arith}
-use Rattle.trace_relations.specs.Ancestry.{parent_at, without_circles}
+use Rattle.std.proofs.Common.{◌∙◌, ap, refl}
+use Rattle.trace_relations.specs.Ancestry.{parent_at}
 use Rattle.trace_relations.specs.KeptAttempts.{plain_attempts}
-use Rattle.trace_relations.proofs.Relating.{next_kept, parents_within, related_is}
-use Rattle.trace_relations.proofs.Turns.{in_turn, place_among}
+use Rattle.trace_relations.proofs.Relating.{given_up_seen, hosts_seen, in_turn_seen, next_kept, parents_seen, places_seen, related_is, spans_seen, tried_seen, waiting_seen}
 use Rattle.trace_relations.proofs.relations.related.Goals as goal
 
-pub tried_of-attempts-requires : goal.tried_of-attempts-requires
-tried_of-attempts-requires c = in_turn c.args.timed.intervals.items c.args.timed.order.items c.requires.order
+pub tries_of-requires-clause-turn : goal.tries_of-requires-clause-turn
+tries_of-requires-clause-turn c = in_turn_seen c.args.timed.intervals.items _ c.args.timed.order.items _ c.deref-3.ensures.value c.deref-5.ensures.value c.requires.order
 
-pub given_up_of-given_up-requires-clause-places : goal.given_up_of-given_up-requires-clause-places
-given_up_of-given_up-requires-clause-places c = λ place lt. place_among c.args.timed.intervals.items c.args.timed.order.items c.requires.order place (omega (arith, c.requires.count))
+pub tries_of-requires-clause-places : goal.tries_of-requires-clause-places
+tries_of-requires-clause-places c = places_seen c.args.spans.now c.args.timed.intervals.items c.args.timed.order.items _ c.deref-5.ensures.value c.requires.order c.requires.count
 
-pub given_up_of-given_up-requires-clause-parents : goal.given_up_of-given_up-requires-clause-parents
-given_up_of-given_up-requires-clause-parents c =
-    parents_within c.args.spans.now c.args.timed.intervals.items c.args.references.items c.in_ok-named.named.items c.in_ok-parents.parents.items c.requires.references c.in_ok-named.ensures c.in_ok-parents.ensures
+pub tries_of-requires-clause-parents : goal.tries_of-requires-clause-parents
+tries_of-requires-clause-parents c =
+    spans_seen c.args.spans.now c.args.timed.intervals.items c.args.references.items c.in_ok-family.family.parents.items _ c.requires.references refl
+    (parents_seen c.args.timed.intervals.items _ c.args.references.items _ _ _ c.in_ok-family.family.parents.items c.deref-2.ensures.value c.deref.ensures.value refl refl c.in_ok-family.ensures.parents)
 
 pub returns : goal.returns
 returns c =
-    related_is c.args.as_told c.args.spans.now c.args.timed.origin c.args.timed.intervals.items c.args.references.items c.args.timed.order.items c.in_ok-parents.parents.items c.in_ok-hosts.hosts.items c.in_ok-waiting.waiting.items
-    (plain_attempts c.in_ok-attempts.attempts) (parent_at c.in_ok-attempts.attempts.next.items) c.in_ok-given_up.given_up.items
+    let intervals = c.args.timed.intervals.items in
+    let references = c.args.references.items in
+    let order = c.args.timed.order.items in
+    let family = c.in_ok-family.family in
+    let tries = c.in_ok-tries.tries in
+    related_is c.args.as_told c.args.spans.now c.args.timed.origin intervals references order family.parents.items family.hosts.items family.waiting.items (plain_attempts tries.attempts) (parent_at tries.attempts.next.items) tries.given_up.items
     (record {
       references_are = c.requires.references;
-      parents_are = c.in_ok-parents.ensures ∙ ap (without_circles c.args.timed.intervals.items) c.in_ok-named.ensures;
-      hosts_are = c.in_ok-hosts.ensures;
-      waiting_are = c.in_ok-waiting.ensures;
-      attempts_are = c.in_ok-attempts.ensures;
-      next_is = next_kept c.in_ok-attempts.attempts.next.items;
-      given_up_are = c.in_ok-given_up.ensures;
+      parents_are = parents_seen intervals _ references _ _ _ family.parents.items c.deref-2.ensures.value c.deref.ensures.value refl refl c.in_ok-family.ensures.parents;
+      hosts_are = hosts_seen intervals _ family.parents.items _ family.hosts.items c.deref.ensures.value refl c.in_ok-family.ensures.hosts;
+      waiting_are = waiting_seen c.args.spans.now intervals _ references _ family.parents.items _ family.waiting.items c.deref.ensures.value c.deref-2.ensures.value refl c.in_ok-family.ensures.waiting;
+      attempts_are = tried_seen c.args.as_told c.args.spans.now intervals _ order _ family.hosts.items _ family.waiting.items _ (plain_attempts tries.attempts) c.deref-3.ensures.value c.deref-5.ensures.value refl refl c.in_ok-tries.ensures.attempts;
+      next_is = next_kept tries.attempts.next.items;
+      given_up_are = given_up_seen c.args.as_told c.args.spans.now order _ intervals _ references _ family.parents.items _ family.waiting.items _ tries.attempts.next.items _ tries.given_up.items c.deref-5.ensures.value c.deref-3.ensures.value c.deref-4.ensures.value refl refl refl c.in_ok-tries.ensures.given_up;
     })
