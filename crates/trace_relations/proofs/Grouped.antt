@@ -34,7 +34,7 @@ own_bytes key = (bytes_eq-Decides key key).1 refl
 
 filter_has : (p : ℕ → Bool) (x : ℕ) (xs : List ℕ) → list_any (nat_eq x) xs ≡ true → p x ≡ true → filter p xs ≡ [] → ⊥
 filter_has p x [] among passes none = false≢true among
-filter_has p x (y ∷ ys) among passes none = by_test (p y) refl none
+filter_has p x (y ∷ ys) among passes none = by_test (p y) refl none (λ any. filter_has p x ys any passes)
   where
     later : p y ≡ false → list_any (nat_eq x) ys ≡ true
     later fails = elim (or_cases (nat_eq x y) (list_any (nat_eq x) ys) among) [
@@ -42,9 +42,9 @@ filter_has p x (y ∷ ys) among passes none = by_test (p y) refl none
       | inr rest ↦ rest
     ]
 
-    by_test : (b : Bool) → p y ≡ b → cond b (y ∷ filter p ys) (filter p ys) ≡ [] → ⊥
-    by_test true is empty = cc
-    by_test false is empty = filter_has p x ys (later is) passes empty
+    by_test : (b : Bool) → p y ≡ b → cond b (y ∷ filter p ys) (filter p ys) ≡ [] → (list_any (nat_eq x) ys ≡ true → filter p ys ≡ [] → ⊥) → ⊥
+    by_test true is empty rest = cc
+    by_test false is empty rest = rest (later is) empty
 
 key_here : (keys : ℕ → Option (List ℕ)) (place : ℕ) (key : List ℕ) → keys place ≡ Some key → has_key keys key place ≡ true
 key_here keys place key is = ap (λ o. option_eq bytes_eq o (Some key)) is ∙ own_bytes key
@@ -147,7 +147,7 @@ more_calls keys places known groups new_groups of_spans key other number place (
 before_or_last : (places : List ℕ) (place other : ℕ) → list_any (nat_eq other) (places ++ place ∷ []) ≡ true → (list_any (nat_eq other) places ≡ true) ⊎ (other ≡ place)
 before_or_last places place other among = elim (or_cases (list_any (nat_eq other) places) (nat_eq other place || false) (sym (list_any-append (nat_eq other) places (place ∷ [])) ∙ among)) [
   | inl before ↦ inl before
-  | inr last ↦ elim (or_cases (nat_eq other place) false last) [ inl same ↦ inr (eqb-true other place same) | inr no ↦ absurd (false≢true no) ]
+  | inr last ↦ elim (or_cases (nat_eq other place) false last) [ inl same ↦ inr (eqb-true other place same) | inr neither ↦ absurd (false≢true neither) ]
 ]
 
 pub grouping_more : {S : Type 0} (keys : ℕ → Option (List ℕ)) (places : List ℕ) (known : HashMap (String Global) ℕ S) (groups new_groups : List Group) (of_spans : List (Option ℕ)) (key : List ℕ) (number place : ℕ) → IsGrouping keys places known groups of_spans

@@ -1,5 +1,8 @@
+pub mod Adding
+pub mod CallKeys
 pub mod Circling
 pub mod ClockFinding
+pub mod Clocked
 pub mod Ending
 pub mod FreeRows
 pub mod Gets
@@ -7,13 +10,17 @@ pub mod GivingUp
 pub mod Grouped
 pub mod Hosting
 pub mod Keying
+pub mod LateEnding
 pub mod Lineage
 pub mod Meanings
 pub mod Moving
+pub mod Narrowing
+pub mod Numbering
 pub mod Pairing
 pub mod Reaching
 pub mod Relating
 pub mod Rooting
 pub mod Taking
+pub mod Telling
 pub mod Trying
 pub mod Turns

@@ -71,11 +71,11 @@ take_one intervals end free calls from number call places first one there are = 
 
 find_filtered : (g q p : ℕ → Bool) → ((x : ℕ) → p x ≡ (g x && q x)) → (xs : List ℕ) → find p xs ≡ find q (filter g xs)
 find_filtered g q p same [] = refl
-find_filtered g q p same (x ∷ xs) = ap (λ b. cond b (Some x) (find p xs)) (same x) ∙ by_test (g x)
+find_filtered g q p same (x ∷ xs) = ap (λ b. cond b (Some x) (find p xs)) (same x) ∙ by_test (g x) (find_filtered g q p same xs)
   where
-    by_test : (b : Bool) → cond (b && q x) (Some x) (find p xs) ≡ find q (cond b (x ∷ filter g xs) (filter g xs))
-    by_test true = ap (λ o. cond (q x) (Some x) o) (find_filtered g q p same xs)
-    by_test false = find_filtered g q p same xs
+    by_test : (b : Bool) → find p xs ≡ find q (filter g xs) → cond (b && q x) (Some x) (find p xs) ≡ find q (cond b (x ∷ filter g xs) (filter g xs))
+    by_test true rest = ap (λ o. cond (q x) (Some x) o) rest
+    by_test false rest = rest
 
 find_number : (q : ℕ → Bool) (xs : List ℕ) (number x : ℕ) → slice_get xs number ≡ Some x → q (unwrap_or (slice_get xs number) 0) ≡ true → ((k : ℕ) → k < number → q (unwrap_or (slice_get xs k) 0) ≡ false) → find q xs ≡ Some x
 find_number q [] number x is passes before = absurd (none-some x is)
@@ -329,6 +329,7 @@ taken_first calls order attempts intervals end call number groups group taken pl
 
 pub taken_groups : (calls : CallsOf) (order : List ℕ) (attempts : Attempts) (intervals : List Interval) (end : Moment) (call number : ℕ) (groups new : Groups) (group new_group : Group) (taken : Option ℕ) → IsIn calls order attempts intervals call number groups group → AreSet groups new number group new_group
     → Takes intervals end group taken new_group.free → AreGroups calls order (with_try attempts call taken) new
+unfolding group_is
 taken_groups calls order attempts intervals end call number groups new group new_group taken is set_so takes =
     let has = group_is calls order attempts call number groups group (is.are.each call is.fails) is.number_is is.there in
     taken_by calls order attempts intervals end call groups new new_group taken is.turn is.are is.fails has set_so (takes_own calls order attempts intervals end call groups taken new_group.free has is.turn takes)
@@ -343,3 +344,14 @@ has_number_there calls order attempts call number groups are fails is =
 
 pub has_some_number : (calls : CallsOf) (order : List ℕ) (attempts : Attempts) (call : ℕ) (groups : Groups) → AreGroups calls order attempts groups → IsFailed calls order call → number_in groups.of_spans.items call ≡ None → ⊥
 has_some_number calls order attempts call groups are fails none = let has = are.each call fails in none-some has.number (sym none ∙ has.number_is)
+
+-- what stands at the number that was taken
+pub take_at : (intervals : List Interval) (end : Moment) (free : ℕ → Bool) (calls : List ℕ) (from number : ℕ) (places : FreePlaces) (taken : Option ℕ) → IsFirstAfter intervals end calls from → IsFirstFree (length calls) free from number → taken ≡ slice_get calls number
+    → AreFree places (length calls) (with_free free number false) → HasTaken intervals end free calls taken places
+take_at intervals end free calls from number places None first one is are = absurd (none_there calls number one.1 (sym is))
+  where
+    none_there : (xs : List ℕ) (k : ℕ) → k < length xs → slice_get xs k ≡ None → ⊥
+    none_there [] k lt none = omega arith
+    none_there (x ∷ xs) zero lt none = none-some x (sym none)
+    none_there (x ∷ xs) (suc k) lt none = none_there xs k (omega arith) none
+take_at intervals end free calls from number places (Some call) first one is are = take_one intervals end free calls from number call places first one (sym is) are

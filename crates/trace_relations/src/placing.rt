@@ -1,5 +1,5 @@
 //! By how much clocks are moved: one after another, each by those that are placed.
-ghost use Rattle.std.specs.Prelude.{◌≡◌, ◌==◌, ◌<◌, ◌≤◌, ◌+◌, ◌^◌, ◌+ℤ◌, ◌-ℤ◌, ◌++◌, ◌∷◌, [], ℕ, List, All, pos, IfOk, IfSome, OnOk, length, option_map, replicate, slice_set, unwrap_or, vec_len, if◌then◌else◌};
+ghost use Rattle.std.specs.Prelude.{◌≡◌, ◌==◌, ◌<◌, ◌≤◌, ◌+◌, ◌^◌, ◌+ℤ◌, ◌-ℤ◌, ◌++◌, ◌∷◌, [], ℕ, List, All, pos, IfOk, IfSome, OnOk, length, option_map, replicate, slice_get, slice_set, unwrap_or, vec_len, if◌then◌else◌};
 ghost use Rattle.std.specs.BinaryHeap.{heap_items};
 ghost use Rattle.std.specs.Int.{int_div_euclid};
 ghost use Rattle.trace_relations.specs.declared.clocks.Pair.{Pair};
@@ -266,24 +266,25 @@ fn narrowed_by(
 {
     let mut range = range;
     for number in numbers {
-        range = narrowed_at(moves, clock, pairs.get(*number), are_whole, range);
+        range = narrowed_at(moves, clock, pairs, *number, are_whole, range);
     }
     range
 }
 
-/// What a pair says of a clock beside a range, if it counts.
+/// What the pair of a number says of a clock beside a range, if it counts.
 fn narrowed_at(
     moves: &[Option<i128>],
     clock: usize,
-    pair: Option<&Pair>,
+    pairs: &[Pair],
+    number: usize,
     are_whole: bool,
     range: Range,
 ) -> Range
     requires moves { AreMovesWithin (2 ^ 100) moves.now }
-    requires pair { IfSome pair (λ one. IsSaid one.now) }
-    ensures { result ≡ narrowed_at (moves_in moves.now) clock are_whole range (option_map (λ one. one.now) pair) }
+    requires pairs { All IsSaid pairs.now }
+    ensures { result ≡ narrowed_at (moves_in moves.now) clock are_whole range (slice_get pairs.now number) }
 {
-    match pair {
+    match pairs.get(number) {
         Some(pair) => {
             if counts_as(pair, are_whole) {
                 range.narrowed(says_of(moves, clock, pair))

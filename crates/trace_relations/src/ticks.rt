@@ -56,6 +56,7 @@ fn nanoseconds_after(origin: i128, time: i128) -> u128
 }
 
 /// The tick of a time in a trace that begins at another, if it isn't too late.
+#[tactic(auto, unfolding(crate::specs::Ticks::tick_of))]
 fn tick_of(unit: Unit, origin: i128, time: i128) -> Option<u64>
     ensures { result ≡ tick_if unit origin time }
 {
@@ -99,6 +100,7 @@ fn is_late(unit: Unit, origin: i128, time: Option<i128>) -> bool
 }
 
 /// The ticks of the times of a span, unless one is too late.
+#[tactic(auto, unfolding(crate::specs::Ticks::interval_of))]
 fn interval_of(unit: Unit, origin: i128, times: Times) -> Option<Interval>
     ensures { result ≡ interval_if unit origin times }
 {

@@ -23,7 +23,7 @@ loop-place-preserved c =
     record {
       grouping = subst (λ those. IsGrouping (group_key (calls_with c.args.calls) c.in_ok-failing.failing.items) those c.add.new.self.known c.add.new.self.groups.items c.add.new.self.of_spans.items) (sym more)
           (c.in_ok-add.ensures.grouping (group_key (calls_with c.args.calls) c.in_ok-failing.failing.items) (take i order) (search rules) c.loop-place.invariant.grouping);
-      short = All-more (IsShort (calls_with c.args.calls) c.in_ok-failing.failing.items) order i 0 (omega arith) c.loop-place.invariant.short (search rules);
+      short = All-more (IsShort (calls_with c.args.calls) c.in_ok-failing.failing.items) order i 0 (omega arith) c.loop-place.invariant.short ?;
       count = search rules;
     }
 
