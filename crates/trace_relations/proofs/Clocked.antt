@@ -1,9 +1,9 @@
 -- Times by clocks that are moved.
 use Rattle.std.proofs.Common.{◌≡◌, ℕ, suc, zero, ◌+◌, ◌^◌, ◌<◌, ◌≤◌, ℤ, pos, List, [], ◌∷◌, ◌++◌, Bool, true, false, cond, drop, get_or, length, map, min, Option, Some, None, refl, sym, ap, ◌∙◌, arith}
-use Rattle.std.specs.Prelude.{IfSome, slice_get, unwrap_or}
-use Rattle.std.specs.Ordering.{int_eq}
-use Rattle.std.proofs.lemmas.Bool.{cond-false, cond-true}
-use Rattle.std.proofs.lemmas.List.{append-nil, append_assoc, drop_all, drop_more, length-map}
+use Rattle.std.specs.Prelude.{◌&&◌, IfSome, filter, nat_eq, unwrap_or}
+use Rattle.std.specs.List.{range_with_len}
+use Rattle.std.proofs.lemmas.Bool.{cond-false}
+use Rattle.std.proofs.lemmas.List.{append-nil, append_assoc, drop_all, drop_more, length-map, map-append}
 use Rattle.std.proofs.lemmas.Option.{slice_get-get_or}
 use mathlib.Core.Path.{fun_ext}
 use Rattle.trace_spans.specs.declared.span.Span.{Span}
@@ -11,11 +11,12 @@ use Rattle.trace_relations.specs.declared.placing.Moved.{Moved}
 use Rattle.trace_relations.specs.declared.times.Times.{Times}
 use Rattle.trace_relations.specs.ClockNumbers.{AreClocks, all_pairs, clock_at, is_root_clock}
 use Rattle.trace_relations.specs.Clocks.{Moves, clock_of, placed}
-use Rattle.trace_relations.specs.KeptMoves.{AreMovesWithin, IsAtMost, all_moved, moved_from, moves_in}
-use Rattle.trace_relations.specs.Moves.{all_moves, all_placed, roots_placed}
+use Rattle.trace_relations.specs.KeptMoves.{AreMovesWithin, IsAtMost, moved_if, moves_in}
+use Rattle.trace_relations.specs.Moves.{all_moves, all_placed, is_moved, moved_clock, moved_clocks, roots_placed}
 use Rattle.trace_relations.specs.Times.{times_from, times_moved, times_of}
 use Rattle.trace_relations.proofs.ClockFinding.{clock_read}
 use Rattle.trace_relations.proofs.Moving.{moves_at, zero_at_most}
+use Rattle.trace_relations.proofs.Numbering.{filter_last}
 
 -- ---- one span after another
 
@@ -65,39 +66,58 @@ root_or_not true = refl
 root_or_not false = refl
 
 -- where no pair says anything, no clock is moved
+moves_are_none : (spans : List Span) → [] ≡ all_pairs spans → all_moves spans ≡ (λ place. pos 0)
+moves_are_none spans none =
+    fun_ext (λ place.
+    ap (λ (those : Moves). unwrap_or (those (clock_at spans place)) (pos 0)) (ap (λ pairs. placed pairs (length spans) (roots_placed spans)) (sym none) ∙ none_next (roots_placed spans) (length spans))
+    ∙ root_or_not (is_root_clock spans (clock_at spans place)))
+
 pub none_moved : (spans : List Span) (times : List Times) → [] ≡ all_pairs spans → times ≡ times_of (λ place. pos 0) spans → times ≡ times_of (all_moves spans) spans
-none_moved spans times none is =
-    is ∙ ap (λ by. times_of by spans)
-    (fun_ext (λ place. sym (ap (λ (those : Moves). unwrap_or (those (clock_at spans place)) (pos 0)) (ap (λ pairs. placed pairs (length spans) (roots_placed spans)) (sym none) ∙ none_next (roots_placed spans) (length spans)) ∙ root_or_not (is_root_clock spans (clock_at spans place)))))
+none_moved spans times none is = is ∙ ap (λ by. times_of by spans) (sym (moves_are_none spans none))
 
 -- ---- clocks that are moved
 
--- a clock more
-abbrev pub moved_if : ℕ → Option ℤ → List Moved
-moved_if clock None = []
-moved_if clock (Some by) = cond (int_eq by (pos 0)) [] (record { clock = clock; by = by } ∷ [])
+-- those of so many spans
+abbrev pub moved_before : List Span → (ℕ → ℤ) → ℕ → List Moved
+moved_before spans by count = map (moved_clock by) (filter (is_moved spans by) (range_with_len 0 count))
 
-moved_first : (clock : ℕ) (by : Option ℤ) (moves : List (Option ℤ)) → moved_from clock (by ∷ moves) ≡ moved_if clock by ++ moved_from (clock + 1) moves
-moved_first clock None moves = refl
-moved_first clock (Some by) moves = by_test (int_eq by (pos 0))
+pub moved_more : (spans : List Span) (clocks : List ℕ) (moves : List (Option ℤ)) (place clock : ℕ) (by : ℤ) (so_far new : List Moved) → AreClocks spans clocks → place < length clocks → clock ≡ get_or clocks place clock → by ≡ unwrap_or (moves_in moves clock) (pos 0)
+    → so_far ≡ moved_before spans (moved_by spans moves) place → new ≡ so_far ++ moved_if place clock by → new ≡ moved_before spans (moved_by spans moves) (place + 1)
+moved_more spans clocks moves place clock by so_far new are lt is by_is before now =
+    let here : clock_at spans place ≡ clock = clock_read spans clocks place are ∙ ap (λ o. unwrap_or o place) (slice_get-get_or clocks place clock lt ∙ ap Some (sym is)) in
+    let move : by ≡ moved_by spans moves place = by_is ∙ ap (λ c. unwrap_or (moves_in moves c) (pos 0)) (sym here) in
+    let e : suc place ≡ place + 1 = omega arith in
+    let f : 0 + place ≡ place = omega arith in
+    now ∙ ap (λ those. those ++ moved_if place clock by) before
+    ∙ ap (λ c. moved_before spans (moved_by spans moves) place ++ moved_if place c by) (sym here)
+    ∙ ap (λ z. moved_before spans (moved_by spans moves) place ++ moved_if place (clock_at spans place) z) move
+    ∙ ap (λ those. moved_before spans (moved_by spans moves) place ++ those) (sym (one_mapped (moved_by spans moves) place (is_moved spans (moved_by spans moves) place)))
+    ∙ sym (map-append (moved_clock (moved_by spans moves)) (filter (is_moved spans (moved_by spans moves)) (range_with_len 0 place)) (cond (is_moved spans (moved_by spans moves) place) (place ∷ []) []))
+    ∙ ap (λ k. map (moved_clock (moved_by spans moves)) (filter (is_moved spans (moved_by spans moves)) (range_with_len 0 place) ++ cond (is_moved spans (moved_by spans moves) k) (k ∷ []) [])) (sym f)
+    ∙ ap (map (moved_clock (moved_by spans moves))) (sym (filter_last (is_moved spans (moved_by spans moves)) 0 place))
+    ∙ ap (moved_before spans (moved_by spans moves)) e
   where
-    by_test : (b : Bool) → cond b (moved_from (clock + 1) moves) (record { clock = clock; by = by } ∷ moved_from (clock + 1) moves) ≡ cond b [] (record { clock = clock; by = by } ∷ []) ++ moved_from (clock + 1) moves
-    by_test true = refl
-    by_test false = refl
+    one_mapped : (moves_by : ℕ → ℤ) (k : ℕ) (b : Bool) → map (moved_clock moves_by) (cond b (k ∷ []) []) ≡ cond b (record { clock = k; by = moves_by k } ∷ []) []
+    one_mapped moves_by k true = refl
+    one_mapped moves_by k false = refl
 
-pub moved_more : (moves : List (Option ℤ)) (clock : ℕ) (by : Option ℤ) (so_far new : List Moved) → clock < length moves → by ≡ get_or moves clock by → new ≡ so_far ++ moved_if clock by → all_moved moves ≡ so_far ++ moved_from clock (drop clock moves)
-    → all_moved moves ≡ new ++ moved_from (clock + 1) (drop (clock + 1) moves)
-moved_more moves clock by so_far new lt is now before =
-    before ∙ ap (λ rest. so_far ++ moved_from clock rest) (drop_more moves clock by lt ∙ ap (λ x. x ∷ drop (clock + 1) moves) (sym is))
-    ∙ ap (λ those. so_far ++ those) (moved_first clock by (drop (clock + 1) moves))
-    ∙ sym (append_assoc so_far (moved_if clock by) (moved_from (clock + 1) (drop (clock + 1) moves)))
-    ∙ ap (λ those. those ++ moved_from (clock + 1) (drop (clock + 1) moves)) (sym now)
+pub all_moved_are : (spans : List Span) (clocks : List ℕ) (by : ℕ → ℤ) (place : ℕ) (moved : List Moved) → AreClocks spans clocks → place ≡ length clocks → moved ≡ moved_before spans by place → moved ≡ moved_clocks spans by
+all_moved_are spans clocks by place moved are all is = is ∙ ap (moved_before spans by) (all ∙ clocks_long spans clocks are)
 
-pub none_more : (so_far : List Moved) (clock : ℕ) (by : Option ℤ) → by ≡ None → so_far ≡ so_far ++ moved_if clock by
-none_more so_far clock by is = sym (ap (λ o. so_far ++ moved_if clock o) is ∙ append-nil so_far)
+pub moved_by_moves : (spans : List Span) (moves : List (Option ℤ)) (moved : List Moved) → ((clock : ℕ) → moves_in moves clock ≡ all_placed spans clock) → moved ≡ moved_clocks spans (moved_by spans moves) → moved ≡ moved_clocks spans (all_moves spans)
+moved_by_moves spans moves moved are is = is ∙ ap (moved_clocks spans) (fun_ext (λ place. ap (λ o. unwrap_or o (pos 0)) (are (clock_at spans place))))
 
-pub zero_more : (so_far : List Moved) (clock : ℕ) (by : Option ℤ) (move : ℤ) → by ≡ Some move → move ≡ pos 0 → so_far ≡ so_far ++ moved_if clock by
-zero_more so_far clock by move is zero_is = sym (ap (λ o. so_far ++ moved_if clock o) (is ∙ ap Some zero_is) ∙ append-nil so_far)
+filter_none : (p : ℕ → Bool) (xs : List ℕ) → ((x : ℕ) → p x ≡ false) → filter p xs ≡ []
+filter_none p [] none = refl
+filter_none p (x ∷ xs) none = cond-false (p x) (x ∷ filter p xs) (filter p xs) (none x) ∙ filter_none p xs none
 
-pub all_moved_are : (moves : List (Option ℤ)) (clock : ℕ) (moved : List Moved) → length moves ≤ clock → all_moved moves ≡ moved ++ moved_from clock (drop clock moves) → moved ≡ all_moved moves
-all_moved_are moves clock moved le is = sym (is ∙ ap (λ rest. moved ++ moved_from clock rest) (drop_all clock moves le) ∙ append-nil moved)
+and_none : (b : Bool) → (b && false) ≡ false
+and_none true = refl
+and_none false = refl
+
+-- as they are told, none is moved
+pub none_told : (spans : List Span) → moved_clocks spans (λ place. pos 0) ≡ []
+none_told spans = ap (map (moved_clock (λ place. pos 0))) (filter_none (is_moved spans (λ place. pos 0)) (range_with_len 0 (length spans)) (λ place. and_none (nat_eq (clock_at spans place) place)))
+
+pub none_moved_so : (spans : List Span) (moved : List Moved) → [] ≡ all_pairs spans → moved ≡ [] → moved ≡ moved_clocks spans (all_moves spans)
+none_moved_so spans moved none is = is ∙ sym (none_told spans) ∙ ap (moved_clocks spans) (sym (moves_are_none spans none))

@@ -4,6 +4,7 @@ pub mod Circling
 pub mod ClockFinding
 pub mod Clocked
 pub mod Ending
+pub mod Finding
 pub mod FreeRows
 pub mod Gets
 pub mod GivingUp

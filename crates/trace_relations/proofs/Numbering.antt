@@ -96,7 +96,7 @@ two_clocks pair number old between new apart first second = λ other. second oth
 
 -- ---- one pair after another
 
-filter_last : (p : ℕ → Bool) (i n : ℕ) → filter p (range_with_len i (suc n)) ≡ filter p (range_with_len i n) ++ cond (p (i + n)) ((i + n) ∷ []) []
+pub filter_last : (p : ℕ → Bool) (i n : ℕ) → filter p (range_with_len i (suc n)) ≡ filter p (range_with_len i n) ++ cond (p (i + n)) ((i + n) ∷ []) []
 filter_last p i zero = let e : i ≡ i + 0 = omega arith in ap (λ k. cond (p k) (k ∷ []) []) e
 filter_last p i (suc n) =
     let e : (i + 1) + n ≡ i + suc n = omega arith in

@@ -116,8 +116,8 @@ root_own spans place clock is = ap (λ b. b && is_none (caller_named (all_refere
 abbrev FromRoots : List Span → List (Option ℤ) → ℕ → Type 0
 FromRoots spans moves count = (clock : ℕ) → moves_in moves clock ≡ cond (is_root_among spans count clock) (Some (pos 0)) None
 
-roots_placed : (spans : List Span) (moves : List (Option ℤ)) (place clock : ℕ) → clock < length moves → clock_at spans place ≡ clock → is_none (caller_named (all_references spans) place) ≡ true → FromRoots spans moves place → FromRoots spans (set moves clock (Some (pos 0))) (place + 1)
-roots_placed spans moves place clock lt is named roots other = elim (cases_Bool (nat_eq other clock)) [
+root_placed : (spans : List Span) (moves : List (Option ℤ)) (place clock : ℕ) → clock < length moves → clock_at spans place ≡ clock → is_none (caller_named (all_references spans) place) ≡ true → FromRoots spans moves place → FromRoots spans (set moves clock (Some (pos 0))) (place + 1)
+root_placed spans moves place clock lt is named roots other = elim (cases_Bool (nat_eq other clock)) [
   | inl same ↦
       let e : other ≡ clock = eqb-true other clock same in
       let root : is_root_of spans other place ≡ true = ap (λ c. is_root_of spans c place) e ∙ root_own spans place clock is ∙ named in
@@ -168,7 +168,7 @@ root_cases spans pairs clocks by_clock place clock moves coming new_moves new_co
     (record {
       stand = one_placed pairs (length spans) clock moves coming new_coming (pos 0) long below (none_of (moves_in moves clock) parts.1) roots.stand.within (zero_at_most (placed_count moves * 2 ^ 64 + 2 ^ 64)) roots.stand.order
           (subst (λ numbers. HaveJoined numbers coming new_coming) (has clock below) done.1) (λ number pair is next apart. roots.stand.has number pair is next);
-      roots = roots_placed spans moves place clock here rooted.clock_is parts.0 roots.roots;
+      roots = root_placed spans moves place clock here rooted.clock_is parts.0 roots.roots;
     })
 root_cases spans pairs clocks by_clock place clock moves coming new_moves new_coming false rooted has roots not_both done =
     subst (λ those. HasRoots spans pairs (place + 1) those new_coming) (sym done.0)

@@ -323,6 +323,7 @@ takes_own calls order attempts intervals end call groups taken places has turn t
 
 pub taken_first : (calls : CallsOf) (order : List ℕ) (attempts : Attempts) (intervals : List Interval) (end : Moment) (call number : ℕ) (groups : Groups) (group : Group) (taken : Option ℕ) (places : FreePlaces) → IsIn calls order attempts intervals call number groups group → end_moment (interval_at intervals call) ≡ Some end
     → Takes intervals end group taken places → taken ≡ first_try calls order attempts call
+unfolding group_is
 taken_first calls order attempts intervals end call number groups group taken places is ends takes =
     let has = group_is calls order attempts call number groups group (is.are.each call is.fails) is.number_is is.there in
     first_taken calls order attempts intervals end call groups taken places is.same ends has (takes_own calls order attempts intervals end call groups taken places has is.turn takes)

@@ -1,10 +1,13 @@
 -- Ticks of times, one span after another.
-use Rattle.std.proofs.Common.{◌≡◌, ℕ, ◌+◌, ◌<◌, ◌≤◌, ℤ, pos, List, [], ◌∷◌, ◌++◌, Bool, true, false, cond, drop, get_or, length, min, Option, Some, None, refl, sym, ap, ◌∙◌, arith}
-use Rattle.std.specs.Prelude.{Result, Ok, Err, find, nat_lt, option_and_then, option_map, unwrap_or}
+use Rattle.std.proofs.Common.{◌≡◌, ℕ, ◌+◌, ◌<◌, ◌≤◌, ℤ, pos, negsuc, ◌-ℤ◌, ◌<ℤ◌, List, [], ◌∷◌, ◌++◌, Bool, true, false, cond, drop, get_or, length, min, Option, Some, None, refl, sym, ap, ◌∙◌, arith}
+use Rattle.std.specs.Prelude.{Result, Ok, Err, find, is_none, nat_lt, option_and_then, option_map, unwrap_or}
+use Rattle.std.specs.Int.{int_gap}
+use Rattle.std.specs.Int.RustNames.{unsigned_abs}
 use Rattle.std.specs.List.{zip}
 use Rattle.std.specs.Option.{option_eq}
 use Rattle.std.specs.Ordering.{int_eq}
-use Rattle.std.proofs.lemmas.Bool.{cond-false, cond-true}
+use Rattle.std.proofs.lemmas.Bool.{cond-false, cond-true, true≢false}
+use Rattle.std.proofs.lemmas.Int.{ints}
 use Rattle.std.proofs.lemmas.List.{append-nil, append_assoc, drop_all, drop_more}
 use Rattle.std.proofs.lemmas.Slice.Zip.{get_or-zip, length-zip}
 use Rattle.trace_spans.specs.declared.span.Span.{Span}
@@ -37,11 +40,13 @@ zipped_all spans times k all = let long = length-zip spans times in drop_all k (
 
 -- ---- the earliest time
 
-pub earliest_more : (earliest : Option ℤ) (span : Span) (times : Times) (others : List (Span × Times)) (time : ℤ) → Some time ≡ earlier times.start times.end → earliest_from earliest (timed span times ∷ others) ≡ earliest_from (earlier earliest (Some time)) others
-earliest_more earliest span times others time is = ap (λ o. then_on (told_time span o) (λ each. earliest_from (earlier earliest (Some each)) others)) (sym is)
+pub earliest_more : (earliest : Option ℤ) (span : Span) (times : Times) (others : List (Span × Times)) (time : Option ℤ) → time ≡ earlier times.start times.end → is_none time ≡ false → earliest_from earliest (timed span times ∷ others) ≡ earliest_from (earlier earliest time) others
+earliest_more earliest span times others None is told = absurd (true≢false told)
+earliest_more earliest span times others (Some time) is told = ap (λ o. then_on (told_time span o) (λ each. earliest_from (earlier earliest (Some each)) others)) (sym is)
 
-pub earliest_fails : (earliest : Option ℤ) (span : Span) (times : Times) (others : List (Span × Times)) → None ≡ earlier times.start times.end → earliest_from earliest (timed span times ∷ others) ≡ Err (NoTime (name_of span))
-earliest_fails earliest span times others is = ap (λ o. then_on (told_time span o) (λ each. earliest_from (earlier earliest (Some each)) others)) (sym is)
+pub earliest_fails : (earliest : Option ℤ) (span : Span) (times : Times) (others : List (Span × Times)) (time : Option ℤ) → time ≡ earlier times.start times.end → is_none time ≡ true → earliest_from earliest (timed span times ∷ others) ≡ Err (NoTime (name_of span))
+earliest_fails earliest span times others (Some time) is none = absurd (true≢false (sym none))
+earliest_fails earliest span times others None is none = ap (λ o. then_on (told_time span o) (λ each. earliest_from (earlier earliest (Some each)) others)) (sym is)
 
 -- ---- ticks
 
@@ -77,3 +82,11 @@ first_passed origin span times others fails = cond-false (is_first origin (timed
 
 pub first_found : (origin : ℤ) (span : Span) (times : Times) (others : List (Span × Times)) → option_eq int_eq (earlier times.start times.end) (Some origin) ≡ true → find (is_first origin) (timed span times ∷ others) ≡ Some (timed span times)
 first_found origin span times others passes = cond-true (is_first origin (timed span times)) (Some (timed span times)) (find (is_first origin) others) passes
+
+-- ---- how much later a time is
+
+pub gap_after : (origin time : ℤ) (n : ℕ) → origin <ℤ time → n ≡ unsigned_abs (time -ℤ origin) → n ≡ int_gap origin time
+gap_after (pos a) (pos b) n lt is = is ∙ omega (arith, ints)
+gap_after (pos a) (negsuc b) n lt is = is ∙ omega (arith, ints)
+gap_after (negsuc a) (pos b) n lt is = is ∙ omega (arith, ints)
+gap_after (negsuc a) (negsuc b) n lt is = is ∙ omega (arith, ints)

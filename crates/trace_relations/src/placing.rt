@@ -6,8 +6,8 @@ ghost use Rattle.trace_relations.specs.declared.clocks.Pair.{Pair};
 ghost use Rattle.trace_relations.specs.Ancestry.{most_spans};
 ghost use Rattle.trace_relations.specs.ClockNumbers.{AreClocks, all_pairs, clock_at};
 ghost use Rattle.trace_relations.specs.Clocks.{everything, higher, is_next, lower, move_in, narrowed, of_called, of_caller, placed, range_of, says_of, unplaced};
-ghost use Rattle.trace_relations.specs.KeptMoves.{AreMovesWithin, HasPairs, HasPlacedBy, HasRoots, HaveJoined, IsAtMost, IsPairAmong, IsRangeWithin, IsRootPlaced, IsSaid, Stand, all_moved, counts_as, moves_in, narrowed_at, narrowed_by_numbers, next_clock, numbers_at, numbers_of, placed_count, touches};
-ghost use Rattle.trace_relations.specs.Moves.{all_moves, all_placed};
+ghost use Rattle.trace_relations.specs.KeptMoves.{AreMovesWithin, HasPairs, HasPlacedBy, HasRoots, HaveJoined, IsAtMost, IsPairAmong, IsRangeWithin, IsRootPlaced, IsSaid, Stand, counts_as, moved_if, moves_in, narrowed_at, narrowed_by_numbers, next_clock, numbers_at, numbers_of, placed_count, touches};
+ghost use Rattle.trace_relations.specs.Moves.{all_moves, all_placed, moved_clocks};
 ghost use Rattle.trace_relations.specs.Parents.{all_references};
 ghost use Rattle.trace_relations.specs.Times.{times_of};
 ghost use Rattle.trace_spans.specs.declared.span.Span.{Span};
@@ -475,17 +475,33 @@ fn all_moves(
     Ok(moves)
 }
 
+/// Adds the clock of a span, if that is the first that has it and the clock is moved.
+fn push_moved(
+    moved: &mut Vec<Moved>,
+    place: usize,
+    clock: usize,
+    by: i128,
+) -> Result<(), AllocError>
+    ensures { OnOk result (moved.new.items ≡ moved.old.items ++ moved_if place clock by) }
+{
+    if clock == place && by != 0 {
+        moved.push(Moved { clock: place, by })?;
+    }
+    Ok(())
+}
+
 /// The clocks that are moved, by their first spans.
-fn all_moved(alloc: Global, moves: &[Option<i128>]) -> Result<Vec<Moved>, AllocError>
-    ensures { IfOk result (λ moved. moved.items ≡ all_moved moves.now) }
+fn all_moved(
+    alloc: Global,
+    clocks: &[usize],
+    moves: &[Option<i128>],
+) -> Result<Vec<Moved>, AllocError>
+    ensures { (spans : List Span) → AreClocks spans clocks.now → IfOk result (λ moved. moved.items ≡ moved_clocks spans (λ place. unwrap_or (moves_in moves.now (clock_at spans place)) (pos 0))) }
 {
     let mut moved = Vec::new(alloc);
-    for (clock, by) in moves.iter().enumerate() {
-        if let Some(by) = by {
-            if *by != 0 {
-                moved.push(Moved { clock, by: *by })?;
-            }
-        }
+    for (place, clock) in clocks.iter().enumerate() {
+        let by = move_of(moves, *clock).unwrap_or(0);
+        push_moved(&mut moved, place, *clock, by)?;
     }
     Ok(moved)
 }
@@ -535,7 +551,8 @@ pub(crate) fn placed_times(
 ) -> Result<Placed, AllocError>
     requires count { length spans.now ≤ most_spans }
     requires references { references.now ≡ all_references spans.now }
-    ensures { IfOk result (λ placed. placed.times.items ≡ times_of (all_moves spans.now) spans.now) }
+    ensures times { IfOk result (λ placed. placed.times.items ≡ times_of (all_moves spans.now) spans.now) }
+    ensures moved { IfOk result (λ placed. placed.moved.items ≡ moved_clocks spans.now (all_moves spans.now)) }
 {
     let clocks = clocks_of(alloc, spans)?;
     let pairs = pairs_of(alloc, spans, references, &clocks)?;
@@ -547,7 +564,7 @@ pub(crate) fn placed_times(
     }
     let moves = all_moves(alloc, spans, references, &clocks, &pairs)?;
     Ok(Placed {
-        moved: all_moved(alloc, &moves)?,
+        moved: all_moved(alloc, &clocks, &moves)?,
         times: all_times(alloc, spans, &clocks, &moves)?,
     })
 }

@@ -36,10 +36,11 @@ pub(crate) fn earliest_time(
 {
     let mut earliest = None;
     for (span, of_span) in spans.iter().zip(times) {
-        let Some(time) = earlier(of_span.start, of_span.end) else {
+        let time = earlier(of_span.start, of_span.end);
+        if time.is_none() {
             return Err(RelationsFault::NoTime(SpanName::of(alloc, span)?));
-        };
-        earliest = earlier(earliest, Some(time));
+        }
+        earliest = earlier(earliest, time);
     }
     Ok(earliest.unwrap_or(0))
 }
@@ -49,7 +50,7 @@ fn nanoseconds_after(origin: i128, time: i128) -> u128
     ensures { result ≡ int_gap origin time }
 {
     if origin < time {
-        (time - origin) as u128
+        time.abs_diff(origin)
     } else {
         0
     }

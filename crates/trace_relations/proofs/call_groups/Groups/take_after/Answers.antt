@@ -1,4 +1,4 @@
-use Rattle.std.proofs.Common.{◌≡◌, ◌∙◌, List, ℕ, Some, None, ap, arith, refl, rules, sym, subst}
+use Rattle.std.proofs.Common.{◌≡◌, ◌∙◌, List, ℕ, Some, None, ap, arith, get_or, refl, rules, sym, subst}
 use Rattle.std.specs.Prelude.{slice_get}
 use Rattle.std.proofs.lemmas.Option.{slice_get-get_or}
 use Rattle.trace_relations.specs.Attempts.{Attempts, CallsOf, with_try}
@@ -32,13 +32,17 @@ returns-then-count-number-clause-taken c = λ calls order attempts same turn are
 
 pub returns-clause-first : goal.returns-clause-first
 returns-clause-first c = λ calls order attempts same turn are fails.
-    let there : slice_get c.args.self.now.groups.items c.in_ok-number.number ≡ Some c.index_mut.result.now = search rules in
+    let within = has_number_there calls order attempts c.args.call c.in_ok-number.number c.args.self.now are fails (sym c.in_ok-number.ensures) in
+    let value : c.index_mut.result.now ≡ get_or c.args.self.now.groups.items c.in_ok-number.number c.index_mut.result.now = search rules in
+    let there : slice_get c.args.self.now.groups.items c.in_ok-number.number ≡ Some c.index_mut.result.now = slice_get-get_or c.args.self.now.groups.items c.in_ok-number.number c.index_mut.result.now within ∙ ap Some (sym value) in
     taken_first calls order attempts c.args.intervals.now c.in_ok-end.end c.args.call c.in_ok-number.number c.args.self.now c.index_mut.result.now c.take_after.result c.take_after.new.self.free
     (record { same = same; turn = turn; are = are; fails = fails; number_is = sym c.in_ok-number.ensures; there = there }) (sym c.requires ∙ c.in_ok-end.was) c.take_after.ensures.taken
 
 pub returns-clause-taken : goal.returns-clause-taken
 returns-clause-taken c = λ calls order attempts same turn are fails.
-    let there : slice_get c.args.self.now.groups.items c.in_ok-number.number ≡ Some c.index_mut.result.now = search rules in
+    let within = has_number_there calls order attempts c.args.call c.in_ok-number.number c.args.self.now are fails (sym c.in_ok-number.ensures) in
+    let value : c.index_mut.result.now ≡ get_or c.args.self.now.groups.items c.in_ok-number.number c.index_mut.result.now = search rules in
+    let there : slice_get c.args.self.now.groups.items c.in_ok-number.number ≡ Some c.index_mut.result.now = slice_get-get_or c.args.self.now.groups.items c.in_ok-number.number c.index_mut.result.now within ∙ ap Some (sym value) in
     taken_groups calls order attempts c.args.intervals.now c.in_ok-end.end c.args.call c.in_ok-number.number c.args.self.now _ c.index_mut.result.now c.take_after.new.self c.take_after.result
     (record { same = same; turn = turn; are = are; fails = fails; number_is = sym c.in_ok-number.ensures; there = there })
     (record { of_spans = refl; groups_are = refl; calls_are = c.take_after.ensures.calls }) c.take_after.ensures.taken

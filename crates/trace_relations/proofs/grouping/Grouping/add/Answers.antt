@@ -11,5 +11,5 @@ returns-clause-grouping c = λ keys places key_is grouping.
     let before = c.in_ok-number.ensures.grouping keys places c.args.self.now.of_spans.items grouping in
     let there = c.in_ok-number.ensures.number in
     let within = before.within (string_bytes c.in-Some.key) c.in_ok-number.number there in
-    grouping_more keys places _ c.number_of-number.new.groups.items _ c.args.self.now.of_spans.items (string_bytes c.in-Some.key) c.in_ok-number.number c.args.place before
+    grouping_more keys places _ c.number_of.new.groups.items _ c.args.self.now.of_spans.items (string_bytes c.in-Some.key) c.in_ok-number.number c.args.place before
     (record { key_is = key_is ∙ ap (option_map string_bytes) c.in-Some.is; there = there; long = search rules; added = c.in_ok-add_call.ensures.added within; free = c.in_ok-add_call.ensures.free before.free })
