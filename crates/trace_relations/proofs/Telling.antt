@@ -1,6 +1,6 @@
 -- Ticks of times, one span after another.
-use Rattle.std.proofs.Common.{◌≡◌, ℕ, ◌+◌, ◌<◌, ◌≤◌, ℤ, pos, negsuc, ◌-ℤ◌, ◌<ℤ◌, List, [], ◌∷◌, ◌++◌, Bool, true, false, cond, drop, get_or, length, min, Option, Some, None, refl, sym, ap, ◌∙◌, arith}
-use Rattle.std.specs.Prelude.{Result, Ok, Err, find, is_none, nat_lt, option_and_then, option_map, unwrap_or}
+use Rattle.std.proofs.Common.{◌≡◌, ℕ, ◌+◌, ◌<◌, ◌≤◌, ℤ, pos, negsuc, ◌-ℤ◌, ◌<ℤ◌, List, [], ◌∷◌, ◌++◌, Bool, true, false, cond, drop, get_or, length, min, Option, Some, None, refl, sym, ap, ◌∙◌, subst, arith}
+use Rattle.std.specs.Prelude.{◌||◌, Result, Ok, Err, find, is_none, nat_lt, option_and_then, option_map, unwrap_or}
 use Rattle.std.specs.Int.{int_gap}
 use Rattle.std.specs.Int.RustNames.{unsigned_abs}
 use Rattle.std.specs.List.{zip}
@@ -9,6 +9,7 @@ use Rattle.std.specs.Ordering.{int_eq}
 use Rattle.std.proofs.lemmas.Bool.{cond-false, cond-true, true≢false}
 use Rattle.std.proofs.lemmas.Int.{ints}
 use Rattle.std.proofs.lemmas.List.{append-nil, append_assoc, drop_all, drop_more}
+use Rattle.std.proofs.lemmas.Option.{none-some, same_Some}
 use Rattle.std.proofs.lemmas.Slice.Zip.{get_or-zip, length-zip}
 use Rattle.trace_spans.specs.declared.span.Span.{Span}
 use Rattle.trace_relations.specs.declared.fault.RelationsFault.{RelationsFault}
@@ -17,14 +18,18 @@ use Rattle.trace_relations.specs.declared.moment.Interval.{Interval}
 use Rattle.trace_relations.specs.declared.times.Times.{Times}
 use Rattle.trace_relations.specs.declared.unit.Unit.{Unit as TickUnit}
 use Rattle.trace_relations.specs.declared.unit.Unit.TheVariants.{Nanosecond, Microsecond, Millisecond}
+use Rattle.trace_relations.specs.Reads.{IsFault}
 use Rattle.trace_relations.specs.SpanNames.{name_of}
-use Rattle.trace_relations.specs.Ticks.{earlier, earliest_from, first_span, interval_of, intervals_from, is_first, is_late, is_too_late, last_tick, then_on, tick_if, tick_of, told_time}
+use Rattle.trace_relations.specs.Ticks.{earlier, earliest_from, interval_between, interval_if, interval_of, intervals_from, is_first, is_late, is_too_late, last_tick, then_on, tick_if, tick_of, told_time, too_late}
 use Rattle.trace_relations.specs.Units.{nanoseconds}
 
 -- ---- one pair after another
 
 abbrev pub timed : Span → Times → Span × Times
 timed span times = (span, times)
+
+abbrev pub span_of : Span × Times → Span
+span_of pair = pair.0
 
 -- the spans from one on, with their times
 pub zipped_more : (spans : List Span) (times : List Times) (k : ℕ) (span : Span) (of_span : Times) → k < length spans → k < length times → span ≡ get_or spans k span → of_span ≡ get_or times k of_span
@@ -54,6 +59,13 @@ pub not_late : (unit : TickUnit) (origin : ℤ) (o : Option ℤ) → is_late uni
 not_late unit origin None low = refl
 not_late unit origin (Some time) low = cond-false (nat_lt last_tick (tick_of unit origin time)) None (Some (tick_of unit origin time)) low
 
+pub interval_is : (unit : TickUnit) (origin : ℤ) (times : Times) (start end : Option ℕ) (interval : Interval) → is_late unit origin times.start ≡ false → is_late unit origin times.end ≡ false → start ≡ option_and_then (tick_if unit origin) times.start → end ≡ option_and_then (tick_if unit origin) times.end
+    → interval ≡ interval_between start end → Some interval ≡ interval_if unit origin times
+unfolding interval_of
+interval_is unit origin times start end interval low_start low_end start_is end_is is =
+    ap Some (is ∙ ap (λ o. interval_between o end) (start_is ∙ not_late unit origin times.start low_start) ∙ ap (interval_between (option_map (tick_of unit origin) times.start)) (end_is ∙ not_late unit origin times.end low_end))
+    ∙ sym (cond-false (is_too_late unit origin times) None (Some (interval_of unit origin times)) (ap (λ b. b || is_late unit origin times.end) low_start ∙ low_end))
+
 then_push : (r : Result (List Interval) RelationsFault) (interval : Interval) (so_far : List Interval) → then_on (then_on r (λ others. Ok (interval ∷ others))) (λ rest. Ok (so_far ++ rest)) ≡ then_on r (λ rest. Ok ((so_far ++ interval ∷ []) ++ rest))
 then_push (Ok others) interval so_far = ap Ok (sym (append_assoc so_far (interval ∷ []) others))
 then_push (Err fault) interval so_far = refl
@@ -68,6 +80,27 @@ pub intervals_fail : (unit : TickUnit) (origin : ℤ) (late : Span → Relations
     → then_on (intervals_from unit origin late (timed span times ∷ others)) (λ rest. Ok (so_far ++ rest)) ≡ Err (late span)
 intervals_fail unit origin late span times others so_far high =
     ap (λ r. then_on r (λ rest. Ok (so_far ++ rest))) (cond-true (is_too_late unit origin times) (Err (late span)) (then_on (intervals_from unit origin late others) (λ rest. Ok (interval_of unit origin times ∷ rest))) high)
+
+-- the ticks of a span that are told
+pub interval_told : (unit : TickUnit) (origin : ℤ) (times : Times) (interval : Interval) → Some interval ≡ interval_if unit origin times → (is_too_late unit origin times ≡ false) × (interval ≡ interval_of unit origin times)
+interval_told unit origin times interval is = by_test (is_too_late unit origin times) is
+  where
+    by_test : (b : Bool) → Some interval ≡ cond b None (Some (interval_of unit origin times)) → (b ≡ false) × (interval ≡ interval_of unit origin times)
+    by_test true told = absurd (none-some interval (sym told))
+    by_test false told = (refl, same_Some interval (interval_of unit origin times) told)
+
+pub interval_late : (unit : TickUnit) (origin : ℤ) (times : Times) → None ≡ interval_if unit origin times → is_too_late unit origin times ≡ true
+interval_late unit origin times is = by_test (is_too_late unit origin times) is
+  where
+    by_test : (b : Bool) → None ≡ cond b None (Some (interval_of unit origin times)) → b ≡ true
+    by_test true told = refl
+    by_test false told = absurd (none-some (interval_of unit origin times) told)
+
+pub fault_is : {S : Type 0} (fault : RelationsFault) (origin : ℤ) (spans : List Span) (times : List Times) (span : Span) (meant : Result S RelationsFault) → fault ≡ too_late origin spans times span → meant ≡ Err (too_late origin spans times span) → IsFault fault meant
+fault_is fault origin spans times span meant is told = subst (λ f. IsFault f meant) (sym is) told
+
+pub no_time_is : {S : Type 0} (fault : RelationsFault) (span : Span) (meant : Result S RelationsFault) → fault ≡ NoTime (name_of span) → meant ≡ Err (NoTime (name_of span)) → IsFault fault meant
+no_time_is fault span meant is told = subst (λ f. IsFault f meant) (sym is) told
 
 -- a tick takes time
 pub some_nanoseconds : (unit : TickUnit) → 0 < nanoseconds unit

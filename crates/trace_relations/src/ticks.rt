@@ -1,5 +1,5 @@
 //! The ticks of spans: how many units after the earliest time of their trace.
-ghost use Rattle.std.specs.Prelude.{◌≡◌, IfOk};
+ghost use Rattle.std.specs.Prelude.{◌≡◌, IfOk, option_and_then};
 ghost use Rattle.std.specs.Int.{int_gap};
 ghost use Rattle.trace_relations.specs.Reads.{IsToldAs};
 ghost use Rattle.trace_relations.specs.Ticks.{earlier, earliest_time, first_span, interval_between, interval_if, intervals_of, is_late, tick_if, too_late};
@@ -69,6 +69,16 @@ fn tick_of(unit: Unit, origin: i128, time: i128) -> Option<u64>
     }
 }
 
+/// The tick of a time, if it is told and isn't too late.
+fn told_tick(unit: Unit, origin: i128, time: Option<i128>) -> Option<u64>
+    ensures { result ≡ option_and_then (tick_if unit origin) time }
+{
+    match time {
+        Some(time) => tick_of(unit, origin, time),
+        None => None,
+    }
+}
+
 /// The interval from one tick to another, of which either may be unknown.
 fn interval_between(start: Option<u64>, end: Option<u64>) -> Interval
     ensures { result ≡ interval_between start end }
@@ -108,8 +118,8 @@ fn interval_of(unit: Unit, origin: i128, times: Times) -> Option<Interval>
     if is_late(unit, origin, times.start) || is_late(unit, origin, times.end) {
         return None;
     }
-    let start = times.start.and_then(|time| tick_of(unit, origin, time));
-    let end = times.end.and_then(|time| tick_of(unit, origin, time));
+    let start = told_tick(unit, origin, times.start);
+    let end = told_tick(unit, origin, times.end);
     Some(interval_between(start, end))
 }
 

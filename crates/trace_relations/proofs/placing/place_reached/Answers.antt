@@ -13,15 +13,19 @@ loop-number-init c = record { stand = c.requires.stand; leads = leads_first c.ar
 pub loop-number-preserved : goal.loop-number-preserved
 loop-number-preserved c =
     let stand = c.loop-number.invariant.stand in
-    let step = stepped c.args.pairs.now (length c.args.moves.now.items) (record { 0 = c.in-Some.number }) c.args.moves.now.items c.loop-number.moves.items (heap_items c.loop-number.coming) (heap_items c.pop.new.self) c.place_by.new.moves.items (heap_items c.place_by.new.coming)
-    (record { stand = stand; among = c.requires.pairs; moved = c.in-Some.ensures.permutation; heap = (c.in-Some.ensures.heap_order stand.order).0; bound = (c.in-Some.ensures.heap_order stand.order).1 }) c.loop-number.invariant.leads c.in_ok-place_by.ensures in
+    let same : c.in-Some.field-0.0 ≡ c.in-Some.number = search rules in
+    let step = stepped c.args.pairs.now (length c.args.moves.now.items) c.in-Some.field-0 c.args.moves.now.items c.loop-number.moves.items (heap_items c.loop-number.coming) (heap_items c.pop.new.self) c.place_by.new.moves.items (heap_items c.place_by.new.coming)
+    (record { stand = stand; among = c.requires.pairs; moved = c.in-Some.ensures.permutation; heap = (c.in-Some.ensures.heap_order stand.order).0; bound = (c.in-Some.ensures.heap_order stand.order).1 }) c.loop-number.invariant.leads
+    (subst (λ k. HasPlacedBy c.args.pairs.now k c.loop-number.moves.items (heap_items c.pop.new.self) c.place_by.new.moves.items (heap_items c.place_by.new.coming)) (sym same) c.in_ok-place_by.ensures) in
     record { stand = step.stand; leads = step.leads }
 
 pub loop-number-smaller : goal.loop-number-smaller
 loop-number-smaller c =
     let stand = c.loop-number.invariant.stand in
-    let step = stepped c.args.pairs.now (length c.args.moves.now.items) (record { 0 = c.in-Some.number }) c.args.moves.now.items c.loop-number.moves.items (heap_items c.loop-number.coming) (heap_items c.pop.new.self) c.place_by.new.moves.items (heap_items c.place_by.new.coming)
-    (record { stand = stand; among = c.requires.pairs; moved = c.in-Some.ensures.permutation; heap = (c.in-Some.ensures.heap_order stand.order).0; bound = (c.in-Some.ensures.heap_order stand.order).1 }) c.loop-number.invariant.leads c.in_ok-place_by.ensures in
+    let same : c.in-Some.field-0.0 ≡ c.in-Some.number = search rules in
+    let step = stepped c.args.pairs.now (length c.args.moves.now.items) c.in-Some.field-0 c.args.moves.now.items c.loop-number.moves.items (heap_items c.loop-number.coming) (heap_items c.pop.new.self) c.place_by.new.moves.items (heap_items c.place_by.new.coming)
+    (record { stand = stand; among = c.requires.pairs; moved = c.in-Some.ensures.permutation; heap = (c.in-Some.ensures.heap_order stand.order).0; bound = (c.in-Some.ensures.heap_order stand.order).1 }) c.loop-number.invariant.leads
+    (subst (λ k. HasPlacedBy c.args.pairs.now k c.loop-number.moves.items (heap_items c.pop.new.self) c.place_by.new.moves.items (heap_items c.place_by.new.coming)) (sym same) c.in_ok-place_by.ensures) in
     step.less
 
 pub place_by-requires-clause-moves : goal.place_by-requires-clause-moves
