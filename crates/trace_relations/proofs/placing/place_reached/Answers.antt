@@ -1,7 +1,7 @@
 use Rattle.std.proofs.Common.{◌≡◌, ◌^◌, ◌*◌, ◌<◌, ◌≤◌, ◌∙◌, [], arith, heap_items, length, rules, subst, sym}
 use Rattle.std.specs.Prelude.{is_some}
 use Rattle.std.proofs.lemmas.List.Sums.{count_by-le-length}
-use Rattle.trace_relations.specs.KeptMoves.{AreMovesWithin, HasPlacedBy, placed_count}
+use Rattle.trace_relations.specs.KeptMoves.{placed_count}
 use Rattle.trace_relations.proofs.Finding.{no_items}
 use Rattle.trace_relations.proofs.Moving.{moves_more}
 use Rattle.trace_relations.proofs.Reaching.{all_done, leads_first, stepped}
@@ -13,19 +13,15 @@ loop-number-init c = record { stand = c.requires.stand; leads = leads_first c.ar
 pub loop-number-preserved : goal.loop-number-preserved
 loop-number-preserved c =
     let stand = c.loop-number.invariant.stand in
-    let same : c.in-Some.field-0.0 ≡ c.in-Some.number = search rules in
     let step = stepped c.args.pairs.now (length c.args.moves.now.items) c.in-Some.field-0 c.args.moves.now.items c.loop-number.moves.items (heap_items c.loop-number.coming) (heap_items c.pop.new.self) c.place_by.new.moves.items (heap_items c.place_by.new.coming)
-    (record { stand = stand; among = c.requires.pairs; moved = c.in-Some.ensures.permutation; heap = (c.in-Some.ensures.heap_order stand.order).0; bound = (c.in-Some.ensures.heap_order stand.order).1 }) c.loop-number.invariant.leads
-    (subst (λ k. HasPlacedBy c.args.pairs.now k c.loop-number.moves.items (heap_items c.pop.new.self) c.place_by.new.moves.items (heap_items c.place_by.new.coming)) (sym same) c.in_ok-place_by.ensures) in
+    (record { stand = stand; among = c.requires.pairs; moved = c.in-Some.ensures.permutation; heap = (c.in-Some.ensures.heap_order stand.order).0; bound = (c.in-Some.ensures.heap_order stand.order).1 }) c.loop-number.invariant.leads c.in_ok-place_by.ensures in
     record { stand = step.stand; leads = step.leads }
 
 pub loop-number-smaller : goal.loop-number-smaller
 loop-number-smaller c =
     let stand = c.loop-number.invariant.stand in
-    let same : c.in-Some.field-0.0 ≡ c.in-Some.number = search rules in
     let step = stepped c.args.pairs.now (length c.args.moves.now.items) c.in-Some.field-0 c.args.moves.now.items c.loop-number.moves.items (heap_items c.loop-number.coming) (heap_items c.pop.new.self) c.place_by.new.moves.items (heap_items c.place_by.new.coming)
-    (record { stand = stand; among = c.requires.pairs; moved = c.in-Some.ensures.permutation; heap = (c.in-Some.ensures.heap_order stand.order).0; bound = (c.in-Some.ensures.heap_order stand.order).1 }) c.loop-number.invariant.leads
-    (subst (λ k. HasPlacedBy c.args.pairs.now k c.loop-number.moves.items (heap_items c.pop.new.self) c.place_by.new.moves.items (heap_items c.place_by.new.coming)) (sym same) c.in_ok-place_by.ensures) in
+    (record { stand = stand; among = c.requires.pairs; moved = c.in-Some.ensures.permutation; heap = (c.in-Some.ensures.heap_order stand.order).0; bound = (c.in-Some.ensures.heap_order stand.order).1 }) c.loop-number.invariant.leads c.in_ok-place_by.ensures in
     step.less
 
 pub place_by-requires-clause-moves : goal.place_by-requires-clause-moves
