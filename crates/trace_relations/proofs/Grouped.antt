@@ -1,9 +1,9 @@
 -- Calls in groups by their keys.
 use Rattle.std.proofs.Common.{◌≡◌, ℕ, suc, zero, ◌+◌, ◌<◌, ◌≤◌, ◌^◌, inl, inr, List, [], ◌∷◌, ◌++◌, Bool, true, false, cond, eqb, get_or, length, set, Option, Some, None, refl, sym, ap, ◌∙◌, subst, arith}
-use Rattle.std.specs.Prelude.{◌⊎◌, ◌&&◌, ◌||◌, All, Decides, String, bytes_eq, filter, is_some, nat_eq, option_and_then, slice_get, string_bytes, string_eq, unwrap_or}
+use Rattle.std.specs.Prelude.{◌⊎◌, ◌&&◌, ◌||◌, All, String, bytes_eq, filter, is_some, nat_eq, option_and_then, slice_get}
 use Rattle.std.specs.Cmp.Lexicographic.{pointwise}
 use Rattle.std.specs.Fmt.{decimal}
-use Rattle.std.specs.HashMap.{HashMap, UpdatesBy, get_by_text}
+use Rattle.std.specs.HashMap.{HashMap, get_by_text}
 use Rattle.std.specs.List.{list_any}
 use Rattle.std.specs.Option.{option_eq}
 use Rattle.std.specs.declared.alloc.Global.{Global}
@@ -12,7 +12,6 @@ use Rattle.std.proofs.lemmas.Bool.Decides.{Decides-and, Decides-eqb, Decides-lik
 use Rattle.std.proofs.lemmas.List.{append-nil, length-set, length_push}
 use Rattle.std.proofs.lemmas.List.Elements.{All-get_or, All-head, All-push, All-tail, All-weaker, filter-append}
 use Rattle.std.proofs.lemmas.List.Folds.{list_any-append}
-use Rattle.std.proofs.lemmas.Map.Text.{hash_map_updates_text}
 use Rattle.std.proofs.lemmas.Option.{none-some, same_Some, slice_get-get_or, slice_get_within}
 use Rattle.std.proofs.lemmas.Slice.Eq.{bytes_eq-Decides}
 use Rattle.trace_spans.specs.declared.span.Span.{Span}
@@ -20,11 +19,10 @@ use Rattle.trace_relations.specs.declared.call_groups.Group.{Group}
 use Rattle.trace_relations.specs.declared.call_groups.Groups.{Groups}
 use Rattle.trace_relations.specs.Attempts.{CallsOf, has_failed, is_failed_call, is_same_call, same_caller, tried_once}
 use Rattle.trace_relations.specs.Calls.{call_texts}
-use Rattle.trace_relations.specs.FreePlaces.{AreFree}
 use Rattle.trace_relations.specs.GroupKeys.{AreFailing, IsShort, IsShortCall, call_key, group_key, group_texts, is_failing, key_if_failing, key_with}
 use Rattle.trace_relations.specs.Groupings.{IsFreeGroup, IsGrouping, calls_at, calls_in, calls_of, has_key, number_in}
 use Rattle.trace_relations.specs.Groups.{AreGroups, HasGroup, IsFailed, is_of_group}
-use Rattle.trace_relations.specs.Keys.{AreShort, key_of}
+use Rattle.trace_relations.specs.Keys.{key_of}
 use Rattle.trace_relations.specs.Sets.{set_for}
 use Rattle.trace_relations.proofs.Gets.{slice_get_front, slice_get_last, slice_get_there, value-set, value_other}
 use Rattle.trace_relations.proofs.Keying.{decimal_apart, keys_apart, texts-Decides}

@@ -1,6 +1,6 @@
 -- What pairs say of a clock, by their numbers.
 use Rattle.std.proofs.Common.{◌≡◌, ℕ, suc, ◌+◌, ◌<◌, ℤ, List, [], ◌∷◌, Bool, true, false, cond, get_or, length, take, Option, Some, None, refl, sym, ap, ◌∙◌, arith}
-use Rattle.std.specs.Prelude.{◌||◌, filter, fold, nat_eq, option_to_list, slice_get}
+use Rattle.std.specs.Prelude.{◌||◌, filter, nat_eq, option_to_list, slice_get}
 use Rattle.std.specs.List.{list_any, range_with_len}
 use Rattle.std.proofs.lemmas.Bool.{cond-false, or_parts}
 use Rattle.std.proofs.lemmas.List.Sums.{fold_more}

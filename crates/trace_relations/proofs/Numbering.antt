@@ -1,5 +1,5 @@
 -- The numbers of pairs, by their clocks, and those that are coming.
-use Rattle.std.proofs.Common.{◌≡◌, ℕ, suc, zero, ◌+◌, ◌<◌, ◌≤◌, inl, inr, List, [], ◌∷◌, ◌++◌, Bool, true, false, cond, eqb, get_or, length, take, Option, Some, None, refl, sym, ap, ◌∙◌, subst, arith}
+use Rattle.std.proofs.Common.{◌≡◌, ℕ, suc, zero, ◌+◌, ◌<◌, inl, inr, List, [], ◌∷◌, ◌++◌, Bool, true, false, cond, eqb, get_or, length, take, Some, refl, sym, ap, ◌∙◌, arith}
 use Rattle.std.specs.Prelude.{◌||◌, IsPermutation, Vec, filter, nat_eq, option_to_list, slice_get}
 use Rattle.std.specs.BinaryHeap.{IsHeap}
 use Rattle.std.specs.List.{list_any, range_with_len}
@@ -7,11 +7,10 @@ use Rattle.std.specs.declared.alloc.Global.{Global}
 use Rattle.std.specs.declared.cmp.Reverse.{Reverse}
 use Rattle.std.proofs.lemmas.Bool.{cases_eq, cond-false, cond-true, eq-eqb, eqb-true, ne_eqb}
 use Rattle.std.proofs.lemmas.List.{append-nil, length_push, take_more}
-use Rattle.std.proofs.lemmas.List.Elements.{filter-append}
 use Rattle.std.proofs.lemmas.List.Folds.{list_any-append}
 use Rattle.std.proofs.lemmas.List.Sorted.{length_permutation, list_any-IsPermutation}
 use Rattle.trace_relations.specs.declared.clocks.Pair.{Pair}
-use Rattle.trace_relations.specs.KeptMoves.{HasPairs, HaveJoined, coming_cmp, has_number, is_of, numbers_at, numbers_of, touches}
+use Rattle.trace_relations.specs.KeptMoves.{HasPairs, HaveJoined, coming_cmp, has_number, is_of, numbers_at, touches}
 
 or_none : (b : Bool) → (b || false) ≡ b
 or_none true = refl

@@ -1,12 +1,12 @@
 -- The clocks of spans that name no parent are placed first.
-use Rattle.std.proofs.Common.{◌≡◌, ℕ, suc, zero, ◌+◌, ◌*◌, ◌^◌, ◌<◌, ◌≤◌, inl, inr, ℤ, pos, List, [], ◌∷◌, ◌++◌, Bool, true, false, cond, eqb, get_or, length, replicate, set, Option, Some, None, refl, sym, ap, ◌∙◌, subst, arith}
-use Rattle.std.specs.Prelude.{◌⊎◌, ◌&&◌, ◌||◌, All, IfSome, MatchBool, is_none, is_some, nat_eq, slice_get, unwrap_or}
+use Rattle.std.proofs.Common.{◌≡◌, ℕ, suc, zero, ◌+◌, ◌*◌, ◌^◌, ◌<◌, ◌≤◌, inl, inr, ℤ, pos, List, [], ◌∷◌, Bool, true, false, cond, get_or, length, replicate, set, Option, Some, None, refl, sym, ap, ◌∙◌, subst, arith}
+use Rattle.std.specs.Prelude.{◌&&◌, ◌||◌, All, IfSome, MatchBool, is_none, is_some, nat_eq, slice_get, unwrap_or}
 use Rattle.std.specs.BinaryHeap.{IsHeap}
 use Rattle.std.specs.List.{list_any, range_with_len}
 use Rattle.std.specs.declared.alloc.Global.{Global}
 use Rattle.std.specs.declared.cmp.Reverse.{Reverse}
 use Rattle.std.specs.Prelude.{Vec}
-use Rattle.std.proofs.lemmas.Bool.{and_parts, cases_Bool, cond-false, cond-true, eq-eqb, eqb-true, false≢true, ne_eqb, or_left, or_right, true≢false}
+use Rattle.std.proofs.lemmas.Bool.{and_parts, cases_Bool, eq-eqb, eqb-true, false≢true, ne_eqb, or_left, or_right, true≢false}
 use Rattle.std.proofs.lemmas.List.{length-map, length-replicate}
 use Rattle.std.proofs.lemmas.List.Elements.{All-replicate}
 use Rattle.std.proofs.lemmas.Option.{none-some, slice_get-get_or}
@@ -14,8 +14,8 @@ use mathlib.Core.Path.{fun_ext}
 use Rattle.trace_spans.specs.declared.span.Span.{Span}
 use Rattle.trace_relations.specs.declared.clocks.Pair.{Pair}
 use Rattle.trace_relations.specs.ClockNumbers.{AreClocks, all_pairs, clock_at, is_root_among, is_root_of}
-use Rattle.trace_relations.specs.Clocks.{Moves, clock_of, is_next, placed}
-use Rattle.trace_relations.specs.KeptMoves.{HasPairs, HasRoots, HaveJoined, IsAtMost, IsRootPlaced, Stand, coming_cmp, moves_in, numbers_at, numbers_of, placed_count}
+use Rattle.trace_relations.specs.Clocks.{Moves, clock_of, placed}
+use Rattle.trace_relations.specs.KeptMoves.{HasPairs, HasRoots, HaveJoined, IsAtMost, IsRootPlaced, Stand, coming_cmp, moves_in, numbers_at, placed_count}
 use Rattle.trace_relations.specs.Moves.{all_placed, roots_placed}
 use Rattle.trace_relations.specs.Parents.{all_references}
 use Rattle.trace_relations.specs.Waits.{caller_named}

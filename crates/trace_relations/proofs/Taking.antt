@@ -1,10 +1,9 @@
 -- A call is taken from its group: the first that can try another again.
-use Rattle.std.proofs.Common.{◌≡◌, ℕ, suc, zero, ◌+◌, ◌<◌, ◌≤◌, inl, inr, List, [], ◌∷◌, ◌++◌, Bool, true, false, cond, eqb, get_or, length, set, Option, Some, None, refl, sym, ap, ◌∙◌, subst, arith}
-use Rattle.std.specs.Prelude.{◌⊎◌, ◌&&◌, ◌||◌, ◌==◌, All, MatchOption, bytes_eq, filter, find, is_some, nat_eq, nat_lt, not, slice_get, unwrap_or}
+use Rattle.std.proofs.Common.{◌≡◌, ℕ, suc, zero, ◌<◌, ◌≤◌, inl, inr, List, [], ◌∷◌, Bool, true, false, cond, get_or, length, set, Option, Some, None, refl, sym, ap, ◌∙◌, subst, arith}
+use Rattle.std.specs.Prelude.{◌&&◌, ◌||◌, ◌==◌, bytes_eq, filter, find, is_some, nat_eq, nat_lt, not, slice_get, unwrap_or}
 use Rattle.std.specs.Cmp.Lexicographic.{pointwise}
-use Rattle.std.specs.List.{list_any}
 use Rattle.std.specs.List.Sorted.{IsNonDecreasingBy, IsPartitionedBy}
-use Rattle.std.proofs.lemmas.Bool.{and_from, and_left, and_parts, and_right, cases_Bool, cases_eq, cases_lt, cond-false, cond-true, eq-eqb, eqb-true, false≢true, false_from_ne_true, ne_eqb, true≢false}
+use Rattle.std.proofs.lemmas.Bool.{and_from, and_left, and_parts, cases_eq, cases_lt, cond-false, cond-true, eq-eqb, eqb-true, false≢true, ne_eqb}
 use Rattle.std.proofs.lemmas.Bool.Decides.{nat_tests}
 use Rattle.std.proofs.lemmas.List.Elements.{filter_passes}
 use Rattle.std.proofs.lemmas.List.Kept.{AllPairs-filter, IsNonDecreasingBy-filter}
@@ -23,7 +22,7 @@ use Rattle.trace_relations.specs.FreePlaces.{AreFree, IsFirstFree, NoneIsFree, w
 use Rattle.trace_relations.specs.GroupTakes.{HasTaken, IsFirstAfter, IsTaken, NoneIsTaken, may_be_taken, starts_after}
 use Rattle.trace_relations.specs.Groupings.{number_in}
 use Rattle.trace_relations.specs.Groups.{AreGroups, HasGroup, IsFailed, group_of, is_free, is_of_group}
-use Rattle.trace_relations.specs.Moments.{end_moment, ended_before, interval_at, is_before, is_past, start_moment, turn_number}
+use Rattle.trace_relations.specs.Moments.{end_moment, ended_before, interval_at, is_past, start_moment, turn_number}
 use Rattle.trace_relations.proofs.FreeRows.{with_free_here, with_free_there}
 use Rattle.trace_relations.proofs.Gets.{slice_get-set_here, slice_get-set_there}
 use Rattle.trace_relations.proofs.Keying.{texts-Decides}

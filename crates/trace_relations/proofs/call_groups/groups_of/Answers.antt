@@ -1,4 +1,4 @@
-use Rattle.std.proofs.Common.{◌≡◌, ℕ, Global, Option, Vec, ◌+◌, ◌++◌, [], ◌∷◌, ◌∙◌, ap, get_or, length, subst, sym, take, arith, rules}
+use Rattle.std.proofs.Common.{◌≡◌, ℕ, Global, Option, Vec, ◌+◌, ◌++◌, [], ◌∷◌, get_or, subst, sym, take, arith, rules}
 use Rattle.std.specs.Prelude.{All}
 use Rattle.std.proofs.lemmas.List.{take_all, take_more}
 use Rattle.std.proofs.lemmas.List.Elements.{All-more}

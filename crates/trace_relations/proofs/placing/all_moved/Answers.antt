@@ -1,6 +1,6 @@
 use mir.Syntax.{w128}
 use mir.Val.{of_z, to_z}
-use Rattle.std.proofs.Common.{◌≡◌, ◌++◌, ◌∙◌, ap, arith, refl, rules, get_or}
+use Rattle.std.proofs.Common.{◌≡◌, ◌++◌, ◌∙◌, ap, arith, rules, get_or}
 use Rattle.trace_relations.specs.KeptMoves.{moved_if}
 use Rattle.trace_relations.proofs.Clocked.{all_moved_are, moved_by, moved_more}
 use Rattle.trace_relations.proofs.placing.all_moved.Goals as goal

@@ -1,4 +1,4 @@
-use Rattle.std.proofs.Common.{◌≡◌, ◌^◌, ◌*◌, ◌<◌, ◌≤◌, ◌∙◌, [], arith, heap_items, length, rules, subst, sym}
+use Rattle.std.proofs.Common.{◌≡◌, ◌^◌, ◌*◌, arith, heap_items, length, rules}
 use Rattle.std.specs.Prelude.{is_some}
 use Rattle.std.proofs.lemmas.List.Sums.{count_by-le-length}
 use Rattle.trace_relations.specs.KeptMoves.{placed_count}

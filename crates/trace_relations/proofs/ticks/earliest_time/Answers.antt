@@ -5,7 +5,7 @@ use Rattle.std.specs.List.{zip}
 use Rattle.std.proofs.lemmas.List.{length_push}
 use Rattle.std.proofs.lemmas.Slice.Zip.{zip_end, zip_turn}
 use Rattle.trace_relations.specs.declared.fault.RelationsFault.TheVariants.{NoTime}
-use Rattle.trace_relations.specs.Ticks.{earlier, earliest_from}
+use Rattle.trace_relations.specs.Ticks.{earliest_from}
 use Rattle.trace_relations.proofs.Telling.{earliest_fails, earliest_more, zipped_all, zipped_more}
 use Rattle.trace_relations.proofs.ticks.earliest_time.Goals as goal
 

@@ -1,6 +1,6 @@
 use mir.Syntax.{w128}
 use mir.Val.{of_z, to_z}
-use Rattle.std.proofs.Common.{◌≡◌, ◌+◌, ◌∙◌, Some, ap, drop, length, rules, sym}
+use Rattle.std.proofs.Common.{◌+◌, ◌∙◌, Some, ap, drop, length, rules, sym}
 use Rattle.std.specs.Prelude.{find}
 use Rattle.std.specs.List.{zip}
 use Rattle.std.specs.Option.{option_eq, option_map_or}
@@ -8,8 +8,6 @@ use Rattle.std.specs.Ordering.{int_eq}
 use Rattle.std.proofs.lemmas.Int.{to_z-of_z}
 use Rattle.std.proofs.lemmas.List.{length_push}
 use Rattle.std.proofs.lemmas.Slice.Zip.{zip_end, zip_turn}
-use Rattle.trace_spans.specs.declared.span.Span.{Span}
-use Rattle.trace_relations.specs.declared.times.Times.{Times}
 use Rattle.trace_relations.specs.Ticks.{is_first}
 use Rattle.trace_relations.proofs.Telling.{first_found, first_passed, span_of, zipped_all, zipped_more}
 use Rattle.trace_relations.proofs.ticks.first_span.Goals as goal

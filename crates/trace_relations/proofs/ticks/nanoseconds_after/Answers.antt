@@ -1,6 +1,6 @@
 use mir.Syntax.{w128}
 use mir.Val.{of_z, to_z}
-use Rattle.std.proofs.Common.{◌≡◌, ◌-ℤ◌, ◌∙◌, ap, arith}
+use Rattle.std.proofs.Common.{◌-ℤ◌, ◌∙◌, ap, arith}
 use Rattle.std.specs.Int.RustNames.{unsigned_abs}
 use Rattle.std.proofs.lemmas.Int.{ints, to_z-of_z}
 use Rattle.trace_relations.proofs.Telling.{gap_after}

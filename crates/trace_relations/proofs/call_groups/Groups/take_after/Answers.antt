@@ -1,7 +1,7 @@
-use Rattle.std.proofs.Common.{◌≡◌, ◌∙◌, List, ℕ, Some, None, ap, arith, get_or, refl, rules, sym, subst}
+use Rattle.std.proofs.Common.{◌≡◌, ◌∙◌, Some, None, ap, arith, get_or, refl, rules, sym, subst}
 use Rattle.std.specs.Prelude.{slice_get}
 use Rattle.std.proofs.lemmas.Option.{slice_get-get_or}
-use Rattle.trace_relations.specs.Attempts.{Attempts, CallsOf, with_try}
+use Rattle.trace_relations.specs.Attempts.{with_try}
 use Rattle.trace_relations.specs.Groups.{AreGroups}
 use Rattle.trace_relations.proofs.Taking.{has_number_there, has_some_number, none_tries, taken_first, taken_groups}
 use Rattle.trace_relations.proofs.call_groups.Groups.take_after.Goals as goal
