@@ -1,5 +1,5 @@
 -- Clocks are known by the first spans that have them.
-use Rattle.std.proofs.Common.{◌≡◌, ℕ, suc, zero, ◌+◌, ◌<◌, ◌≤◌, List, [], ◌∷◌, ◌++◌, Bool, true, false, cond, length, map, get_or, Option, Some, None, refl, sym, ap, ◌∙◌, subst, arith}
+use Rattle.std.proofs.Common.{◌≡◌, ℕ, suc, zero, ◌+◌, ◌<◌, List, [], ◌∷◌, ◌++◌, Bool, true, false, cond, length, map, get_or, Option, Some, None, refl, sym, ap, ◌∙◌, subst, arith}
 use Rattle.std.specs.Prelude.{◌||◌, All, String, bytes_eq, is_some, option_map, slice_get, string_bytes, string_eq, unwrap_or}
 use Rattle.std.specs.Cmp.Lexicographic.{pointwise}
 use Rattle.std.specs.HashMap.{HashMap, UpdatesBy, get_by_text}
@@ -17,7 +17,7 @@ use Rattle.trace_relations.specs.ClockNumbers.{AreClocks, clock_at, clock_at_som
 use Rattle.trace_relations.specs.Clocks.{clock_of, same_clock}
 use Rattle.trace_relations.specs.Keys.{AreShort, key_of}
 use Rattle.trace_relations.specs.KeptMoves.{HasClocks}
-use Rattle.trace_relations.specs.Parents.{all_references, named_in, named_parent, references_from, references_of}
+use Rattle.trace_relations.specs.Parents.{all_references, named_parent, references_from, references_of}
 use Rattle.trace_relations.specs.Waits.{caller_named, named_among}
 use Rattle.trace_relations.proofs.Keying.{same_keys_back, texts-Decides}
 

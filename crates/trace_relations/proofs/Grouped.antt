@@ -1,9 +1,9 @@
 -- Calls in groups by their keys.
 use Rattle.std.proofs.Common.{◌≡◌, ℕ, suc, zero, ◌+◌, ◌<◌, ◌≤◌, ◌^◌, inl, inr, List, [], ◌∷◌, ◌++◌, Bool, true, false, cond, eqb, get_or, length, set, Option, Some, None, refl, sym, ap, ◌∙◌, subst, arith}
-use Rattle.std.specs.Prelude.{◌⊎◌, ◌&&◌, ◌||◌, All, Decides, String, bytes_eq, filter, is_some, nat_eq, option_and_then, slice_get, string_bytes, string_eq, unwrap_or}
+use Rattle.std.specs.Prelude.{◌⊎◌, ◌&&◌, ◌||◌, All, String, bytes_eq, filter, is_some, nat_eq, option_and_then, slice_get}
 use Rattle.std.specs.Cmp.Lexicographic.{pointwise}
 use Rattle.std.specs.Fmt.{decimal}
-use Rattle.std.specs.HashMap.{HashMap, UpdatesBy, get_by_text}
+use Rattle.std.specs.HashMap.{HashMap, get_by_text}
 use Rattle.std.specs.List.{list_any}
 use Rattle.std.specs.Option.{option_eq}
 use Rattle.std.specs.declared.alloc.Global.{Global}
@@ -12,7 +12,6 @@ use Rattle.std.proofs.lemmas.Bool.Decides.{Decides-and, Decides-eqb, Decides-lik
 use Rattle.std.proofs.lemmas.List.{append-nil, length-set, length_push}
 use Rattle.std.proofs.lemmas.List.Elements.{All-get_or, All-head, All-push, All-tail, All-weaker, filter-append}
 use Rattle.std.proofs.lemmas.List.Folds.{list_any-append}
-use Rattle.std.proofs.lemmas.Map.Text.{hash_map_updates_text}
 use Rattle.std.proofs.lemmas.Option.{none-some, same_Some, slice_get-get_or, slice_get_within}
 use Rattle.std.proofs.lemmas.Slice.Eq.{bytes_eq-Decides}
 use Rattle.trace_spans.specs.declared.span.Span.{Span}
@@ -20,11 +19,10 @@ use Rattle.trace_relations.specs.declared.call_groups.Group.{Group}
 use Rattle.trace_relations.specs.declared.call_groups.Groups.{Groups}
 use Rattle.trace_relations.specs.Attempts.{CallsOf, has_failed, is_failed_call, is_same_call, same_caller, tried_once}
 use Rattle.trace_relations.specs.Calls.{call_texts}
-use Rattle.trace_relations.specs.FreePlaces.{AreFree}
 use Rattle.trace_relations.specs.GroupKeys.{AreFailing, IsShort, IsShortCall, call_key, group_key, group_texts, is_failing, key_if_failing, key_with}
 use Rattle.trace_relations.specs.Groupings.{IsFreeGroup, IsGrouping, calls_at, calls_in, calls_of, has_key, number_in}
 use Rattle.trace_relations.specs.Groups.{AreGroups, HasGroup, IsFailed, is_of_group}
-use Rattle.trace_relations.specs.Keys.{AreShort, key_of}
+use Rattle.trace_relations.specs.Keys.{key_of}
 use Rattle.trace_relations.specs.Sets.{set_for}
 use Rattle.trace_relations.proofs.Gets.{slice_get_front, slice_get_last, slice_get_there, value-set, value_other}
 use Rattle.trace_relations.proofs.Keying.{decimal_apart, keys_apart, texts-Decides}
@@ -34,7 +32,7 @@ own_bytes key = (bytes_eq-Decides key key).1 refl
 
 filter_has : (p : ℕ → Bool) (x : ℕ) (xs : List ℕ) → list_any (nat_eq x) xs ≡ true → p x ≡ true → filter p xs ≡ [] → ⊥
 filter_has p x [] among passes none = false≢true among
-filter_has p x (y ∷ ys) among passes none = by_test (p y) refl none
+filter_has p x (y ∷ ys) among passes none = by_test (p y) refl none (λ any. filter_has p x ys any passes)
   where
     later : p y ≡ false → list_any (nat_eq x) ys ≡ true
     later fails = elim (or_cases (nat_eq x y) (list_any (nat_eq x) ys) among) [
@@ -42,9 +40,9 @@ filter_has p x (y ∷ ys) among passes none = by_test (p y) refl none
       | inr rest ↦ rest
     ]
 
-    by_test : (b : Bool) → p y ≡ b → cond b (y ∷ filter p ys) (filter p ys) ≡ [] → ⊥
-    by_test true is empty = cc
-    by_test false is empty = filter_has p x ys (later is) passes empty
+    by_test : (b : Bool) → p y ≡ b → cond b (y ∷ filter p ys) (filter p ys) ≡ [] → (list_any (nat_eq x) ys ≡ true → filter p ys ≡ [] → ⊥) → ⊥
+    by_test true is empty rest = cc
+    by_test false is empty rest = rest (later is) empty
 
 key_here : (keys : ℕ → Option (List ℕ)) (place : ℕ) (key : List ℕ) → keys place ≡ Some key → has_key keys key place ≡ true
 key_here keys place key is = ap (λ o. option_eq bytes_eq o (Some key)) is ∙ own_bytes key
@@ -147,7 +145,7 @@ more_calls keys places known groups new_groups of_spans key other number place (
 before_or_last : (places : List ℕ) (place other : ℕ) → list_any (nat_eq other) (places ++ place ∷ []) ≡ true → (list_any (nat_eq other) places ≡ true) ⊎ (other ≡ place)
 before_or_last places place other among = elim (or_cases (list_any (nat_eq other) places) (nat_eq other place || false) (sym (list_any-append (nat_eq other) places (place ∷ [])) ∙ among)) [
   | inl before ↦ inl before
-  | inr last ↦ elim (or_cases (nat_eq other place) false last) [ inl same ↦ inr (eqb-true other place same) | inr no ↦ absurd (false≢true no) ]
+  | inr last ↦ elim (or_cases (nat_eq other place) false last) [ inl same ↦ inr (eqb-true other place same) | inr neither ↦ absurd (false≢true neither) ]
 ]
 
 pub grouping_more : {S : Type 0} (keys : ℕ → Option (List ℕ)) (places : List ℕ) (known : HashMap (String Global) ℕ S) (groups new_groups : List Group) (of_spans : List (Option ℕ)) (key : List ℕ) (number place : ℕ) → IsGrouping keys places known groups of_spans

@@ -1,5 +1,5 @@
 -- Pairs of spans and their callers.
-use Rattle.std.proofs.Common.{◌≡◌, ℕ, ◌+◌, ◌<◌, ◌≤◌, List, [], ◌∷◌, ◌++◌, Bool, drop, get_or, length, Option, Some, None, refl, sym, ap, ◌∙◌, subst, arith}
+use Rattle.std.proofs.Common.{◌≡◌, ℕ, ◌+◌, ◌<◌, ◌≤◌, List, [], ◌∷◌, ◌++◌, Bool, drop, get_or, length, Option, Some, None, sym, ap, ◌∙◌, subst, arith}
 use Rattle.std.specs.Prelude.{All, IfSome, option_and_then, slice_get}
 use Rattle.std.specs.Option.{option_to_list}
 use Rattle.std.proofs.lemmas.List.{append-nil, append_assoc, drop_all, drop_more}
@@ -7,7 +7,7 @@ use Rattle.std.proofs.lemmas.List.Elements.{All-append, All-cons, All-nil}
 use Rattle.std.proofs.lemmas.Option.{same_Some, slice_get-get_or}
 use Rattle.trace_spans.specs.declared.span.Span.{Span}
 use Rattle.trace_relations.specs.declared.clocks.Pair.{Pair}
-use Rattle.trace_relations.specs.ClockNumbers.{AreClocks, all_pairs, clock_at, pairs_from}
+use Rattle.trace_relations.specs.ClockNumbers.{all_pairs, clock_at, pairs_from}
 use Rattle.trace_relations.specs.Clocks.{clock_of, pair_of, pair_with}
 use Rattle.trace_relations.specs.KeptMoves.{IsPairAmong}
 use Rattle.trace_relations.specs.Parents.{all_references, named_parent}

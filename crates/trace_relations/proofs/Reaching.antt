@@ -1,14 +1,14 @@
 -- Clocks that are placed one after another.
-use Rattle.std.proofs.Common.{◌≡◌, ℕ, suc, zero, ◌+◌, ◌*◌, ◌-◌, ◌^◌, ◌<◌, ◌≤◌, inl, inr, ℤ, pos, List, [], ◌∷◌, ◌++◌, Bool, true, false, cond, eqb, get_or, length, replicate, set, Option, Some, None, refl, sym, ap, ◌∙◌, subst, add-one, arith}
-use Rattle.std.specs.Prelude.{◌⊎◌, ◌&&◌, ◌||◌, All, IfSome, IsPermutation, MatchBool, MatchOption, count_by, filter, find, is_none, is_some, nat_eq, option_and_then, option_to_list, slice_get, sum_by, unwrap_or}
+use Rattle.std.proofs.Common.{◌≡◌, ℕ, suc, zero, ◌+◌, ◌*◌, ◌-◌, ◌^◌, ◌<◌, ◌≤◌, inl, inr, ℤ, List, [], ◌∷◌, Bool, true, false, cond, eqb, get_or, length, set, Option, Some, None, refl, sym, ap, ◌∙◌, subst, arith}
+use Rattle.std.specs.Prelude.{◌||◌, All, IfSome, IsPermutation, MatchOption, filter, find, is_none, is_some, nat_eq, option_and_then, option_to_list, slice_get}
 use Rattle.std.specs.BinaryHeap.{IsHeap, IsUpperBound}
 use Rattle.std.specs.List.{list_any, range_with_len}
 use Rattle.std.specs.Ordering.{is_lt, nat_cmp}
 use Rattle.std.specs.declared.cmp.Reverse.{Reverse}
 use Rattle.std.proofs.lemmas.Bool.{cases_Bool, cond-false, cond-true, eq-eqb, eqb-true, false≢true, ne_eqb, or_cases, or_left, or_parts, or_right, true≢false}
 use Rattle.std.proofs.lemmas.Bool.Decides.{nat_tests}
-use Rattle.std.proofs.lemmas.List.{length-replicate, length-set}
-use Rattle.std.proofs.lemmas.List.Elements.{All-get_or, All-replicate, All-set}
+use Rattle.std.proofs.lemmas.List.{length-set}
+use Rattle.std.proofs.lemmas.List.Elements.{All-get_or, All-set}
 use Rattle.std.proofs.lemmas.List.FromFn.{length-range_with_len}
 use Rattle.std.proofs.lemmas.List.Sorted.{length_permutation, list_any-IsPermutation}
 use Rattle.std.proofs.lemmas.List.Sums.{count_by-le-length, length-filter, sum_by-set}
@@ -16,7 +16,7 @@ use Rattle.std.proofs.lemmas.Option.{cond_some, none-some, option_and_then_some,
 use mathlib.Core.Path.{fun_ext}
 use Rattle.trace_relations.specs.declared.clocks.Pair.{Pair}
 use Rattle.trace_relations.specs.Clocks.{Moves, is_next, move_in, placed, placed_next, range_of, unplaced, with_move, with_next}
-use Rattle.trace_relations.specs.KeptMoves.{AreMovesWithin, HasPairs, HasPlacedBy, HaveJoined, IsAtMost, IsPairAmong, IsSaid, Stand, coming_cmp, has_number, is_of, moves_in, next_clock, numbers_at, numbers_of, placed_count, touches}
+use Rattle.trace_relations.specs.KeptMoves.{AreMovesWithin, HasPlacedBy, HaveJoined, IsAtMost, IsPairAmong, IsSaid, Stand, coming_cmp, has_number, is_of, moves_in, next_clock, numbers_of, placed_count, touches}
 use Rattle.trace_relations.proofs.Gets.{value-set}
 use Rattle.trace_relations.proofs.Moving.{all_said, at_most_more, move_within, moves_at, moves_more}
 

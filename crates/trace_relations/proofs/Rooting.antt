@@ -1,12 +1,12 @@
 -- The clocks of spans that name no parent are placed first.
-use Rattle.std.proofs.Common.{◌≡◌, ℕ, suc, zero, ◌+◌, ◌*◌, ◌^◌, ◌<◌, ◌≤◌, inl, inr, ℤ, pos, List, [], ◌∷◌, ◌++◌, Bool, true, false, cond, eqb, get_or, length, replicate, set, Option, Some, None, refl, sym, ap, ◌∙◌, subst, arith}
-use Rattle.std.specs.Prelude.{◌⊎◌, ◌&&◌, ◌||◌, All, IfSome, MatchBool, is_none, is_some, nat_eq, slice_get, unwrap_or}
+use Rattle.std.proofs.Common.{◌≡◌, ℕ, suc, zero, ◌+◌, ◌*◌, ◌^◌, ◌<◌, ◌≤◌, inl, inr, ℤ, pos, List, [], ◌∷◌, Bool, true, false, cond, get_or, length, replicate, set, Option, Some, None, refl, sym, ap, ◌∙◌, subst, arith}
+use Rattle.std.specs.Prelude.{◌&&◌, ◌||◌, All, IfSome, MatchBool, is_none, is_some, nat_eq, slice_get, unwrap_or}
 use Rattle.std.specs.BinaryHeap.{IsHeap}
 use Rattle.std.specs.List.{list_any, range_with_len}
 use Rattle.std.specs.declared.alloc.Global.{Global}
 use Rattle.std.specs.declared.cmp.Reverse.{Reverse}
 use Rattle.std.specs.Prelude.{Vec}
-use Rattle.std.proofs.lemmas.Bool.{and_parts, cases_Bool, cond-false, cond-true, eq-eqb, eqb-true, false≢true, ne_eqb, or_left, or_right, true≢false}
+use Rattle.std.proofs.lemmas.Bool.{and_parts, cases_Bool, eq-eqb, eqb-true, false≢true, ne_eqb, or_left, or_right, true≢false}
 use Rattle.std.proofs.lemmas.List.{length-map, length-replicate}
 use Rattle.std.proofs.lemmas.List.Elements.{All-replicate}
 use Rattle.std.proofs.lemmas.Option.{none-some, slice_get-get_or}
@@ -14,8 +14,8 @@ use mathlib.Core.Path.{fun_ext}
 use Rattle.trace_spans.specs.declared.span.Span.{Span}
 use Rattle.trace_relations.specs.declared.clocks.Pair.{Pair}
 use Rattle.trace_relations.specs.ClockNumbers.{AreClocks, all_pairs, clock_at, is_root_among, is_root_of}
-use Rattle.trace_relations.specs.Clocks.{Moves, clock_of, is_next, placed}
-use Rattle.trace_relations.specs.KeptMoves.{HasPairs, HasRoots, HaveJoined, IsAtMost, IsRootPlaced, Stand, coming_cmp, moves_in, numbers_at, numbers_of, placed_count}
+use Rattle.trace_relations.specs.Clocks.{Moves, clock_of, placed}
+use Rattle.trace_relations.specs.KeptMoves.{HasPairs, HasRoots, HaveJoined, IsAtMost, IsRootPlaced, Stand, coming_cmp, moves_in, numbers_at, placed_count}
 use Rattle.trace_relations.specs.Moves.{all_placed, roots_placed}
 use Rattle.trace_relations.specs.Parents.{all_references}
 use Rattle.trace_relations.specs.Waits.{caller_named}
@@ -116,8 +116,8 @@ root_own spans place clock is = ap (λ b. b && is_none (caller_named (all_refere
 abbrev FromRoots : List Span → List (Option ℤ) → ℕ → Type 0
 FromRoots spans moves count = (clock : ℕ) → moves_in moves clock ≡ cond (is_root_among spans count clock) (Some (pos 0)) None
 
-roots_placed : (spans : List Span) (moves : List (Option ℤ)) (place clock : ℕ) → clock < length moves → clock_at spans place ≡ clock → is_none (caller_named (all_references spans) place) ≡ true → FromRoots spans moves place → FromRoots spans (set moves clock (Some (pos 0))) (place + 1)
-roots_placed spans moves place clock lt is named roots other = elim (cases_Bool (nat_eq other clock)) [
+root_placed : (spans : List Span) (moves : List (Option ℤ)) (place clock : ℕ) → clock < length moves → clock_at spans place ≡ clock → is_none (caller_named (all_references spans) place) ≡ true → FromRoots spans moves place → FromRoots spans (set moves clock (Some (pos 0))) (place + 1)
+root_placed spans moves place clock lt is named roots other = elim (cases_Bool (nat_eq other clock)) [
   | inl same ↦
       let e : other ≡ clock = eqb-true other clock same in
       let root : is_root_of spans other place ≡ true = ap (λ c. is_root_of spans c place) e ∙ root_own spans place clock is ∙ named in
@@ -168,7 +168,7 @@ root_cases spans pairs clocks by_clock place clock moves coming new_moves new_co
     (record {
       stand = one_placed pairs (length spans) clock moves coming new_coming (pos 0) long below (none_of (moves_in moves clock) parts.1) roots.stand.within (zero_at_most (placed_count moves * 2 ^ 64 + 2 ^ 64)) roots.stand.order
           (subst (λ numbers. HaveJoined numbers coming new_coming) (has clock below) done.1) (λ number pair is next apart. roots.stand.has number pair is next);
-      roots = roots_placed spans moves place clock here rooted.clock_is parts.0 roots.roots;
+      roots = root_placed spans moves place clock here rooted.clock_is parts.0 roots.roots;
     })
 root_cases spans pairs clocks by_clock place clock moves coming new_moves new_coming false rooted has roots not_both done =
     subst (λ those. HasRoots spans pairs (place + 1) those new_coming) (sym done.0)

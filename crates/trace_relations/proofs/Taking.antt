@@ -1,10 +1,9 @@
 -- A call is taken from its group: the first that can try another again.
-use Rattle.std.proofs.Common.{◌≡◌, ℕ, suc, zero, ◌+◌, ◌<◌, ◌≤◌, inl, inr, List, [], ◌∷◌, ◌++◌, Bool, true, false, cond, eqb, get_or, length, set, Option, Some, None, refl, sym, ap, ◌∙◌, subst, arith}
-use Rattle.std.specs.Prelude.{◌⊎◌, ◌&&◌, ◌||◌, ◌==◌, All, MatchOption, bytes_eq, filter, find, is_some, nat_eq, nat_lt, not, slice_get, unwrap_or}
+use Rattle.std.proofs.Common.{◌≡◌, ℕ, suc, zero, ◌<◌, ◌≤◌, inl, inr, List, [], ◌∷◌, Bool, true, false, cond, get_or, length, set, Option, Some, None, refl, sym, ap, ◌∙◌, subst, arith}
+use Rattle.std.specs.Prelude.{◌&&◌, ◌||◌, ◌==◌, bytes_eq, filter, find, is_some, nat_eq, nat_lt, not, slice_get, unwrap_or}
 use Rattle.std.specs.Cmp.Lexicographic.{pointwise}
-use Rattle.std.specs.List.{list_any}
 use Rattle.std.specs.List.Sorted.{IsNonDecreasingBy, IsPartitionedBy}
-use Rattle.std.proofs.lemmas.Bool.{and_from, and_left, and_parts, and_right, cases_Bool, cases_eq, cases_lt, cond-false, cond-true, eq-eqb, eqb-true, false≢true, false_from_ne_true, ne_eqb, true≢false}
+use Rattle.std.proofs.lemmas.Bool.{and_from, and_left, and_parts, cases_eq, cases_lt, cond-false, cond-true, eq-eqb, eqb-true, false≢true, ne_eqb}
 use Rattle.std.proofs.lemmas.Bool.Decides.{nat_tests}
 use Rattle.std.proofs.lemmas.List.Elements.{filter_passes}
 use Rattle.std.proofs.lemmas.List.Kept.{AllPairs-filter, IsNonDecreasingBy-filter}
@@ -23,7 +22,7 @@ use Rattle.trace_relations.specs.FreePlaces.{AreFree, IsFirstFree, NoneIsFree, w
 use Rattle.trace_relations.specs.GroupTakes.{HasTaken, IsFirstAfter, IsTaken, NoneIsTaken, may_be_taken, starts_after}
 use Rattle.trace_relations.specs.Groupings.{number_in}
 use Rattle.trace_relations.specs.Groups.{AreGroups, HasGroup, IsFailed, group_of, is_free, is_of_group}
-use Rattle.trace_relations.specs.Moments.{end_moment, ended_before, interval_at, is_before, is_past, start_moment, turn_number}
+use Rattle.trace_relations.specs.Moments.{end_moment, ended_before, interval_at, is_past, start_moment, turn_number}
 use Rattle.trace_relations.proofs.FreeRows.{with_free_here, with_free_there}
 use Rattle.trace_relations.proofs.Gets.{slice_get-set_here, slice_get-set_there}
 use Rattle.trace_relations.proofs.Keying.{texts-Decides}
@@ -71,11 +70,11 @@ take_one intervals end free calls from number call places first one there are = 
 
 find_filtered : (g q p : ℕ → Bool) → ((x : ℕ) → p x ≡ (g x && q x)) → (xs : List ℕ) → find p xs ≡ find q (filter g xs)
 find_filtered g q p same [] = refl
-find_filtered g q p same (x ∷ xs) = ap (λ b. cond b (Some x) (find p xs)) (same x) ∙ by_test (g x)
+find_filtered g q p same (x ∷ xs) = ap (λ b. cond b (Some x) (find p xs)) (same x) ∙ by_test (g x) (find_filtered g q p same xs)
   where
-    by_test : (b : Bool) → cond (b && q x) (Some x) (find p xs) ≡ find q (cond b (x ∷ filter g xs) (filter g xs))
-    by_test true = ap (λ o. cond (q x) (Some x) o) (find_filtered g q p same xs)
-    by_test false = find_filtered g q p same xs
+    by_test : (b : Bool) → find p xs ≡ find q (filter g xs) → cond (b && q x) (Some x) (find p xs) ≡ find q (cond b (x ∷ filter g xs) (filter g xs))
+    by_test true rest = ap (λ o. cond (q x) (Some x) o) rest
+    by_test false rest = rest
 
 find_number : (q : ℕ → Bool) (xs : List ℕ) (number x : ℕ) → slice_get xs number ≡ Some x → q (unwrap_or (slice_get xs number) 0) ≡ true → ((k : ℕ) → k < number → q (unwrap_or (slice_get xs k) 0) ≡ false) → find q xs ≡ Some x
 find_number q [] number x is passes before = absurd (none-some x is)
@@ -323,12 +322,14 @@ takes_own calls order attempts intervals end call groups taken places has turn t
 
 pub taken_first : (calls : CallsOf) (order : List ℕ) (attempts : Attempts) (intervals : List Interval) (end : Moment) (call number : ℕ) (groups : Groups) (group : Group) (taken : Option ℕ) (places : FreePlaces) → IsIn calls order attempts intervals call number groups group → end_moment (interval_at intervals call) ≡ Some end
     → Takes intervals end group taken places → taken ≡ first_try calls order attempts call
+unfolding group_is
 taken_first calls order attempts intervals end call number groups group taken places is ends takes =
     let has = group_is calls order attempts call number groups group (is.are.each call is.fails) is.number_is is.there in
     first_taken calls order attempts intervals end call groups taken places is.same ends has (takes_own calls order attempts intervals end call groups taken places has is.turn takes)
 
 pub taken_groups : (calls : CallsOf) (order : List ℕ) (attempts : Attempts) (intervals : List Interval) (end : Moment) (call number : ℕ) (groups new : Groups) (group new_group : Group) (taken : Option ℕ) → IsIn calls order attempts intervals call number groups group → AreSet groups new number group new_group
     → Takes intervals end group taken new_group.free → AreGroups calls order (with_try attempts call taken) new
+unfolding group_is
 taken_groups calls order attempts intervals end call number groups new group new_group taken is set_so takes =
     let has = group_is calls order attempts call number groups group (is.are.each call is.fails) is.number_is is.there in
     taken_by calls order attempts intervals end call groups new new_group taken is.turn is.are is.fails has set_so (takes_own calls order attempts intervals end call groups taken new_group.free has is.turn takes)
@@ -343,3 +344,14 @@ has_number_there calls order attempts call number groups are fails is =
 
 pub has_some_number : (calls : CallsOf) (order : List ℕ) (attempts : Attempts) (call : ℕ) (groups : Groups) → AreGroups calls order attempts groups → IsFailed calls order call → number_in groups.of_spans.items call ≡ None → ⊥
 has_some_number calls order attempts call groups are fails none = let has = are.each call fails in none-some has.number (sym none ∙ has.number_is)
+
+-- what stands at the number that was taken
+pub take_at : (intervals : List Interval) (end : Moment) (free : ℕ → Bool) (calls : List ℕ) (from number : ℕ) (places : FreePlaces) (taken : Option ℕ) → IsFirstAfter intervals end calls from → IsFirstFree (length calls) free from number → taken ≡ slice_get calls number
+    → AreFree places (length calls) (with_free free number false) → HasTaken intervals end free calls taken places
+take_at intervals end free calls from number places None first one is are = absurd (none_there calls number one.1 (sym is))
+  where
+    none_there : (xs : List ℕ) (k : ℕ) → k < length xs → slice_get xs k ≡ None → ⊥
+    none_there [] k lt none = omega arith
+    none_there (x ∷ xs) zero lt none = none-some x (sym none)
+    none_there (x ∷ xs) (suc k) lt none = none_there xs k (omega arith) none
+take_at intervals end free calls from number places (Some call) first one is are = take_one intervals end free calls from number call places first one (sym is) are

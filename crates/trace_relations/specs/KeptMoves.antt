@@ -133,10 +133,6 @@ HasPlacedBy pairs number moves coming new_moves new_coming =
 
 -- ---- clocks that are moved
 
-abbrev pub moved_from : ℕ → List (Option ℤ) → List Moved
-moved_from clock [] = []
-moved_from clock (None ∷ moves) = moved_from (clock + 1) moves
-moved_from clock (Some by ∷ moves) = if int_eq by (pos 0) then moved_from (clock + 1) moves else record { clock = clock; by = by } ∷ moved_from (clock + 1) moves
-
-abbrev pub all_moved : List (Option ℤ) → List Moved
-all_moved moves = moved_from 0 moves
+-- a clock, where a span is the first that has it and it is moved
+abbrev pub moved_if : ℕ → ℕ → ℤ → List Moved
+moved_if place clock by = if nat_eq clock place && not (int_eq by (pos 0)) then record { clock = place; by = by } ∷ [] else []

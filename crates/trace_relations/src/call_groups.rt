@@ -5,7 +5,7 @@ ghost use Rattle.trace_relations.specs.Ancestry.{start_at};
 ghost use Rattle.trace_relations.specs.Attempts.{Attempts, CallsOf, first_try, tried_once, with_try};
 ghost use Rattle.trace_relations.specs.ByStart.{AreInTurn};
 ghost use Rattle.trace_relations.specs.FreePlaces.{AreFree};
-ghost use Rattle.trace_relations.specs.GroupTakes.{HasTaken, IsFirstAfter};
+ghost use Rattle.trace_relations.specs.GroupTakes.{HasTaken, IsFirstAfter, starts_after};
 ghost use Rattle.trace_relations.specs.Groupings.{IsFreeGroup, number_in};
 ghost use Rattle.trace_relations.specs.Groups.{AreGroups, IsFailed};
 ghost use Rattle.trace_relations.specs.KeptAttempts.{calls_with};
@@ -50,6 +50,13 @@ pub(crate) fn groups_of(
     Ok(grouping.into_groups())
 }
 
+/// Whether a call starts after a moment.
+fn starts_after(intervals: &[Interval], end: Moment, call: usize) -> bool
+    ensures { result ≡ starts_after intervals.now end call }
+{
+    end.is_before(interval_at(intervals, call).start_moment())
+}
+
 impl Group {
     /// A group of no calls.
     pub(crate) fn new(alloc: Global) -> Group
@@ -76,9 +83,8 @@ impl Group {
     fn first_after(&self, intervals: &[Interval], end: Moment) -> usize
         ensures { IsNonDecreasingBy (start_at intervals.now) self.now.calls.items → IsFirstAfter intervals.now end self.now.calls.items result }
     {
-        self.calls.partition_point(|call| !end.is_before(interval_at(
-            intervals, *call,
-        ).start_moment()))
+        self.calls
+            .partition_point(|call| !starts_after(intervals, end, *call))
     }
 
     /// Takes the first call that starts after a moment and tries no other.

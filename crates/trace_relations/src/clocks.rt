@@ -1,5 +1,5 @@
 //! What spans and their callers say of each other's clocks.
-ghost use Rattle.std.specs.Prelude.{◌≡◌, ◌<◌, ◌++◌, ◌^◌, [], ◌∷◌, ℕ, List, All, IfOk, IfSome, OnOk, Some, true, if◌then◌else◌, length, map, slice_get, unwrap_or};
+ghost use Rattle.std.specs.Prelude.{◌≡◌, ◌<◌, ◌+◌, ◌++◌, ◌^◌, ◌-ℤ◌, ◌&&◌, [], ◌∷◌, ℕ, List, All, IfOk, IfSome, OnOk, Some, true, if◌then◌else◌, length, map, nat_le, pos, slice_get, unwrap_or};
 ghost use Rattle.std.specs.List.{list_any, position_from};
 ghost use Rattle.std.specs.Option.{option_to_list};
 ghost use Rattle.trace_relations.specs.ClockNumbers.{AreClocks, all_pairs, clock_at};
@@ -58,10 +58,11 @@ fn clock_of(
 fn clock_before(before: &[Span], clocks: &[usize], span: &Span) -> Option<usize>
     ensures { (all : List Span) → clocks.now ≡ map (clock_of all) before.now → IfSome result (λ clock. (clock ≡ clock_of all span.now) × (list_any (same_clock span.now) before.now ≡ true)) }
 {
-    if before.is_empty() {
+    let count = before.len();
+    if count == 0 {
         return None;
     }
-    let last = before.len() - 1;
+    let last = count - 1;
     if !before[last].clock.same(&span.clock) {
         return None;
     }
@@ -104,6 +105,14 @@ pub(crate) fn clocks_of(alloc: Global, spans: &[Span]) -> Result<Vec<usize>, All
     Ok(clocks)
 }
 
+/// Whether a span ended no earlier than it started, and lasted at most as long as its caller.
+fn lasts_within(caller_start: u64, caller_end: u64, start: u64, end: u64) -> bool
+    ensures { result ≡ (nat_le start end && nat_le (end + caller_start) (caller_end + start)) }
+{
+    start <= end
+        && u128::from(end) + u128::from(caller_start) <= u128::from(caller_end) + u128::from(start)
+}
+
 /// Whether a span lay inside its caller: neither is a message, the caller did not fail, and both ended, the span after at
 /// most as long a time.
 fn is_whole(caller: &Span, span: &Span, caller_start: u64, start: u64) -> bool
@@ -114,16 +123,24 @@ fn is_whole(caller: &Span, span: &Span, caller_start: u64, start: u64) -> bool
     };
     !caller.failed
         && !is_message(caller, span)
-        && start <= end
-        && u128::from(end) + u128::from(caller_start) <= u128::from(caller_end) + u128::from(start)
+        && lasts_within(caller_start, caller_end, start, end)
+}
+
+/// How much later a time is than another.
+fn later_by(time: u64, other: u64) -> i128
+    ensures later { result ≡ pos time -ℤ pos other }
+    ensures short { IsAtMost (2 ^ 64) result }
+{
+    i128::from(time) - i128::from(other)
 }
 
 /// How much later a caller ended than a span.
 fn end_after(caller: &Span, span: &Span) -> Option<i128>
-    ensures { result ≡ end_after caller.now.end span.now.end }
+    ensures later { result ≡ end_after caller.now.end span.now.end }
+    ensures short { IfSome result (IsAtMost (2 ^ 64)) }
 {
     match (caller.end, span.end) {
-        (Some(caller_end), Some(end)) => Some(i128::from(caller_end) - i128::from(end)),
+        (Some(caller_end), Some(end)) => Some(later_by(caller_end, end)),
         _ => None,
     }
 }
@@ -147,7 +164,7 @@ fn pair_said(caller_clock: usize, caller: &Span, clock: usize, span: &Span) -> O
 {
     let caller_start = caller.start?;
     let start = span.start?;
-    let least = i128::from(caller_start) - i128::from(start);
+    let least = later_by(caller_start, start);
     let most = most_said(caller, caller_start, span, start);
     Some(Pair {
         caller: caller_clock,

@@ -63,12 +63,17 @@ fn end_with_caller(
     ensures { intervals.new ≡ with_callers_end spans.now references.now intervals.old place }
 {
     let callers_end = end_of_caller(spans, references, intervals, place)?;
-    let interval = intervals.get_mut(place)?;
+    let Interval { start, end } = interval_at(intervals, place);
     let late = LateEnd {
         span: place,
-        by: interval.end?.saturating_sub(callers_end),
+        by: end.unwrap_or(callers_end).saturating_sub(callers_end),
     };
-    interval.end = Some(callers_end);
+    if place < intervals.len() {
+        intervals[place] = Interval {
+            start,
+            end: Some(callers_end),
+        };
+    }
     Some(late)
 }
 

@@ -1,13 +1,13 @@
 //! By how much clocks are moved: one after another, each by those that are placed.
-ghost use Rattle.std.specs.Prelude.{◌≡◌, ◌==◌, ◌<◌, ◌≤◌, ◌+◌, ◌^◌, ◌+ℤ◌, ◌-ℤ◌, ◌++◌, ◌∷◌, [], ℕ, List, All, pos, IfOk, IfSome, OnOk, length, option_map, replicate, slice_set, unwrap_or, vec_len, if◌then◌else◌};
+ghost use Rattle.std.specs.Prelude.{◌≡◌, ◌==◌, ◌<◌, ◌≤◌, ◌+◌, ◌^◌, ◌+ℤ◌, ◌-ℤ◌, ◌++◌, ◌∷◌, [], ℕ, List, All, pos, IfOk, IfSome, OnOk, length, option_map, replicate, slice_get, slice_set, unwrap_or, vec_len, if◌then◌else◌};
 ghost use Rattle.std.specs.BinaryHeap.{heap_items};
 ghost use Rattle.std.specs.Int.{int_div_euclid};
 ghost use Rattle.trace_relations.specs.declared.clocks.Pair.{Pair};
 ghost use Rattle.trace_relations.specs.Ancestry.{most_spans};
 ghost use Rattle.trace_relations.specs.ClockNumbers.{AreClocks, all_pairs, clock_at};
 ghost use Rattle.trace_relations.specs.Clocks.{everything, higher, is_next, lower, move_in, narrowed, of_called, of_caller, placed, range_of, says_of, unplaced};
-ghost use Rattle.trace_relations.specs.KeptMoves.{AreMovesWithin, HasPairs, HasPlacedBy, HasRoots, HaveJoined, IsAtMost, IsPairAmong, IsRangeWithin, IsRootPlaced, IsSaid, Stand, all_moved, counts_as, moves_in, narrowed_at, narrowed_by_numbers, next_clock, numbers_at, numbers_of, placed_count, touches};
-ghost use Rattle.trace_relations.specs.Moves.{all_moves, all_placed};
+ghost use Rattle.trace_relations.specs.KeptMoves.{AreMovesWithin, HasPairs, HasPlacedBy, HasRoots, HaveJoined, IsAtMost, IsPairAmong, IsRangeWithin, IsRootPlaced, IsSaid, Stand, counts_as, moved_if, moves_in, narrowed_at, narrowed_by_numbers, next_clock, numbers_at, numbers_of, placed_count, touches};
+ghost use Rattle.trace_relations.specs.Moves.{all_moves, all_placed, moved_clocks};
 ghost use Rattle.trace_relations.specs.Parents.{all_references};
 ghost use Rattle.trace_relations.specs.Times.{times_of};
 ghost use Rattle.trace_spans.specs.declared.span.Span.{Span};
@@ -266,24 +266,25 @@ fn narrowed_by(
 {
     let mut range = range;
     for number in numbers {
-        range = narrowed_at(moves, clock, pairs.get(*number), are_whole, range);
+        range = narrowed_at(moves, clock, pairs, *number, are_whole, range);
     }
     range
 }
 
-/// What a pair says of a clock beside a range, if it counts.
+/// What the pair of a number says of a clock beside a range, if it counts.
 fn narrowed_at(
     moves: &[Option<i128>],
     clock: usize,
-    pair: Option<&Pair>,
+    pairs: &[Pair],
+    number: usize,
     are_whole: bool,
     range: Range,
 ) -> Range
     requires moves { AreMovesWithin (2 ^ 100) moves.now }
-    requires pair { IfSome pair (λ one. IsSaid one.now) }
-    ensures { result ≡ narrowed_at (moves_in moves.now) clock are_whole range (option_map (λ one. one.now) pair) }
+    requires pairs { All IsSaid pairs.now }
+    ensures { result ≡ narrowed_at (moves_in moves.now) clock are_whole range (slice_get pairs.now number) }
 {
-    match pair {
+    match pairs.get(number) {
         Some(pair) => {
             if counts_as(pair, are_whole) {
                 range.narrowed(says_of(moves, clock, pair))
@@ -474,17 +475,33 @@ fn all_moves(
     Ok(moves)
 }
 
+/// Adds the clock of a span, if that is the first that has it and the clock is moved.
+fn push_moved(
+    moved: &mut Vec<Moved>,
+    place: usize,
+    clock: usize,
+    by: i128,
+) -> Result<(), AllocError>
+    ensures { OnOk result (moved.new.items ≡ moved.old.items ++ moved_if place clock by) }
+{
+    if clock == place && by != 0 {
+        moved.push(Moved { clock: place, by })?;
+    }
+    Ok(())
+}
+
 /// The clocks that are moved, by their first spans.
-fn all_moved(alloc: Global, moves: &[Option<i128>]) -> Result<Vec<Moved>, AllocError>
-    ensures { IfOk result (λ moved. moved.items ≡ all_moved moves.now) }
+fn all_moved(
+    alloc: Global,
+    clocks: &[usize],
+    moves: &[Option<i128>],
+) -> Result<Vec<Moved>, AllocError>
+    ensures { (spans : List Span) → AreClocks spans clocks.now → IfOk result (λ moved. moved.items ≡ moved_clocks spans (λ place. unwrap_or (moves_in moves.now (clock_at spans place)) (pos 0))) }
 {
     let mut moved = Vec::new(alloc);
-    for (clock, by) in moves.iter().enumerate() {
-        if let Some(by) = by {
-            if *by != 0 {
-                moved.push(Moved { clock, by: *by })?;
-            }
-        }
+    for (place, clock) in clocks.iter().enumerate() {
+        let by = move_of(moves, *clock).unwrap_or(0);
+        push_moved(&mut moved, place, *clock, by)?;
     }
     Ok(moved)
 }
@@ -534,7 +551,8 @@ pub(crate) fn placed_times(
 ) -> Result<Placed, AllocError>
     requires count { length spans.now ≤ most_spans }
     requires references { references.now ≡ all_references spans.now }
-    ensures { IfOk result (λ placed. placed.times.items ≡ times_of (all_moves spans.now) spans.now) }
+    ensures times { IfOk result (λ placed. placed.times.items ≡ times_of (all_moves spans.now) spans.now) }
+    ensures moved { IfOk result (λ placed. placed.moved.items ≡ moved_clocks spans.now (all_moves spans.now)) }
 {
     let clocks = clocks_of(alloc, spans)?;
     let pairs = pairs_of(alloc, spans, references, &clocks)?;
@@ -546,7 +564,7 @@ pub(crate) fn placed_times(
     }
     let moves = all_moves(alloc, spans, references, &clocks, &pairs)?;
     Ok(Placed {
-        moved: all_moved(alloc, &moves)?,
+        moved: all_moved(alloc, &clocks, &moves)?,
         times: all_times(alloc, spans, &clocks, &moves)?,
     })
 }

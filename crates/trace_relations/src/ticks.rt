@@ -1,5 +1,5 @@
 //! The ticks of spans: how many units after the earliest time of their trace.
-ghost use Rattle.std.specs.Prelude.{◌≡◌, IfOk};
+ghost use Rattle.std.specs.Prelude.{◌≡◌, IfOk, option_and_then};
 ghost use Rattle.std.specs.Int.{int_gap};
 ghost use Rattle.trace_relations.specs.Reads.{IsToldAs};
 ghost use Rattle.trace_relations.specs.Ticks.{earlier, earliest_time, first_span, interval_between, interval_if, intervals_of, is_late, tick_if, too_late};
@@ -36,10 +36,11 @@ pub(crate) fn earliest_time(
 {
     let mut earliest = None;
     for (span, of_span) in spans.iter().zip(times) {
-        let Some(time) = earlier(of_span.start, of_span.end) else {
+        let time = earlier(of_span.start, of_span.end);
+        if time.is_none() {
             return Err(RelationsFault::NoTime(SpanName::of(alloc, span)?));
-        };
-        earliest = earlier(earliest, Some(time));
+        }
+        earliest = earlier(earliest, time);
     }
     Ok(earliest.unwrap_or(0))
 }
@@ -49,13 +50,14 @@ fn nanoseconds_after(origin: i128, time: i128) -> u128
     ensures { result ≡ int_gap origin time }
 {
     if origin < time {
-        (time - origin) as u128
+        time.abs_diff(origin)
     } else {
         0
     }
 }
 
 /// The tick of a time in a trace that begins at another, if it isn't too late.
+#[tactic(auto, unfolding(crate::specs::Ticks::tick_of))]
 fn tick_of(unit: Unit, origin: i128, time: i128) -> Option<u64>
     ensures { result ≡ tick_if unit origin time }
 {
@@ -64,6 +66,16 @@ fn tick_of(unit: Unit, origin: i128, time: i128) -> Option<u64>
         Some(ticks as u64)
     } else {
         None
+    }
+}
+
+/// The tick of a time, if it is told and isn't too late.
+fn told_tick(unit: Unit, origin: i128, time: Option<i128>) -> Option<u64>
+    ensures { result ≡ option_and_then (tick_if unit origin) time }
+{
+    match time {
+        Some(time) => tick_of(unit, origin, time),
+        None => None,
     }
 }
 
@@ -99,14 +111,15 @@ fn is_late(unit: Unit, origin: i128, time: Option<i128>) -> bool
 }
 
 /// The ticks of the times of a span, unless one is too late.
+#[tactic(auto, unfolding(crate::specs::Ticks::interval_of))]
 fn interval_of(unit: Unit, origin: i128, times: Times) -> Option<Interval>
     ensures { result ≡ interval_if unit origin times }
 {
     if is_late(unit, origin, times.start) || is_late(unit, origin, times.end) {
         return None;
     }
-    let start = times.start.and_then(|time| tick_of(unit, origin, time));
-    let end = times.end.and_then(|time| tick_of(unit, origin, time));
+    let start = told_tick(unit, origin, times.start);
+    let end = told_tick(unit, origin, times.end);
     Some(interval_between(start, end))
 }
 

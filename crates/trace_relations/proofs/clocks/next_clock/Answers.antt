@@ -11,8 +11,8 @@ returns-in-Some-clause-clock c = λ all rest is are has. (c.in-Some.ensures all 
 pub returns-in-Some-clause-known : goal.returns-in-Some-clause-known
 returns-in-Some-clause-known c = λ all are has. known_alike c.args.known.now c.args.before.now c.args.span.now has (c.in-Some.ensures all are).1
 
-pub returns-in-None-clause-clock : goal.returns-in-None-clause-clock
-returns-in-None-clause-clock c = λ all rest is are has. next_is all c.args.before.now rest c.args.span.now c.in_ok-clock.clock is (c.in_ok-clock.ensures.found c.args.before.now has (search rules) ∙ ap (λ n. unwrap_or (position_from (same_clock c.args.span.now) 0 c.args.before.now) n) (search rules))
+pub returns-in_ok-clock-in-None-clause-clock : goal.returns-in_ok-clock-in-None-clause-clock
+returns-in_ok-clock-in-None-clause-clock c = λ all rest is are has. next_is all c.args.before.now rest c.args.span.now c.in_ok-clock-in-None.clock is (c.in_ok-clock-in-None.ensures.found c.args.before.now has (search rules) ∙ ap (λ n. unwrap_or (position_from (same_clock c.args.span.now) 0 c.args.before.now) n) (search rules))
 
-pub returns-in-None-clause-known : goal.returns-in-None-clause-known
-returns-in-None-clause-known c = λ all are has. c.in_ok-clock.ensures.known c.args.before.now has (search rules)
+pub returns-in_ok-clock-in-None-clause-known : goal.returns-in_ok-clock-in-None-clause-known
+returns-in_ok-clock-in-None-clause-known c = λ all are has. c.in_ok-clock-in-None.ensures.known c.args.before.now has (search rules)

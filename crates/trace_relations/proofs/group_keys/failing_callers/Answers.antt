@@ -1,4 +1,4 @@
-use Rattle.std.proofs.Common.{arith, rules}
+use Rattle.std.proofs.Common.{arith}
 use Rattle.trace_relations.specs.KeptAttempts.{calls_with}
 use Rattle.trace_relations.proofs.Grouped.{all_failing, none_failing, one_failing}
 use Rattle.trace_relations.proofs.group_keys.failing_callers.Goals as goal

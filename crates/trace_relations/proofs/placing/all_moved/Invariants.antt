@@ -1,7 +1,9 @@
-use Rattle.std.proofs.Common.{◌≡◌, ◌++◌, drop}
-use Rattle.trace_relations.specs.KeptMoves.{all_moved, moved_from}
+use Rattle.std.proofs.Common.{◌≡◌, List}
+use Rattle.trace_spans.specs.declared.span.Span.{Span}
+use Rattle.trace_relations.specs.ClockNumbers.{AreClocks}
+use Rattle.trace_relations.proofs.Clocked.{moved_before, moved_by}
 use Rattle.trace_relations.proofs.placing.all_moved.Given as goal
 
--- those so far, and those of the clocks that are left
-abbrev pub invariant-loop-clock : goal.invariant-loop-clock
-invariant-loop-clock l = all_moved l.moves ≡ l.moved.items ++ moved_from l.clock (drop l.clock l.moves)
+-- those of the spans so far
+abbrev pub invariant-loop-place : goal.invariant-loop-place
+invariant-loop-place l = (spans : List Span) → AreClocks spans l.clocks → l.moved.items ≡ moved_before spans (moved_by spans l.moves) l.place

@@ -1,4 +1,4 @@
-use Rattle.std.proofs.Common.{◌≡◌, ◌++◌, ℕ, ℤ, pos, drop, length}
+use Rattle.std.proofs.Common.{◌≡◌, ◌++◌, pos, drop, length}
 use Rattle.std.specs.Prelude.{unwrap_or}
 use Rattle.trace_relations.specs.ClockNumbers.{clock_at}
 use Rattle.trace_relations.specs.KeptMoves.{moves_in}

@@ -1,4 +1,6 @@
-use Rattle.std.proofs.Common.{◌≡◌, ◌^◌, ◌+◌, ◌∙◌, heap_items, Some, None, ap, refl, set, sym, subst, arith}
+use mir.Syntax.{w128}
+use mir.Val.{of_z, to_z}
+use Rattle.std.proofs.Common.{◌≡◌, ◌^◌, ◌+◌, ◌∙◌, heap_items, Some, None, ap, refl, rules, set, sym, subst, arith}
 use Rattle.trace_relations.specs.Clocks.{move_in, range_of}
 use Rattle.trace_relations.specs.KeptMoves.{AreMovesWithin, HaveJoined, IsRangeWithin, moves_in, next_clock}
 use Rattle.trace_relations.proofs.Moving.{all_said, moves_at, moves_more, range_more, range_within}
@@ -32,6 +34,7 @@ returns c =
     let numbers = c.pairs_at-numbers.ensures ∙ c.requires.by_clock c.in-Some.clock (next_within _ (moves_in c.as_slice-placed.result.now) c.args.pairs.now c.args.number c.in-Some.clock c.requires.pairs (sym c.in-Some.ensures)) in
     let by : c.move_in-by.result ≡ move_in (range_of (moves_in c.args.moves.now.items) c.in-Some.clock c.args.pairs.now) =
     c.move_in-by.ensures ∙ ap move_in (c.range_of-range.ensures ∙ ap (λ those. range_of (moves_in those) c.in-Some.clock c.args.pairs.now) c.as_slice-placed.ensures.value) in
+    let same : to_z w128 (of_z w128 c.move_in-by.result) ≡ c.move_in-by.result = search rules in
     placed_at c.args.pairs.now c.args.number c.args.moves.now.items (heap_items c.args.coming.now) c.place_clock.new.moves.items (heap_items c.place_clock.new.coming) (Some c.in-Some.clock)
     (sym (c.in-Some.ensures ∙ ap (λ those. next_clock (moves_in those) c.args.pairs.now c.args.number) c.as_slice-placed.ensures.value))
-    (c.in_ok-place_clock.ensures.moves ∙ ap (λ b. set c.args.moves.now.items c.in-Some.clock (Some b)) by, subst (λ those. HaveJoined those (heap_items c.args.coming.now) (heap_items c.place_clock.new.coming)) numbers c.in_ok-place_clock.ensures.coming)
+    (c.in_ok-place_clock.ensures.moves ∙ ap (λ b. set c.args.moves.now.items c.in-Some.clock (Some b)) (same ∙ by), subst (λ those. HaveJoined those (heap_items c.args.coming.now) (heap_items c.place_clock.new.coming)) numbers c.in_ok-place_clock.ensures.coming)

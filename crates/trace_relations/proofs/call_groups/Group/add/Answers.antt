@@ -1,4 +1,4 @@
-use Rattle.std.proofs.Common.{◌+◌, ◌∙◌, refl, sym, arith, rules}
+use Rattle.std.proofs.Common.{rules}
 use Rattle.trace_relations.proofs.FreeRows.{still_free}
 use Rattle.trace_relations.proofs.call_groups.Group.add.Goals as goal
 
