@@ -2,8 +2,8 @@
 ghost use Rattle.std.specs.Prelude.{◌≡◌, IfOk, option_map, option_and_then};
 ghost use Rattle.serde_json.specs.Find.{as_str};
 ghost use Rattle.trace_spans.specs.Members.{member_of};
-ghost use Rattle.trace_spans.specs.Reads.{IsRead};
-ghost use Rattle.trace_spans.specs.Tags.{no_tags, tag_value, tags_in, tags_of, with_tag};
+ghost use Rattle.trace_spans.specs.Reads.{IsRead, IsReadAs};
+ghost use Rattle.trace_spans.specs.Tags.{no_tags, tag_value, tags_in, tags_of, tags_with, with_tag};
 
 use crate::fault::Fault;
 use crate::member::Member;
@@ -115,6 +115,16 @@ impl<'t, 'a> Tags<'t, 'a> {
         }
     }
 
+    /// Puts the tag that an item of a list is into its place.
+    fn add(&mut self, form: TagForm, list: Member, tag: &Tree<'t, 'a>) -> Result<(), Fault>
+        ensures { IsReadAs (λ _. self.new) result (tags_with form list tag.now self.old) }
+    {
+        item_object(tag, list)?;
+        let key = text_or_empty(tag, Member::Key)?;
+        self.put(key, value_of(form, tag));
+        Ok(())
+    }
+
     /// The tags in a list.
     fn of_items(
         form: TagForm,
@@ -123,11 +133,9 @@ impl<'t, 'a> Tags<'t, 'a> {
     ) -> Result<Tags<'t, 'a>, Fault>
         ensures { IsRead result (tags_of form list no_tags items.entry) }
     {
-        let mut tags = Tags::none();
+        let mut tags: Tags<'t, 'a> = Tags::none();
         while let Some(tag) = items.next() {
-            item_object(&tag, list)?;
-            let key = text_or_empty(&tag, Member::Key)?;
-            tags.put(key, value_of(form, &tag));
+            tags.add(form, list, &tag)?;
         }
         Ok(tags)
     }
