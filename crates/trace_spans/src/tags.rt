@@ -116,12 +116,12 @@ impl<'t, 'a> Tags<'t, 'a> {
     }
 
     /// Puts the tag that an item of a list is into its place.
-    fn add(&mut self, form: TagForm, list: Member, tag: &Tree<'t, 'a>) -> Result<(), Fault>
-        ensures { IsReadAs (λ _. self.new) result (tags_with form list tag.now self.old) }
+    fn add(&mut self, form: TagForm, list: Member, tag: Tree<'t, 'a>) -> Result<(), Fault>
+        ensures { IsReadAs (λ _. self.new) result (tags_with form list tag.entry self.old) }
     {
-        item_object(tag, list)?;
-        let key = text_or_empty(tag, Member::Key)?;
-        self.put(key, value_of(form, tag));
+        item_object(&tag, list)?;
+        let key = text_or_empty(&tag, Member::Key)?;
+        self.put(key, value_of(form, &tag));
         Ok(())
     }
 
@@ -135,7 +135,7 @@ impl<'t, 'a> Tags<'t, 'a> {
     {
         let mut tags: Tags<'t, 'a> = Tags::none();
         while let Some(tag) = items.next() {
-            tags.add(form, list, &tag)?;
+            tags.add(form, list, tag)?;
         }
         Ok(tags)
     }
