@@ -116,28 +116,28 @@ impl<'t, 'a> Tags<'t, 'a> {
     }
 
     /// Puts the tag that an item of a list is into its place.
-    fn add(&mut self, form: TagForm, list: Member, tag: Tree<'t, 'a>) -> Result<(), Fault>
-        ensures { IsReadAs (λ _. self.new) result (tags_with form list tag.entry self.old) }
+    fn add(&mut self, form: TagForm, list: Member, tag: &Tree<'t, 'a>) -> Result<(), Fault>
+        ensures { IsReadAs (λ _. self.new) result (tags_with form list tag.now self.old) }
     {
-        item_object(&tag, list)?;
-        let key = text_or_empty(&tag, Member::Key)?;
-        self.put(key, value_of(form, &tag));
+        item_object(tag, list)?;
+        let key = text_or_empty(tag, Member::Key)?;
+        self.put(key, value_of(form, tag));
         Ok(())
     }
 
-    /// The tags in a list.
-    fn of_items(
+    /// Puts the tags that the items of a list are into their places.
+    fn add_items(
+        &mut self,
         form: TagForm,
         list: Member,
         mut items: Items<'t, 'a>,
-    ) -> Result<Tags<'t, 'a>, Fault>
-        ensures { IsRead result (tags_of form list no_tags items.entry) }
+    ) -> Result<(), Fault>
+        ensures { IsReadAs (λ _. self.new) result (tags_of form list self.old items.entry) }
     {
-        let mut tags: Tags<'t, 'a> = Tags::none();
         while let Some(tag) = items.next() {
-            tags.add(form, list, tag)?;
+            self.add(form, list, &tag)?;
         }
-        Ok(tags)
+        Ok(())
     }
 
     /// The tags in the list that a look-up found or not.
@@ -152,6 +152,8 @@ impl<'t, 'a> Tags<'t, 'a> {
         ensures { IsRead result (tags_in form list object.now) }
     {
         let items = found_items(object, found, list)?;
-        Tags::of_items(form, list, items)
+        let mut tags = Tags::none();
+        tags.add_items(form, list, items)?;
+        Ok(tags)
     }
 }
