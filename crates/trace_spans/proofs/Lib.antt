@@ -1,3 +1,4 @@
+pub mod After
 pub mod Digits
 pub mod Durations
 pub mod Formatted
