@@ -14,8 +14,8 @@ pub read_after : {A B : Type 0} (part : Result A Fault) (next : A → Result B F
 read_after part next x all is e = ap (λ r. then_on r next) is ∙ e
 
 -- two lists, one after the other, of which the first was read
-pub both_lists : {A B C : Type 0} (object : Result A Fault) (u : A) (clock : Result B Fault) (x : B) (first rest : B → Result (List C) Fault) (old now : List C) → object ≡ Ok u → clock ≡ Ok x → then_on (first x) (λ more. Ok (old ++ more)) ≡ Ok now → then_on (then_on object (λ _. then_on clock (λ b. then_on (first b) (λ front. then_on (rest b) (λ others. Ok (front ++ others)))))) (λ more. Ok (old ++ more)) ≡ then_on (rest x) (λ others. Ok (now ++ others))
-both_lists object u clock x first rest old now is told begun =
+pub both_lists : {A B C : Type 0} (checked : Result A Fault) (u : A) (clock : Result B Fault) (x : B) (first rest : B → Result (List C) Fault) (old now : List C) → checked ≡ Ok u → clock ≡ Ok x → then_on (first x) (λ more. Ok (old ++ more)) ≡ Ok now → then_on (then_on checked (λ _. then_on clock (λ b. then_on (first b) (λ front. then_on (rest b) (λ others. Ok (front ++ others)))))) (λ more. Ok (old ++ more)) ≡ then_on (rest x) (λ others. Ok (now ++ others))
+both_lists checked u clock x first rest old now is told begun =
     ap (λ r. then_on (then_on r (λ _. then_on clock (λ b. then_on (first b) (λ front. then_on (rest b) (λ others. Ok (front ++ others)))))) (λ more. Ok (old ++ more))) is
     ∙ ap (λ r. then_on (then_on r (λ b. then_on (first b) (λ front. then_on (rest b) (λ others. Ok (front ++ others))))) (λ more. Ok (old ++ more))) told
     ∙ after_both old (first x) (rest x)
