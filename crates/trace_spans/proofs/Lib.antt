@@ -1,3 +1,4 @@
+pub mod After
 pub mod Digits
 pub mod Durations
 pub mod Formatted
@@ -8,7 +9,6 @@ pub mod MapMembers
 pub mod Marking
 pub mod MembersFound
 pub mod Reading
-pub mod Rooting
 pub mod Same
 pub mod Spelling
 pub mod Texts

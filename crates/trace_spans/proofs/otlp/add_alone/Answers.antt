@@ -11,7 +11,7 @@ pub returns-in_err-add_resource : goal.returns-in_err-add_resource
 unfolding told_alone
 returns-in_err-add_resource c =
     let p = err_from_is_err_and c.from_residual.result c.from_residual.ensures.1 in
-    rw (p.1, p.2) (subst (λ (b : Bool). IsFault c.in_err-add_resource.field-0 (added (cond b (Some (spans_of_resource member.ResourceSpans c.args.text.now)) None) c.args.spans.now)) c.if-not-has_scopes.ensures (some_refused c.in_err-add_resource.field-0 _ c.args.spans.now c.in_err-add_resource.ensures))
+    rw (p.1, p.2) (subst (λ (b : Bool). IsFault c.in_err-add_resource.field-0.0 (added (cond b (Some (spans_of_resource member.ResourceSpans c.args.text.now)) None) c.args.spans.now)) c.if-not-has_scopes.ensures (some_refused c.in_err-add_resource.field-0.0 _ c.args.spans.now c.in_err-add_resource.ensures))
 
 pub returns : goal.returns
 unfolding told_alone

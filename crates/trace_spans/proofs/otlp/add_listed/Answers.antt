@@ -10,7 +10,7 @@ pub returns-in_err-add_list : goal.returns-in_err-add_list
 unfolding told_by
 returns-in_err-add_list c =
     let p = err_from_is_err_and c.from_residual.result c.from_residual.ensures.1 in
-    rw (p.1, p.2) (subst (λ (b : Bool). IsFault c.in_err-add_list.field-0 (added (cond b (Some (spans_of_list c.args.list c.args.text.now)) None) c.args.spans.now)) c.if-not-has.ensures (some_refused c.in_err-add_list.field-0 _ c.args.spans.now c.in_err-add_list.ensures))
+    rw (p.1, p.2) (subst (λ (b : Bool). IsFault c.in_err-add_list.field-0.0 (added (cond b (Some (spans_of_list c.args.list c.args.text.now)) None) c.args.spans.now)) c.if-not-has.ensures (some_refused c.in_err-add_list.field-0.0 _ c.args.spans.now c.in_err-add_list.ensures))
 
 pub returns : goal.returns
 unfolding told_by

@@ -40,7 +40,7 @@ returns-in_err-add_listed-2 c =
     let text = c.args.text.now in
     let past = of_second _ (told_by member.ResourceSpans text) (after_export text) c.args.spans.now c.add_listed.new.spans c.if-branch.false c.in_ok-add_listed.ensures in
     let p = err_from_is_err_and c.from_residual-in_err-add_listed-2.result c.from_residual-in_err-add_listed-2.ensures.1 in
-    rw (p.1, p.2) (subst (λ (r : Result (Bool × List Span) Fault). IsFault c.in_err-add_listed-2.field-0 r) (sym past) (fault_of_first _ (told_by member.Batches text) (after_batches text) c.add_listed.new.spans c.in_err-add_listed-2.ensures))
+    rw (p.1, p.2) (subst (λ (r : Result (Bool × List Span) Fault). IsFault c.in_err-add_listed-2.field-0.0 r) (sym past) (fault_of_first _ (told_by member.Batches text) (after_batches text) c.add_listed.new.spans c.in_err-add_listed-2.ensures))
 
 pub returns-then-branch-2 : goal.returns-then-branch-2
 unfolding otlp_told
@@ -57,7 +57,7 @@ returns-in_err-add_wrapped c =
     of_second _ (told_by member.ResourceSpans text) (after_export text) c.args.spans.now c.add_listed.new.spans c.if-branch.false c.in_ok-add_listed.ensures
     ∙ of_second _ (told_by member.Batches text) (after_batches text) c.add_listed.new.spans c.add_listed-2.new.spans c.if-branch-2.false c.in_ok-add_listed-2.ensures in
     let p = err_from_is_err_and c.from_residual-in_err-add_wrapped.result c.from_residual-in_err-add_wrapped.ensures.1 in
-    rw (p.1, p.2) (subst (λ (r : Result (Bool × List Span) Fault). IsFault c.in_err-add_wrapped.field-0 r) (sym past) (fault_of_first _ (told_within member.Result text) (after_result text) c.add_listed-2.new.spans c.in_err-add_wrapped.ensures))
+    rw (p.1, p.2) (subst (λ (r : Result (Bool × List Span) Fault). IsFault c.in_err-add_wrapped.field-0.0 r) (sym past) (fault_of_first _ (told_within member.Result text) (after_result text) c.add_listed-2.new.spans c.in_err-add_wrapped.ensures))
 
 pub returns-then-branch-3 : goal.returns-then-branch-3
 unfolding otlp_told
@@ -76,7 +76,7 @@ returns-in_err-add_wrapped-2 c =
     ∙ of_second _ (told_by member.Batches text) (after_batches text) c.add_listed.new.spans c.add_listed-2.new.spans c.if-branch-2.false c.in_ok-add_listed-2.ensures
     ∙ of_second _ (told_within member.Result text) (after_result text) c.add_listed-2.new.spans c.add_wrapped.new.spans c.if-branch-3.false c.in_ok-add_wrapped.ensures in
     let p = err_from_is_err_and c.from_residual-in_err-add_wrapped-2.result c.from_residual-in_err-add_wrapped-2.ensures.1 in
-    rw (p.1, p.2) (subst (λ (r : Result (Bool × List Span) Fault). IsFault c.in_err-add_wrapped-2.field-0 r) (sym past) (fault_of_first _ (told_within member.Trace text) (told_alone text) c.add_wrapped.new.spans c.in_err-add_wrapped-2.ensures))
+    rw (p.1, p.2) (subst (λ (r : Result (Bool × List Span) Fault). IsFault c.in_err-add_wrapped-2.field-0.0 r) (sym past) (fault_of_first _ (told_within member.Trace text) (told_alone text) c.add_wrapped.new.spans c.in_err-add_wrapped-2.ensures))
 
 pub returns-then-branch-4 : goal.returns-then-branch-4
 unfolding otlp_told
