@@ -67,10 +67,10 @@ second_of (Some (Err fault)) other old new e = absurd (false≢true (ap is_told 
 
 -- the first of two formats, or the second
 pub of_first : (is : Bool) (told other : Option (Result (List Span) Fault)) (old new : List Span) → is ≡ true → added told old ≡ Ok (is, new) → added (option_or told other) old ≡ Ok (true, new)
-of_first is told other old new yes e = first_of told other old new (e ∙ ap (λ b. Ok (b, new)) yes)
+of_first is told other old new is_so e = first_of told other old new (e ∙ ap (λ b. Ok (b, new)) is_so)
 
 pub of_second : (is : Bool) (told other : Option (Result (List Span) Fault)) (old new : List Span) → is ≡ false → added told old ≡ Ok (is, new) → added (option_or told other) old ≡ added other new
-of_second is told other old new no e = second_of told other old new (e ∙ ap (λ b. Ok (b, new)) no)
+of_second is told other old new is_none e = second_of told other old new (e ∙ ap (λ b. Ok (b, new)) is_none)
 
 first_refused : (told other : Option (Result (List Span) Fault)) (old : List Span) (fault : Fault) → added told old ≡ Err fault → added (option_or told other) old ≡ Err fault
 unfolding is_told
@@ -120,15 +120,30 @@ none_added false old = refl
 
 -- a text that is no list
 pub as_none : (text : Data) → told_or (told_in_a_format text) (list_or_none (as_array text)) ≡ list_or_none (as_array text) → as_array text ≡ None → spans_of_text text ≡ not_a_trace
-as_none text no is = by_formats text ∙ no ∙ ap list_or_none is
+as_none text is_none is = by_formats text ∙ is_none ∙ ap list_or_none is
 
 -- one that is a list without items
 pub as_empty : (text : Data) (all : Items) → told_or (told_in_a_format text) (list_or_none (as_array text)) ≡ list_or_none (as_array text) → as_array text ≡ Some all → all ≡ no_items → spans_of_text text ≡ not_a_trace
-as_empty text all no is none = by_formats text ∙ no ∙ ap list_or_none (is ∙ ap Some none)
+as_empty text all is_none is none = by_formats text ∙ is_none ∙ ap list_or_none (is ∙ ap Some none)
 
 -- and one that is a list of texts
 pub as_list : (text d : Data) (all ds : Items) → told_or (told_in_a_format text) (list_or_none (as_array text)) ≡ list_or_none (as_array text) → as_array text ≡ Some all → all ≡ item d ds → spans_of_text text ≡ then_on (spans_of_text d) (λ first. then_on (spans_of_items ds) (λ others. Ok (first ++ others)))
-as_list text d all ds no is at = by_formats text ∙ no ∙ ap list_or_none (is ∙ ap Some at)
+as_list text d all ds is_none is at = by_formats text ∙ is_none ∙ ap list_or_none (is ∙ ap Some at)
+
+-- a text whose format refuses it
+pub text_fault : (fault : Fault) (text : Data) (old : List Span) → IsFault fault (added (told_in_a_format text) old) → IsFault fault (then_on (spans_of_text text) (λ more. Ok (old ++ more)))
+text_fault fault text old h =
+    subst (λ (r : Result (List Span) Fault). IsFault fault (then_on r (λ more. Ok (old ++ more)))) (sym (by_formats text)) (told_fault fault (told_in_a_format text) old (list_or_none (as_array text)) h)
+
+-- one that is of a format
+pub text_told : (is : Bool) (text : Data) (old new : List Span) → is ≡ true → added (told_in_a_format text) old ≡ Ok (is, new) → then_on (spans_of_text text) (λ more. Ok (old ++ more)) ≡ Ok new
+text_told is text old new is_so e =
+    ap (λ r. then_on r (λ more. Ok (old ++ more))) (by_formats text)
+    ∙ told_some (told_in_a_format text) old new (list_or_none (as_array text)) (e ∙ ap (λ b. Ok (b, new)) is_so)
+
+-- one that is of none
+pub text_of_none : (is : Bool) (text : Data) (old new : List Span) → is ≡ false → added (told_in_a_format text) old ≡ Ok (is, new) → (told_or (told_in_a_format text) (list_or_none (as_array text)) ≡ list_or_none (as_array text)) × (new ≡ old)
+text_of_none is text old new is_none e = told_none (told_in_a_format text) old new (list_or_none (as_array text)) (e ∙ ap (λ b. Ok (b, new)) is_none)
 
 pub list_read : (m part rest : Result (List Span) Fault) (old between now : List Span) → m ≡ then_on part (λ first. then_on rest (λ others. Ok (first ++ others))) → then_on part (λ more. Ok (old ++ more)) ≡ Ok between → then_on rest (λ others. Ok (between ++ others)) ≡ Ok now → then_on m (λ more. Ok (old ++ more)) ≡ Ok now
 list_read m part rest old between now is first others =

@@ -62,10 +62,13 @@ impl Groups {
         ensures { (spans : List Span) → AreGroups self.old (ids_of spans) spans → OnOk result (AreGroups self.new (ids_of (spans ++ span ∷ [])) (spans ++ span ∷ [])) }
     {
         let place = self.place_of(alloc, span.trace.as_str())?;
-        if let Some(group) = self.groups.get_mut(place) {
-            group.spans.push(span)?;
+        match self.groups.get_mut(place) {
+            Some(group) => {
+                group.spans.push(span)?;
+                Ok(())
+            }
+            None => Ok(()),
         }
-        Ok(())
     }
 }
 
