@@ -118,18 +118,6 @@ pub none_added : (is : Bool) (old : List Span) → added (if is then Some (Ok []
 none_added true old = ap (λ all. Ok (true, all)) (append-nil old)
 none_added false old = refl
 
--- a text that is no list
-pub as_none : (text : Data) → told_or (told_in_a_format text) (list_or_none (as_array text)) ≡ list_or_none (as_array text) → as_array text ≡ None → spans_of_text text ≡ not_a_trace
-as_none text is_none is = by_formats text ∙ is_none ∙ ap list_or_none is
-
--- one that is a list without items
-pub as_empty : (text : Data) (all : Items) → told_or (told_in_a_format text) (list_or_none (as_array text)) ≡ list_or_none (as_array text) → as_array text ≡ Some all → all ≡ no_items → spans_of_text text ≡ not_a_trace
-as_empty text all is_none is none = by_formats text ∙ is_none ∙ ap list_or_none (is ∙ ap Some none)
-
--- and one that is a list of texts
-pub as_list : (text d : Data) (all ds : Items) → told_or (told_in_a_format text) (list_or_none (as_array text)) ≡ list_or_none (as_array text) → as_array text ≡ Some all → all ≡ item d ds → spans_of_text text ≡ then_on (spans_of_text d) (λ first. then_on (spans_of_items ds) (λ others. Ok (first ++ others)))
-as_list text d all ds is_none is at = by_formats text ∙ is_none ∙ ap list_or_none (is ∙ ap Some at)
-
 -- a text whose format refuses it
 pub text_fault : (fault : Fault) (text : Data) (old : List Span) → IsFault fault (added (told_in_a_format text) old) → IsFault fault (then_on (spans_of_text text) (λ more. Ok (old ++ more)))
 text_fault fault text old h =
@@ -145,12 +133,21 @@ text_told is text old new is_so e =
 pub text_of_none : (is : Bool) (text : Data) (old new : List Span) → is ≡ false → added (told_in_a_format text) old ≡ Ok (is, new) → (told_or (told_in_a_format text) (list_or_none (as_array text)) ≡ list_or_none (as_array text)) × (new ≡ old)
 text_of_none is text old new is_none e = told_none (told_in_a_format text) old new (list_or_none (as_array text)) (e ∙ ap (λ b. Ok (b, new)) is_none)
 
-pub list_read : (m part rest : Result (List Span) Fault) (old between now : List Span) → m ≡ then_on part (λ first. then_on rest (λ others. Ok (first ++ others))) → then_on part (λ more. Ok (old ++ more)) ≡ Ok between → then_on rest (λ others. Ok (between ++ others)) ≡ Ok now → then_on m (λ more. Ok (old ++ more)) ≡ Ok now
-list_read m part rest old between now is first others =
-    ap (λ r. then_on r (λ more. Ok (old ++ more))) is
-    ∙ after_both old part rest
-    ∙ ap (λ r. then_on r (λ front. then_on rest (λ more. Ok (front ++ more)))) first
-    ∙ others
+-- one that is no list
+pub text_as_none : (is : Bool) (text : Data) (old new : List Span) → is ≡ false → added (told_in_a_format text) old ≡ Ok (is, new) → as_array text ≡ None → then_on (spans_of_text text) (λ more. Ok (old ++ more)) ≡ Err (NotATrace tt)
+text_as_none is text old new apart e listed =
+    ap (λ r. then_on r (λ more. Ok (old ++ more))) (by_formats text ∙ (text_of_none is text old new apart e).0 ∙ ap list_or_none listed)
+
+-- and one that is a list
+pub text_as_list : (is : Bool) (text : Data) (items : Items) (old new : List Span) → is ≡ false → added (told_in_a_format text) old ≡ Ok (is, new) → as_array text ≡ Some items → then_on (spans_of_list items) (λ more. Ok (new ++ more)) ≡ then_on (spans_of_text text) (λ more. Ok (old ++ more))
+text_as_list is text items old new apart e listed =
+    ap (λ front. then_on (spans_of_list items) (λ more. Ok (front ++ more))) (text_of_none is text old new apart e).1
+    ∙ ap (λ r. then_on r (λ more. Ok (old ++ more))) (sym (by_formats text ∙ (text_of_none is text old new apart e).0 ∙ ap list_or_none listed))
+
+-- what comes after the first text of a list
+pub list_after : (m part rest : Result (List Span) Fault) (old between : List Span) → m ≡ then_on part (λ first. then_on rest (λ others. Ok (first ++ others))) → then_on part (λ more. Ok (old ++ more)) ≡ Ok between → then_on rest (λ others. Ok (between ++ others)) ≡ then_on m (λ more. Ok (old ++ more))
+list_after m part rest old between is first =
+    sym (ap (λ r. then_on r (λ more. Ok (old ++ more))) is ∙ after_both old part rest ∙ ap (λ r. then_on r (λ front. then_on rest (λ more. Ok (front ++ more)))) first)
 
 -- a fault in the first text
 pub first_refused_in : (fault : Fault) (m part rest : Result (List Span) Fault) (old : List Span) → m ≡ then_on part (λ first. then_on rest (λ others. Ok (first ++ others))) → IsFault fault (then_on part (λ more. Ok (old ++ more))) → IsFault fault (then_on m (λ more. Ok (old ++ more)))
@@ -158,26 +155,7 @@ first_refused_in fault m part rest old is h =
     subst (λ (r : Result (List Span) Fault). IsFault fault (then_on r (λ more. Ok (old ++ more)))) (sym is)
     (fault_of_part fault (then_on part (λ first. then_on rest (λ others. Ok (first ++ others)))) (λ more. Ok (old ++ more)) (fault_of_part fault part (λ first. then_on rest (λ others. Ok (first ++ others))) (fault_of_added fault part old h)))
 
--- or in a later one
-pub later_refused_in : (fault : Fault) (m part rest : Result (List Span) Fault) (old between : List Span) → m ≡ then_on part (λ first. then_on rest (λ others. Ok (first ++ others))) → then_on part (λ more. Ok (old ++ more)) ≡ Ok between → IsFault fault (then_on rest (λ others. Ok (between ++ others))) → IsFault fault (then_on m (λ more. Ok (old ++ more)))
-later_refused_in fault m part rest old between is first h =
-    subst (λ (r : Result (List Span) Fault). IsFault fault r)
-    (sym (ap (λ r. then_on r (λ more. Ok (old ++ more))) is ∙ after_both old part rest ∙ ap (λ r. then_on r (λ front. then_on rest (λ more. Ok (front ++ more)))) first))
-    h
-
 -- the items of an array are less deep
-pub item_shallower : (text d : Data) (all ds : Items) → as_array text ≡ Some all → all ≡ item d ds → (depth d < depth text) × (items_depth ds ≤ items_depth all)
-item_shallower null d all ds is at = absurd cc
-item_shallower (boolean b) d all ds is at = absurd cc
-item_shallower (number n) d all ds is at = absurd cc
-item_shallower (string s) d all ds is at = absurd cc
-item_shallower (object ms) d all ds is at = absurd cc
-item_shallower (array es) d all ds is at =
-    let same : es ≡ item d ds = cc in
-    let deep : items_depth es ≡ max (depth d) (items_depth ds) = ap items_depth same in
-    let as_deep : items_depth all ≡ max (depth d) (items_depth ds) = ap items_depth at in
-    (omega arith, omega arith)
-
 pub depth_of_array : (text : Data) (all : Items) → as_array text ≡ Some all → items_depth all < depth text
 depth_of_array null all is = absurd cc
 depth_of_array (boolean b) all is = absurd cc
