@@ -17,5 +17,5 @@ is_45 c h = grind (arith, nat_tests)
 -- without one
 pub from_none : (text : List ℕ) → ((digits : List ℕ) → text ≢ 45 ∷ digits) → spelled_duration text ≡ option_map lasting (spelled text)
 unfolding spelled_duration spelled
-from_none [] no = refl
-from_none (x ∷ xs) no = ap (λ b. cond b (option_map (λ n. 0) (spelled xs)) (option_map lasting (spelled (x ∷ xs)))) (false_from_ne_true _ (λ e. no xs (ap (λ c. c ∷ xs) (is_45 x e))))
+from_none [] unsigned = refl
+from_none (x ∷ xs) unsigned = ap (λ b. cond b (option_map (λ n. 0) (spelled xs)) (option_map lasting (spelled (x ∷ xs)))) (false_from_ne_true _ (λ e. unsigned xs (ap (λ c. c ∷ xs) (is_45 x e))))

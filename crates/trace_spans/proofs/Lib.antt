@@ -8,7 +8,6 @@ pub mod MapMembers
 pub mod Marking
 pub mod MembersFound
 pub mod Reading
-pub mod Rooting
 pub mod Same
 pub mod Spelling
 pub mod Texts

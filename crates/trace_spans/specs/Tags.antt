@@ -61,13 +61,17 @@ with_tag key value tags = record {
   messaging_destination_name = tag_after key value (codes "messaging.destination.name") tags.messaging_destination_name;
 }
 
+-- the tags with the one that an item of a list is
+abbrev pub tags_with : TagForm → Member → Data → Tags → Result Tags Fault
+tags_with form list tag tags =
+    then_on (item_in list tag) (λ _.
+    then_on (text_in member.Key tag) (λ key.
+    Ok (with_tag key (tag_value form tag) tags)))
+
 -- the tags of a list, after those before it
 abbrev pub tags_of : TagForm → Member → Tags → Items → Result Tags Fault
 tags_of form list tags no_items = Ok tags
-tags_of form list tags (item tag others) =
-    then_on (item_in list tag) (λ _.
-    then_on (text_in member.Key tag) (λ key.
-    tags_of form list (with_tag key (tag_value form tag) tags) others))
+tags_of form list tags (item tag others) = then_on (tags_with form list tag tags) (λ now. tags_of form list now others)
 
 unfoldable pub tags_in : TagForm → Member → Data → Result Tags Fault
 tags_in form list d = then_on (items_in list d) (tags_of form list no_tags)

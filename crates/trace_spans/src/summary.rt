@@ -81,12 +81,11 @@ fn names_parents(span: &Span) -> bool
 fn is_before(span: &Span, other: &Span) -> bool
     ensures { result ≡ is_before span.now other.now }
 {
-    let names = names_parents(span);
-    let other_names = names_parents(other);
-    if names != other_names {
-        return other_names;
+    match (names_parents(span), names_parents(other)) {
+        (false, true) => true,
+        (true, false) => false,
+        (true, true) | (false, false) => is_known_before(first_time(span), first_time(other)),
     }
-    is_known_before(first_time(span), first_time(other))
 }
 
 /// Of what is the root so far and one more span, the one that is rather the root.

@@ -2,8 +2,8 @@
 ghost use Rattle.std.specs.Prelude.{◌≡◌, IfOk, option_map, option_and_then};
 ghost use Rattle.serde_json.specs.Find.{as_str};
 ghost use Rattle.trace_spans.specs.Members.{member_of};
-ghost use Rattle.trace_spans.specs.Reads.{IsRead};
-ghost use Rattle.trace_spans.specs.Tags.{no_tags, tag_value, tags_in, tags_of, with_tag};
+ghost use Rattle.trace_spans.specs.Reads.{IsRead, IsReadAs};
+ghost use Rattle.trace_spans.specs.Tags.{no_tags, tag_value, tags_in, tags_of, tags_with, with_tag};
 
 use crate::fault::Fault;
 use crate::member::Member;
@@ -115,21 +115,29 @@ impl<'t, 'a> Tags<'t, 'a> {
         }
     }
 
-    /// The tags in a list.
-    fn of_items(
+    /// Puts the tag that an item of a list is into its place.
+    fn add(&mut self, form: TagForm, list: Member, tag: &Tree<'t, 'a>) -> Result<(), Fault>
+        ensures { IsReadAs (λ _. self.new) result (tags_with form list tag.now self.old) }
+    {
+        item_object(tag, list)?;
+        let key = text_or_empty(tag, Member::Key)?;
+        self.put(key, value_of(form, tag));
+        Ok(())
+    }
+
+    /// Puts the tags that the items of a list are into their places.
+    fn add_items(
+        &mut self,
         form: TagForm,
         list: Member,
         mut items: Items<'t, 'a>,
-    ) -> Result<Tags<'t, 'a>, Fault>
-        ensures { IsRead result (tags_of form list no_tags items.entry) }
+    ) -> Result<(), Fault>
+        ensures { IsReadAs (λ _. self.new) result (tags_of form list self.old items.entry) }
     {
-        let mut tags = Tags::none();
         while let Some(tag) = items.next() {
-            item_object(&tag, list)?;
-            let key = text_or_empty(&tag, Member::Key)?;
-            tags.put(key, value_of(form, &tag));
+            self.add(form, list, &tag)?;
         }
-        Ok(tags)
+        Ok(())
     }
 
     /// The tags in the list that a look-up found or not.
@@ -144,6 +152,8 @@ impl<'t, 'a> Tags<'t, 'a> {
         ensures { IsRead result (tags_in form list object.now) }
     {
         let items = found_items(object, found, list)?;
-        Tags::of_items(form, list, items)
+        let mut tags = Tags::none();
+        tags.add_items(form, list, items)?;
+        Ok(tags)
     }
 }

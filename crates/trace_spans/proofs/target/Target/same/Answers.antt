@@ -6,8 +6,8 @@ use Rattle.trace_spans.proofs.target.Target.same.Goals as goal
 pub returns-then-not-same : goal.returns-then-not-same
 returns-then-not-same c = (
   λ e. absurd (false≢true e),
-  λ same. apart_at c.as_slice-aims.result.now c.as_slice-others.result.now c.loop-place.place c.index-aims-place.result c.index-others-place.result (omega arith) c.index-aims-place.is c.index-others-place.is
-      (λ e. false≢true (c.if-not-same.ensures.1 e)) (c.as_slice-aims.ensures ∙ same ∙ sym c.as_slice-others.ensures),
+  λ same. absurd (apart_at c.as_slice-aims.result.now c.as_slice-others.result.now c.loop-place.place c.index-aims-place.result c.index-others-place.result (omega arith) c.index-aims-place.is c.index-others-place.is
+      (λ e. false≢true (c.if-not-same.ensures.1 e)) (c.as_slice-aims.ensures ∙ same ∙ sym c.as_slice-others.ensures)),
 )
 
 pub loop-place-preserved : goal.loop-place-preserved
