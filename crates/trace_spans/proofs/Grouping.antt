@@ -1,10 +1,11 @@
 -- The spans of a file by their traces.
 use Rattle.std.proofs.Common.{◌≡◌, ℕ, suc, ◌<◌, List, [], ◌∷◌, ◌++◌, length, get_or, set, map, Bool, true, false, cond, Option, Some, None, Ok, Err, refl, sym, ap, subst, ◌∙◌, arith}
-use Rattle.std.specs.Prelude.{◌&&◌, ◌||◌, fold, not, option_map}
+use Rattle.std.specs.Prelude.{◌==◌, ◌&&◌, ◌||◌, fold, not, option_map}
 use Rattle.std.specs.HashMap.{HashMap, get_by_text}
 use Rattle.std.specs.List.{filter, list_any}
 use Rattle.std.specs.Str.{bytes_eq}
 use Rattle.std.proofs.lemmas.Bool.{false_from_ne_true, false≢true}
+use Rattle.std.proofs.lemmas.Bool.Decides.{nat_tests}
 use Rattle.std.proofs.lemmas.List.{append-nil, length-map, map-append}
 use Rattle.std.proofs.lemmas.List.Elements.{filter-append}
 use Rattle.std.proofs.lemmas.List.Folds.{list_any-append}
@@ -269,10 +270,18 @@ unfolding traces_of_bytes
 all_traces bytes told groups traces read are is =
     ap (λ r. then_on r (λ all. unless_none (traces_of all))) read ∙ ap unless_none (sym (is ∙ ap (map (trace_of told.is_cut)) are ∙ all_counted told))
 
-pub none_there : (traces : List Trace) → length traces ≡ 0 → unless_none traces ≡ Err NoTrace
-none_there [] e = refl
-none_there (trace ∷ traces) e = absurd (omega arith)
+is_zero : (n : ℕ) → (n == 0) ≡ true → n ≡ 0
+is_zero n h = grind (arith, nat_tests)
 
-pub some_there : (traces : List Trace) → 0 < length traces → unless_none traces ≡ Ok traces
-some_there [] lt = absurd (omega arith)
-some_there (trace ∷ traces) lt = refl
+zero_is : (n : ℕ) → n ≡ 0 → (n == 0) ≡ true
+zero_is n e = rw e refl
+
+-- a file without traces
+pub none_there : (traces : List Trace) (n : ℕ) → n ≡ length traces → (n == 0) ≡ true → unless_none traces ≡ Err NoTrace
+none_there [] n long e = refl
+none_there (trace ∷ traces) n long e = let none : n ≡ 0 = is_zero n e in absurd (omega arith)
+
+-- and one with some
+pub some_there : (traces : List Trace) (n : ℕ) → n ≡ length traces → (n == 0) ≡ false → unless_none traces ≡ Ok traces
+some_there [] n long e = absurd (false≢true (sym e ∙ zero_is n long))
+some_there (trace ∷ traces) n long e = refl

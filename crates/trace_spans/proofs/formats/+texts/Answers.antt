@@ -1,10 +1,10 @@
-use Rattle.std.proofs.Common.{List, ◌++◌, Result, Ok, ℕ, ◌≤◌, refl, sym, ap, subst, ◌∙◌, arith}
+use Rattle.std.proofs.Common.{List, ◌++◌, ◌+◌, ◌*◌, ◌<◌, Result, Ok, refl, sym, ap, subst, ◌∙◌, arith, rules}
 use Rattle.std.proofs.lemmas.Result.{err_from_is_err_and}
-use Rattle.serde_json.specs.Data.{items_depth}
+use Rattle.serde_json.specs.Data.{depth, items_depth}
 use Rattle.trace_spans.specs.declared.fault.Fault.{Fault}
 use Rattle.trace_spans.specs.declared.span.Span.{Span}
 use Rattle.trace_spans.specs.Members.{then_on}
-use Rattle.trace_spans.specs.Reads.{IsFault, IsReadAs}
+use Rattle.trace_spans.specs.Reads.{IsReadAs}
 use Rattle.trace_spans.specs.Spans.{spans_of_items, spans_of_list, spans_of_text}
 use Rattle.trace_spans.proofs.Formatted.{depth_of_array, first_refused_in, list_after, next_shallower, text_as_list, text_as_none, text_fault, text_told}
 use Rattle.trace_spans.proofs.Reading.{fault_of_added, none_left, part_added, part_refused}
@@ -19,7 +19,10 @@ pub add_text-returns-then-branch : goal.add_text-returns-then-branch
 add_text-returns-then-branch t c = text_told _ c.args.text.now c.args.spans.now c.add_formatted.new.spans c.if-branch.true c.in_ok-add_formatted.ensures
 
 pub add_text-add_list-requires : goal.add_text-add_list-requires
-add_text-add_list-requires t c = let deep = depth_of_array c.args.text.now c.in-Some.items (sym c.in-Some.ensures) in omega (arith, deep)
+add_text-add_list-requires t c =
+    let deep = depth_of_array c.args.text.now c.in-Some.items (sym c.in-Some.ensures) in
+    let smaller : 3 * items_depth c.in-Some.items + 2 < 3 * depth c.args.text.now = omega (arith, deep) in
+    first_of (search rules, omega (arith, smaller), (omega (arith, smaller), tt))
 
 pub add_text-returns-in-Some : goal.add_text-returns-in-Some
 add_text-returns-in-Some t c =
@@ -34,7 +37,10 @@ pub add_list-returns-in_default : goal.add_list-returns-in_default
 add_list-returns-in_default t c = ap (λ items. then_on (spans_of_list items) (λ more. Ok (c.args.spans.now ++ more))) c.in_default.ensures.value.0
 
 pub add_list-add_text-requires : goal.add_list-add_text-requires
-add_list-add_text-requires t c = let less = next_shallower c.args.items c.next.new.self c.in-Some.first c.in-Some.ensures.value in omega (arith, less.0)
+add_list-add_text-requires t c =
+    let less = next_shallower c.args.items c.next.new.self c.in-Some.first c.in-Some.ensures.value in
+    let smaller : 3 * depth c.in-Some.first < 3 * items_depth c.args.items + 2 = omega (arith, less.0) in
+    first_of (search rules, omega (arith, smaller), (omega (arith, smaller), tt))
 
 pub add_list-returns-in_err-add_text : goal.add_list-returns-in_err-add_text
 add_list-returns-in_err-add_text t c =
@@ -42,7 +48,10 @@ add_list-returns-in_err-add_text t c =
     rw (p.1, p.2) (first_refused_in _ (spans_of_list c.args.items) (spans_of_text c.in-Some.first) (spans_of_items c.next.new.self) c.args.spans.now (ap spans_of_list c.in-Some.ensures.value) c.in_err-add_text.ensures)
 
 pub add_list-add_items-requires : goal.add_list-add_items-requires
-add_list-add_items-requires t c = let less = next_shallower c.args.items c.next.new.self c.in-Some.first c.in-Some.ensures.value in omega (arith, less.1)
+add_list-add_items-requires t c =
+    let less = next_shallower c.args.items c.next.new.self c.in-Some.first c.in-Some.ensures.value in
+    let smaller : 3 * items_depth c.next.new.self + 1 < 3 * items_depth c.args.items + 2 = omega (arith, less.1) in
+    first_of (search rules, omega (arith, smaller), (omega (arith, smaller), tt))
 
 pub add_list-returns : goal.add_list-returns
 add_list-returns t c =
@@ -53,7 +62,8 @@ add_list-returns t c =
 pub add_items-add_text-requires : goal.add_items-add_text-requires
 add_items-add_text-requires t c =
     let less = next_shallower c.items.items c.next.new.self c.in-Some.item c.in-Some.ensures.value in
-    omega (arith, less.0, c.items.invariant.1)
+    let smaller : 3 * depth c.in-Some.item < 3 * items_depth c.args.items + 1 = omega (arith, less.0, c.items.invariant.1) in
+    first_of (search rules, omega (arith, smaller), (omega (arith, smaller), tt))
 
 pub add_items-returns-in_err-add_text : goal.add_items-returns-in_err-add_text
 add_items-returns-in_err-add_text t c =
