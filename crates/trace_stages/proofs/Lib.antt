@@ -10,6 +10,7 @@ pub mod Failing
 pub mod Firsts
 pub mod HandingOn
 pub mod Joining
+pub mod Lining
 pub mod Ordering
 pub mod Pushing
 pub mod Recorded

@@ -9,4 +9,4 @@ pub loop-place-preserved : goal.loop-place-preserved
 loop-place-preserved c = grind (arith, common_steps, map-range_with_len_more (bound (plain c.args.relations.now)) 0 c.loop-place.place c.loop-place.place (zero-add c.loop-place.place))
 
 pub bound_of-requires : goal.bound_of-requires
-bound_of-requires c = rw c.deref-in-loop-place.ensures.value c.in_ok-lines.ensures
+bound_of-requires c = rw c.deref.ensures.value c.in_ok-lines.ensures
