@@ -256,7 +256,7 @@ module _ {as_told : AsTold} (spans : List Span) (relations : PlainRelations) (is
       let well = held_well relations place moments are in
       subst (λ those. AreMade (joins_of.Holding place) (HadBase relations (works_of place) place) 0 those.joins × Piece place (length those.joins) those.has) (sym (had_is spans relations is moments are failures place lt)) (well.joins, well.has)
 
-  handed_call : (place child : ℕ) → is_handed Known failures place child ≡ true → WaitedCall relations place (call_end relations.attempts (relations.attempts.first child))
+  pub handed_call : (place child : ℕ) → is_handed Known failures place child ≡ true → WaitedCall relations place (call_end relations.attempts (relations.attempts.first child))
   handed_call place child handed =
       let waited : parent_at relations.waiting child ≡ Some place = same_option (parent_at relations.waiting child) place (and_left (option_eq nat_eq (parent_at relations.waiting child) (Some place)) _ handed) in
       let waiting : slice_get relations.waiting child ≡ Some (Some place) = known_known (slice_get relations.waiting child) place waited in

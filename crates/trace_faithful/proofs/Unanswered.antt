@@ -38,7 +38,7 @@ module _ (relations : PlainRelations) (span : ℕ) where
   plain_base works now reached id base =
       base-weaker span (EndedCall relations span now reached) (WaitedCall relations span) (WorkedBy works now reached) (HasWorked works) (plain_call now reached) (λ count worked. (worked.work, worked.is)) id base
 
-  had_plain : (now : ℕ) (holding : PlainHolding) → NowHas now holding → HadPlain holding
+  pub had_plain : (now : ℕ) (holding : PlainHolding) → NowHas now holding → HadPlain holding
   had_plain now holding here = record {
     has = made-weaker (joins_of.Holding span) (Base span (EndedCall relations span now holding.reached) (WorkedBy holding.works now holding.reached)) (PlainBase holding.works)
         (plain_base holding.works now holding.reached) (length holding.joins) holding.has here.has;

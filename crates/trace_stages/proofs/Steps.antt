@@ -10,7 +10,7 @@ use Rattle.trace_stages.specs.declared.walk.event.Event.{Event}
 use Rattle.trace_stages.specs.Held.{PlainHolding, looked, opening}
 use Rattle.trace_stages.specs.Holdings.{held_until}
 use Rattle.trace_stages.specs.OwnWork.{with_work, worked}
-use Rattle.trace_stages.specs.Walk.{after, answered, earlier_start, ended_by, first_start, walked, with_answer, with_called}
+use Rattle.trace_stages.specs.Walk.{after, answered, earlier_start, ended_by, first_start, some_open, walked, with_answer, with_called}
 
 pub walked_more : (span start : ℕ) (events : List Event) (i : ℕ) (event : Event) → i < length events → walked span start (take (i + 1) events) ≡ after span (walked span start (take i events)) (get_or events i event)
 walked_more span start events i event lt = ap (λ those. walked span start those) (take_more events i event lt) ∙ fold-append (after span) (opening span start) (take i events) (get_or events i event ∷ [])
@@ -42,9 +42,9 @@ pub no_answer : (span : ℕ) (calls : List Called) (plain : PlainHolding) → le
 no_answer span [] plain none = refl
 no_answer span (call ∷ others) plain none = absurd (omega arith)
 
-pub an_answer : (span : ℕ) (calls : List Called) (plain : PlainHolding) (since : ℕ) → 0 < length calls → since ≡ first_start calls → with_answer plain (looked span (with_called plain calls)) since ≡ answered span calls plain
-an_answer span [] plain since some is = absurd (omega arith)
-an_answer span (call ∷ others) plain since some is = ap (λ n. with_answer plain (looked span (with_called plain (call ∷ others))) n) is
+pub an_answer : (span : ℕ) (calls : List Called) (plain : PlainHolding) → 0 < length calls → with_answer plain (looked span (with_called plain calls)) (first_start calls) (some_open calls) ≡ answered span calls plain
+an_answer span [] plain some = absurd (omega arith)
+an_answer span (call ∷ others) plain some = refl
 
 -- a span that has not ended is not looked at any more
 pub held_open : (end : Option ℕ) (span : ℕ) (calls : List Called) (plain : PlainHolding) → is_some end ≡ false → held_until end span calls plain ≡ plain

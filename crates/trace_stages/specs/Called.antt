@@ -15,14 +15,14 @@ use Rattle.trace_stages.specs.Moments.{At}
 abbrev pub call_end : Attempts → ℕ → StageId
 call_end attempts place = if is_some (attempts.next place) then Tried place else Whole place
 
+abbrev pub is_open : PlainRelations → ℕ → Bool
+is_open relations place = is_none (interval_at relations.intervals place).end
+
 abbrev pub called_by : PlainRelations → ℕ → Called
-called_by relations place = record { span = place; start = start_at relations.intervals place; stage = call_end relations.attempts place }
+called_by relations place = record { span = place; start = start_at relations.intervals place; stage = call_end relations.attempts place; is_open = is_open relations place }
 
 abbrev pub gave_up : PlainRelations → ℕ → ℕ → Bool
 gave_up relations caller place = option_eq nat_eq (parent_at relations.given_up place) (Some caller)
-
-abbrev pub is_open : PlainRelations → ℕ → Bool
-is_open relations place = is_none (interval_at relations.intervals place).end
 
 abbrev pub starts : At → Bool
 starts at = at.0.1 == 1

@@ -1,5 +1,5 @@
 -- The walk through a span by its events.
-use Rattle.std.specs.Prelude.{ℕ, ◌||◌, List, [], ◌∷◌, ◌++◌, max, min, nat_eq, Option, Some, fold}
+use Rattle.std.specs.Prelude.{ℕ, ◌||◌, List, [], ◌∷◌, ◌++◌, Bool, max, min, nat_eq, Option, Some, fold}
 use Rattle.std.specs.List.{list_any}
 use Rattle.trace_stages.specs.declared.walk.called.Called.{Called}
 use Rattle.trace_stages.specs.declared.walk.event.Event.{Event}
@@ -44,10 +44,14 @@ abbrev pub first_start : List Called → ℕ
 first_start [] = 0
 first_start (call ∷ others) = fold earlier_start call.start others
 
-abbrev pub with_answer : PlainHolding → PlainHolding → ℕ → PlainHolding
-with_answer holding answered since = record answered { has = holding.has; answer = Some (record { stage = answered.has; since = since }) }
+-- whether one of calls has not ended
+abbrev pub some_open : List Called → Bool
+some_open calls = list_any (λ call. call.is_open) calls
+
+abbrev pub with_answer : PlainHolding → PlainHolding → ℕ → Bool → PlainHolding
+with_answer holding answered since is_open = record answered { has = holding.has; answer = Some (record { stage = answered.has; since = since; is_open = is_open }) }
 
 -- what a span that gave calls up would have had, had these ended before it did
 abbrev pub answered : ℕ → List Called → PlainHolding → PlainHolding
 answered span [] holding = holding
-answered span (call ∷ others) holding = with_answer holding (looked span (with_called holding (call ∷ others))) (first_start (call ∷ others))
+answered span (call ∷ others) holding = with_answer holding (looked span (with_called holding (call ∷ others))) (first_start (call ∷ others)) (some_open (call ∷ others))

@@ -1,5 +1,5 @@
 -- What stages of spans wait for and do.
-use Rattle.std.specs.Prelude.{ℕ, ◌-◌, List, [], ◌∷◌, length, max, nat_lt, if◌then◌else◌, Option, Some, None, slice_get, unwrap_or}
+use Rattle.std.specs.Prelude.{ℕ, ◌-◌, ◌==◌, ◌&&◌, List, [], ◌∷◌, Bool, length, max, if◌then◌else◌, Option, Some, None, slice_get, unwrap_or}
 use Rattle.trace_relations.specs.Moments.{interval_at}
 use Rattle.trace_stages.specs.declared.failures.LastStep.{LastStep}
 use Rattle.trace_stages.specs.declared.outcomes.Outcome.{Outcome}
@@ -85,9 +85,9 @@ whole_with scene place (Some end) = ended_work scene place end
 
 -- ---- calls that were given up
 
--- the tick of what a span would have had with answers: its own end where none of that is known
-abbrev pub answer_tick : Outcome → ℕ → ℕ
-answer_tick outcome end = if nat_lt 0 outcome.tick then outcome.tick else end
+-- the tick of what a span would have had with answers: its own end where one of these is open, and nothing else ended
+abbrev pub answer_tick : Bool → Outcome → ℕ → ℕ
+answer_tick is_open outcome end = if is_open && outcome.tick == 0 then end else outcome.tick
 
 -- its action runs as long as the span did before the first call that it gave up, but at least to the end of the span
 abbrev pub answer_from : PlainScene → ℕ → Option Answer → Option ℕ → Work
@@ -98,7 +98,7 @@ answer_from scene start (Some answer) (Some end) = record {
   created = 0;
   source = Some answer.stage;
   queued = 0;
-  runs = max (answer.since - start) (end - answer_tick (had_outcome scene answer.stage) end);
+  runs = max (answer.since - start) (end - answer_tick answer.is_open (had_outcome scene answer.stage) end);
   action = Some Null;
 }
 

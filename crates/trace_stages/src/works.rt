@@ -10,7 +10,7 @@ use crate::outcomes::{Outcome, outcome_of};
 use crate::places::interval_at;
 use crate::scene::{Scene, entry_stage, handed_at, outcomes_at, whole_sight};
 use crate::stage::{Action, Op};
-use crate::walk::StageId;
+use crate::walk::{Answer, StageId};
 
 /// What a stage waits for and does that has one source at most.
 #[derive(Clone, Copy, PartialEq, Eq, Debug)]
@@ -133,11 +133,15 @@ fn last_work(scene: &Scene<'_>, place: usize, end: u64) -> Work
     }
 }
 
-/// The tick of what a span would have had with answers: its own end where none of that is known.
-fn answer_tick(outcome: Outcome, end: u64) -> u64
-    ensures { result ≡ answer_tick outcome end }
+/// The tick of what a span would have had with answers: its own end where one of these is open, and nothing else ended.
+fn answer_tick(answer: Answer, outcome: Outcome, end: u64) -> u64
+    ensures { result ≡ answer_tick answer.is_open outcome end }
 {
-    if outcome.tick > 0 { outcome.tick } else { end }
+    if answer.is_open && outcome.tick == 0 {
+        end
+    } else {
+        outcome.tick
+    }
 }
 
 /// The end that a span which gave calls up would have had with their answers.
@@ -154,7 +158,7 @@ pub(crate) fn answer_work(scene: &Scene<'_>, place: usize) -> Work
     let sight = whole_sight(&scene.known, &scene.failures, &scene.outcomes);
     let outcome = outcome_of(sight, &[], answer.stage);
     let gap = answer.since.saturating_sub(interval.start);
-    let left = end.saturating_sub(answer_tick(outcome, end));
+    let left = end.saturating_sub(answer_tick(answer, outcome, end));
     Work {
         op: Op::WhenComplete,
         created: 0,

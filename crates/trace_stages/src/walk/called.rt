@@ -11,12 +11,14 @@ use crate::walk::stage_id::StageId;
 use std::alloc::{AllocError, Global};
 use trace_relations::{Attempts, Relations, Turn};
 
-/// A call that a span gave up: the span that it began with, its start, and the stage that stands for its end.
+/// A call that a span gave up: the span that it began with, its start, the stage that stands for its end, and whether
+/// it has not ended.
 #[derive(Clone, Copy, PartialEq, Eq, Debug)]
 pub(crate) struct Called {
     pub span: usize,
     pub start: u64,
     pub stage: StageId,
+    pub is_open: bool,
 }
 
 /// The stage that stands for the end of a call: of one that was tried again what that came to.
@@ -38,6 +40,7 @@ fn called_by(relations: &Relations, place: usize) -> Called
         span: place,
         start: interval_at(&relations.intervals, place).start,
         stage: call_end(&relations.attempts, place),
+        is_open: is_open(relations, place),
     }
 }
 

@@ -23,6 +23,8 @@ pub struct Answer {
     pub stage: StageId,
     /// The tick at which the first of these calls started.
     pub since: u64,
+    /// Whether one of these calls has not ended.
+    pub is_open: bool,
 }
 
 /// What a span has, as far as the walk has come.

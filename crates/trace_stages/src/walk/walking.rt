@@ -3,7 +3,7 @@ ghost use Rattle.std.specs.Prelude.{◌≡◌, ◌≢◌, ℕ, ◌++◌, [], ◌
 ghost use Rattle.trace_stages.specs.Held.{PlainHolding, looked, opening};
 ghost use Rattle.trace_stages.specs.KeptWalk.{Holds};
 ghost use Rattle.trace_stages.specs.OwnWork.{with_work, worked};
-ghost use Rattle.trace_stages.specs.Walk.{after, answered, begun_by, earlier_start, ended_by, first_start, walked, with_answer, with_called};
+ghost use Rattle.trace_stages.specs.Walk.{after, answered, begun_by, earlier_start, ended_by, first_start, some_open, walked, with_answer, with_called};
 
 use crate::walk::called::Called;
 use crate::walk::event::Event;
@@ -219,22 +219,29 @@ fn first_start(called: &[Called]) -> u64
     }
 }
 
-/// What a span would have had with the answers of calls, the first of which started at a tick.
+/// Whether one of calls has not ended.
+fn some_open(called: &[Called]) -> bool
+    ensures { result ≡ some_open called.now }
+{
+    called.iter().any(|call| call.is_open)
+}
+
+/// What a span would have had with the answers of calls.
 fn answer(
     alloc: Global,
     span: usize,
     held: &mut Holding,
     called: &[Called],
-    since: u64,
 ) -> Result<(), AllocError>
-    ensures { (plain : PlainHolding) → Holds held.old plain → OnOk result (Holds held.new (with_answer plain (looked span (with_called plain called.now)) since)) }
+    ensures { (plain : PlainHolding) → Holds held.old plain → OnOk result (Holds held.new (with_answer plain (looked span (with_called plain called.now)) (first_start called.now) (some_open called.now))) }
 {
     let has = held.has;
     end_called(held, called)?;
     look_again(alloc, span, held)?;
     held.answer = Some(Answer {
         stage: held.has,
-        since,
+        since: first_start(called),
+        is_open: some_open(called),
     });
     held.has = has;
     Ok(())
@@ -253,6 +260,6 @@ pub(crate) fn with_answers(
         return Ok(holding);
     }
     let mut held = holding;
-    answer(alloc, span, &mut held, called, first_start(called))?;
+    answer(alloc, span, &mut held, called)?;
     Ok(held)
 }

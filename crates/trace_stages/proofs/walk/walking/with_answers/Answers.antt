@@ -13,4 +13,4 @@ returns-then-is_empty c = λ plain h.
 pub returns : goal.returns
 returns c = λ plain h.
     let P : PlainHolding → Type 0 = λ those. Holds c.answer.new.held those in
-    subst P (an_answer c.args.span c.args.called.now plain c.first_start.result (grind (arith, common_steps)) c.first_start.ensures) (c.in_ok-answer.ensures plain h)
+    subst P (an_answer c.args.span c.args.called.now plain (grind (arith, common_steps))) (c.in_ok-answer.ensures plain h)
