@@ -180,7 +180,7 @@ module _ {as_told : AsTold} (spans : List Span) (relations : PlainRelations) (is
   given_two : (caller : ℕ) (id : StageId) → GivenCall relations caller id → HasTwo caller
   given_two caller id call = inside_two call.child caller (given_inside call.child caller (gave_up_is spans relations is call.child caller call.gave))
 
-  gave_up_two : (place : ℕ) → gave_up known place ≡ true → HasTwo place
+  pub gave_up_two : (place : ℕ) → gave_up known place ≡ true → HasTwo place
   gave_up_two place gave = elim (cases_lt place (length relations.intervals)) [
     | inl lt ↦
         let answers : is_some (had relations moments place).answer ≡ true = ap (λ those. is_some those.answer) (sym (had_is spans relations is moments are failed place lt)) ∙ gave in
@@ -205,7 +205,7 @@ module _ {as_told : AsTold} (spans : List Span) (relations : PlainRelations) (is
   call_there call None none lt = lt
   call_there call (Some again) some lt = (again, some)
 
-  tried_within : (call again : ℕ) → relations.attempts.next call ≡ Some again → (call < length relations.intervals) × (again < length relations.intervals)
+  pub tried_within : (call again : ℕ) → relations.attempts.next call ≡ Some again → (call < length relations.intervals) × (again < length relations.intervals)
   tried_within call again next =
       let by = tried_by spans relations is call again next in
       let last = end_exists (end_moment (interval_at relations.intervals again)) (end_moment (interval_at relations.intervals by.caller)) by.waits_again.ends in

@@ -46,7 +46,7 @@ use Rattle.trace_faithful.proofs.Walking.{Base, IsWellMade, WorkedBy, base-weake
 
 -- ---- ticks
 
-sooner_tick : (t u s v : ℕ) → v < 3 → t * 3 + u ≤ s * 3 + v → t ≤ s
+pub sooner_tick : (t u s v : ℕ) → v < 3 → t * 3 + u ≤ s * 3 + v → t ≤ s
 sooner_tick t u s v below le = omega arith
 
 in_range : (a b : ℕ) → a < b → 0 + a < b
@@ -134,7 +134,7 @@ module _ {as_told : AsTold} (spans : List Span) (relations : PlainRelations) (is
   call_own those child None none = refl
   call_own those child (Some again) some = ap (λ p. end_of own (relations.attempts.last p)) (sym ((tried spans relations is).same child))
 
-  base_own : (place : ℕ) (those : List Outcome) (id : StageId) → SureBy place id → outcome_of own those id ≡ outcome id
+  pub base_own : (place : ℕ) (those : List Outcome) (id : StageId) → SureBy place id → outcome_of own those id ≡ outcome id
   base_own place those id (inl same) = subst (λ one. outcome_of own those one ≡ outcome one) (sym same) refl
   base_own place those id (inr (inl call)) =
       subst (λ one. outcome_of own those one ≡ outcome one) (sym call.is) (call_own those call.child (relations.attempts.next (relations.attempts.first call.child)) refl)
@@ -158,7 +158,7 @@ module _ {as_told : AsTold} (spans : List Span) (relations : PlainRelations) (is
   call_whole those child None none = refl
   call_whole those child (Some again) some = ap (λ p. end_of own (relations.attempts.last p)) (sym ((tried spans relations is).same child))
 
-  outcomes_are : (place : ℕ) → place < length relations.intervals → slice_get Scene.outcomes place ≡ Some (joined_at place)
+  pub outcomes_are : (place : ℕ) → place < length relations.intervals → slice_get Scene.outcomes place ≡ Some (joined_at place)
   outcomes_are place lt = mapped_range (span_outcomes Known failures (all_handed Known failures)) (length relations.intervals) place lt
 
   pub part_whole : (place n : ℕ) (id : StageId) → place < length relations.intervals → n ≤ length (All place) → PartOf place n id → (those : List Outcome) → outcome_of whole those id ≡ outcome id
