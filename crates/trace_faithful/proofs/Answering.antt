@@ -1,6 +1,6 @@
 -- Each stage of a trace completes as is claimed, where its sources do.
-use Rattle.std.proofs.Common.{◌≡◌, ℕ, ◌+◌, ◌-◌, ◌<◌, ◌≤◌, inl, inr, max, List, [], ◌∷◌, Bool, true, false, cond, length, map, Option, Some, None, refl, sym, ap, ◌∙◌, subst, arith}
-use Rattle.std.specs.Prelude.{◌⊎◌, IfSome, is_some, slice_get, unwrap_or}
+use Rattle.std.proofs.Common.{◌≡◌, ℕ, ◌+◌, ◌-◌, ◌<◌, ◌≤◌, inl, inr, List, [], ◌∷◌, Bool, true, false, cond, length, map, Option, Some, None, refl, sym, ap, ◌∙◌, subst, arith}
+use Rattle.std.specs.Prelude.{◌⊎◌, IfSome, is_some, max, slice_get, unwrap_or}
 use Rattle.std.specs.Option.{option_map}
 use Rattle.std.proofs.lemmas.Bool.{cases_lt, false≢true}
 use Rattle.std.proofs.lemmas.Option.{none-some, same_Some, slice_get_within}
@@ -17,7 +17,7 @@ use Rattle.trace_relations.specs.declared.moment.Moment.{Moment}
 use Rattle.trace_spans.specs.declared.span.Span.{Span}
 use Rattle.trace_stages.specs.Beginnings.{option_list}
 use Rattle.trace_stages.specs.EndOutcomes.{own_sight}
-use Rattle.trace_stages.specs.Failures.{failure_after, failures_by, last_step, thrown}
+use Rattle.trace_stages.specs.Failures.{failures_by, last_step, thrown}
 use Rattle.trace_stages.specs.Failures as fails
 use Rattle.trace_stages.specs.Fates.{fate_at, fate_of}
 use Rattle.trace_stages.specs.HandedOn.{all_handed}
@@ -30,7 +30,7 @@ use Rattle.trace_stages.specs.Scene.{PlainScene, entry_at, handed_join, list_at,
 use Rattle.trace_stages.specs.StagesOf.{had, known_of}
 use Rattle.trace_stages.specs.TwoStages.{has_two}
 use Rattle.trace_stages.specs.Visits.{visits}
-use Rattle.trace_stages.specs.Works.{answer_from, answer_tick, at_end, begin_from, begin_work, had_outcome, last_work, limit_work, own_work, whole_with, whole_work, work_after}
+use Rattle.trace_stages.specs.Works.{answer_from, answer_tick, at_end, begin_from, begin_work, had_outcome, last_work, whole_with, whole_work, work_after}
 use Rattle.trace_stages.specs.declared.stage.Action.TheVariants as acts
 use Rattle.trace_stages.specs.declared.fates.Fate.{Fate}
 use Rattle.trace_stages.specs.declared.stage.Exception.{Exception}
@@ -44,8 +44,8 @@ use Rattle.trace_stages.specs.declared.walk.stage_id.StageId.TheVariants.{Start,
 use Rattle.trace_stages.specs.declared.works.Work.{Work as WorkOf}
 use Rattle.trace_faithful.specs.Circles.{sources_of, trace_scene}
 use Rattle.trace_faithful.specs.Completes.{CompletesAt, action_of, op_of, outcome_for, spec_of}
-use Rattle.trace_faithful.specs.Faithful.{FailsAs, IsLater}
-use Rattle.trace_faithful.proofs.Claiming.{Claim, Closed, EndClaim, IsTold, JoinClaim, at_name, at_names, comes, end_at, fails_alone, fails_as, fails_given, fails_last, sees_all, sees_closed, started, within}
+use Rattle.trace_faithful.specs.Faithful.{IsLater}
+use Rattle.trace_faithful.proofs.Claiming.{Claim, Closed, EndClaim, IsTold, JoinClaim, at_name, at_names, comes, fails_alone, fails_as, fails_given, fails_last, sees_all, sees_closed, within}
 use Rattle.trace_faithful.proofs.Each.{Each, In, each-in, in-each}
 use Rattle.trace_faithful.proofs.Failing.{fate_is, last_completes, last_fails}
 use Rattle.trace_faithful.proofs.Falling.{Piece, join_place, joins_are_made, least_is}
@@ -221,7 +221,7 @@ module _ {as_told : AsTold} (spans : List Span) (relations : PlainRelations) (is
         (begin_source scene place runs (fails.action_of failing) (entry_at scene.entries place).stage)
         (sees_all spans relations is moments are text exceptions inputs find (option_list (begin_work scene place runs (fails.action_of failing)).source) (begins_closed place runs failing) told))
 
-    start_step : (place : ℕ) → ((source : StageId) → In (sources_of scene (Start place)) source → Told source) → Claimed (Start place) (done_by (stage_of find position (spec_of text exceptions (imported scene (Start place)))))
+    pub start_step : (place : ℕ) → ((source : StageId) → In (sources_of scene (Start place)) source → Told source) → Claimed (Start place) (done_by (stage_of find position (spec_of text exceptions (imported scene (Start place)))))
     start_step place told =
         subst (λ n. CompletesAt exceptions (Some (start_of place)) n None (done_by (stage_of find position (spec_of text exceptions (imported scene (Start place)))))) (no_more (start_of place))
         (begun_completes (text (name_of scene (Start place))) place 0 None told)
@@ -245,7 +245,7 @@ module _ {as_told : AsTold} (spans : List Span) (relations : PlainRelations) (is
               (after_completes name (ends work.after).tick (ends work.after).tick (ends work.after).failure one (work.until - (ends work.after).tick) None (le_same (ends work.after).tick (ends work.after).tick refl) sees)),
         )
 
-    work_step : (place count : ℕ) → (work : OwnWork) × (slice_get (had_at known.hads place).works count ≡ Some work) → place < length relations.intervals
+    pub work_step : (place count : ℕ) → (work : OwnWork) × (slice_get (had_at known.hads place).works count ≡ Some work) → place < length relations.intervals
         → ((source : StageId) → In (sources_of scene (Work place count)) source → Told source) → Claimed (Work place count) (done_by (stage_of find position (spec_of text exceptions (imported scene (Work place count)))))
     work_step place count (work, at) lt told =
         by_found (slice_get (had_at known.hads place).works count) at told
@@ -344,7 +344,7 @@ module _ {as_told : AsTold} (spans : List Span) (relations : PlainRelations) (is
         no_sooner tick None later = tt
         no_sooner tick (Some done) later = later
 
-    whole_step : (place : ℕ) → ((source : StageId) → In (sources_of scene (Whole place)) source → Told source) → Claimed (Whole place) (done_by (stage_of find position (spec_of text exceptions (imported scene (Whole place)))))
+    pub whole_step : (place : ℕ) → ((source : StageId) → In (sources_of scene (Whole place)) source → Told source) → Claimed (Whole place) (done_by (stage_of find position (spec_of text exceptions (imported scene (Whole place)))))
     whole_step place told = by_gave (gave_up known place) refl told
       where
         by_gave : (b : Bool) → gave_up known place ≡ b → ((source : StageId) → In (cond b (Limit place ∷ Answer place ∷ []) (option_list (whole_work scene place).source)) source → Told source)
@@ -355,7 +355,7 @@ module _ {as_told : AsTold} (spans : List Span) (relations : PlainRelations) (is
 
     -- ---- of a span that gave calls up
 
-    limit_step : (place : ℕ) → gave_up known place ≡ true → ((source : StageId) → In (sources_of scene (Limit place)) source → Told source)
+    pub limit_step : (place : ℕ) → gave_up known place ≡ true → ((source : StageId) → In (sources_of scene (Limit place)) source → Told source)
         → Claimed (Limit place) (done_by (stage_of find position (spec_of text exceptions (imported scene (Limit place)))))
     limit_step place gave told =
         let moment = gave_up_end spans relations is moments are failed place gave in
@@ -427,14 +427,14 @@ module _ {as_told : AsTold} (spans : List Span) (relations : PlainRelations) (is
         let composed = compose_completes exceptions inputs position name (there (Whole call)) (there (end_of_next relations.attempts call (Some other))) by.end.tick last.0 exception.0 (failed (relations.attempts.last (relations.attempts.first call))) sees inner le in
         (last.0, last.1, composed.0, composed.1)
 
-    tried_step : (call : ℕ) → (again : ℕ) × (relations.attempts.next call ≡ Some again) → ((source : StageId) → In (sources_of scene (Tried call)) source → Told source)
+    pub tried_step : (call : ℕ) → (again : ℕ) × (relations.attempts.next call ≡ Some again) → ((source : StageId) → In (sources_of scene (Tried call)) source → Told source)
         → Claimed (Tried call) (done_by (stage_of find position (spec_of text exceptions (imported scene (Tried call)))))
     tried_step call (again, next) told =
         tried_with (text (name_of scene (Tried call))) call again (relations.attempts.next call) next next (told (Whole call) (inl refl)) (told (next_attempt known call) (inr (inl refl)))
 
     -- ---- joins
 
-    entry_step : (place count : ℕ) → ((source : StageId) → In (sources_of scene (Entry place count)) source → Told source)
+    pub entry_step : (place count : ℕ) → ((source : StageId) → In (sources_of scene (Entry place count)) source → Told source)
         → Claimed (Entry place count) (done_by (stage_of find position (spec_of text exceptions (imported scene (Entry place count)))))
     entry_step place count told =
         subst (λ o. CompletesAt exceptions None o.tick o.failure (done_by (stage_of find position (spec_of text exceptions (imported scene (Entry place count)))))) (sym (entry_ends spans relations is moments are failed place count))
@@ -448,7 +448,7 @@ module _ {as_told : AsTold} (spans : List Span) (relations : PlainRelations) (is
       pub tick : ℕ
       pub failure : Option Exception
       pub blamed : Option ℕ
-      pub is : completion ≡ Some (record { outcome = outcome_for exceptions failure; moment = tick; from = blamed })
+      pub seen : completion ≡ Some (record { outcome = outcome_for exceptions failure; moment = tick; from = blamed })
       pub later : lower place id ≤ tick
 
     abbrev IsReckoned : ℕ → StageId → Option Completion → Type 0
@@ -457,7 +457,7 @@ module _ {as_told : AsTold} (spans : List Span) (relations : PlainRelations) (is
     closed_reckoned : (place : ℕ) (id : StageId) → Told id → IsEnded id → lower place id ≤ (ends id).tick → IsReckoned place id (inputs (there id))
     closed_reckoned place id told closed le =
         let sees = sees_closed spans relations is moments are text exceptions inputs (there id) id told closed in
-        inr (record { tick = (ends id).tick; failure = (ends id).failure; blamed = sees.0; is = sees.1; later = le })
+        inr (record { tick = (ends id).tick; failure = (ends id).failure; blamed = sees.0; seen = sees.1; later = le })
 
     whole_reckoned : (place child : ℕ) (end : Option ℕ) (completion : Option Done) → end_of child ≡ end → EndClaim spans relations is moments are text exceptions child end completion → inputs (there (Whole child)) ≡ option_map seen_from completion
         → IsReckoned place (Whole child) (inputs (there (Whole child)))
@@ -467,7 +467,7 @@ module _ {as_told : AsTold} (spans : List Span) (relations : PlainRelations) (is
           tick = tick;
           failure = failed child;
           blamed = claim.1.0;
-          is = seen ∙ ap (option_map seen_from) claim.1.1;
+          seen = seen ∙ ap (option_map seen_from) claim.1.1;
           later = le_same (unwrap_or (end_of child) 0) tick (ap (λ e. unwrap_or e 0) ended);
         })
 
@@ -479,7 +479,7 @@ module _ {as_told : AsTold} (spans : List Span) (relations : PlainRelations) (is
           tick = claim.0;
           failure = failed (relations.attempts.last (relations.attempts.first child));
           blamed = claim.3.0;
-          is = told.seen ∙ ap (option_map seen_from) claim.3.1;
+          seen = told.seen ∙ ap (option_map seen_from) claim.3.1;
           later = last_lower child again claim.0 some claim.1;
         })
 
@@ -490,7 +490,7 @@ module _ {as_told : AsTold} (spans : List Span) (relations : PlainRelations) (is
             tick = completes.0;
             failure = completes.1;
             blamed = completes.2.0;
-            is = told.seen ∙ ap (option_map seen_from) completes.2.1;
+            seen = told.seen ∙ ap (option_map seen_from) completes.2.1;
             later = le_through (lower place (Join place k)) (ends (Join place k)).tick completes.0
                 (ap (λ j. (outcome_at (join_outcomes (own_sight known failed) (All place)) j).tick) (sym (least_is spans relations is moments are failed place k lt)))
                 (subst (IsLater (Some (ends (Join place k)).tick)) completes.2.1 told.claim.later);
@@ -535,7 +535,7 @@ module _ {as_told : AsTold} (spans : List Span) (relations : PlainRelations) (is
         by_both (inr ended) (inl (other, here, none)) = inl (other, inr here, none)
         by_both (inr ended) (inr more) = inr (record {
           actual = record { tick = ended.tick; failure = ended.failure } ∷ more.actual;
-          sees = ((ended.blamed, ended.is), more.sees);
+          sees = ((ended.blamed, ended.seen), more.sees);
           later = greater (lower place source) ended.tick (latest (map (outcome_of (own_sight known failed) (join_outcomes (own_sight known failed) (All place))) sources)) (latest more.actual) ended.later more.later;
         })
 
@@ -626,7 +626,7 @@ module _ {as_told : AsTold} (spans : List Span) (relations : PlainRelations) (is
             (made-at (joins_of.Holding place) (HadBase relations (had relations moments place).works place) 0 (nth place count) (nth place count) (All place) (join_sources scene place count) (omega arith)
             (joins_are_made spans relations is moments are failed place lt) (all_at source here)) source here) (told source here)
 
-    join_step : (place count : ℕ) → ((source : StageId) → In (sources_of scene (Join place count)) source → Told source)
+    pub join_step : (place count : ℕ) → ((source : StageId) → In (sources_of scene (Join place count)) source → Told source)
         → Claimed (Join place count) (done_by (stage_of find position (spec_of text exceptions (imported scene (Join place count)))))
     join_step place count told = elim (cases_lt place (length relations.intervals)) [
       | inl lt ↦ elim (cases_lt (nth place count) (length (sure_joins spans relations is moments are failed place))) [
@@ -668,7 +668,7 @@ module _ {as_told : AsTold} (spans : List Span) (relations : PlainRelations) (is
         by_tick completion seen false opens = elim (piece_reckoned place (length (had relations moments place).joins) answer.stage fits well told) [
           | inl none ↦ absurd (none-some completion (sym none ∙ seen))
           | inr ended ↦
-              let same : ended.tick ≡ completion.moment = ap (λ c. c.moment) (same_Some _ completion (sym ended.is ∙ seen)) in
+              let same : ended.tick ≡ completion.moment = ap (λ c. c.moment) (same_Some _ completion (sym ended.seen ∙ seen)) in
               subst (λ t. tick ≤ completion.moment + max (answer.since - start_of place) (tick - t)) (sym (tick_is false opens refl))
               (long_enough tick completion.moment (lower place answer.stage) (answer.since - start_of place) (subst (λ n. lower place answer.stage ≤ n) same ended.later))
         ]
@@ -685,7 +685,7 @@ module _ {as_told : AsTold} (spans : List Span) (relations : PlainRelations) (is
             through : (a b c : ℕ) → a ≤ b → b ≤ c → a ≤ c
             through a b c one two = omega arith
 
-    answer_step : (place : ℕ) → gave_up known place ≡ true → ((answer : Answered) → (had_at known.hads place).answer ≡ Some answer → answer.is_open ≡ true → inputs (there answer.stage) ≡ None)
+    pub answer_step : (place : ℕ) → gave_up known place ≡ true → ((answer : Answered) → (had_at known.hads place).answer ≡ Some answer → answer.is_open ≡ true → inputs (there answer.stage) ≡ None)
         → ((source : StageId) → In (sources_of scene (Answer place)) source → Told source) → Claimed (Answer place) (done_by (stage_of find position (spec_of text exceptions (imported scene (Answer place)))))
     answer_step place gave waits told =
         by_both (had_at known.hads place).answer refl (end_of place) refl told

@@ -1,12 +1,12 @@
 -- How each stage of a trace completes, and what others see of it.
-use Rattle.std.proofs.Common.{◌≡◌, ℕ, ◌+◌, ◌<◌, ◌≤◌, inl, inr, List, [], ◌∷◌, Bool, true, false, cond, length, map, Option, Some, None, refl, sym, ap, ◌∙◌, subst, arith}
+use Rattle.std.proofs.Common.{◌≡◌, ℕ, ◌<◌, inl, inr, List, [], ◌∷◌, Bool, true, false, cond, length, map, Option, Some, None, refl, sym, ap, ◌∙◌, subst, arith}
 use Rattle.std.specs.Prelude.{◌⊎◌, ◌||◌, is_some, not, slice_get, unwrap_or}
 use Rattle.std.specs.Option.{option_map}
 use Rattle.std.proofs.lemmas.Option.{none-some}
 use Rattle.stage_graph.specs.Names.{places_of}
 use Rattle.stage_ops.specs.States.{Completion, seen as seen_from}
 use Rattle.stage_ops.specs.declared.state.Done.{Done}
-use Rattle.trace_relations.specs.Moments.{end_after, end_moment, interval_at}
+use Rattle.trace_relations.specs.Moments.{end_after, interval_at}
 use Rattle.trace_relations.specs.Relations.{PlainRelations}
 use Rattle.trace_relations.specs.declared.as_told.AsTold.{AsTold}
 use Rattle.trace_spans.specs.declared.span.Span.{Span}
@@ -35,7 +35,7 @@ use Rattle.trace_faithful.proofs.Relations.{IsFamily, ended_place}
 use Rattle.trace_faithful.proofs.Stepping.{Sees, SeesAll}
 use Rattle.trace_faithful.proofs.Sure.{IsSure}
 use Rattle.trace_faithful.proofs.Ticking.{Outcome}
-use Rattle.trace_faithful.proofs.Timing.{IsClosed, Latest, outcome}
+use Rattle.trace_faithful.proofs.Timing.{IsClosed, outcome}
 
 module _ {as_told : AsTold} (spans : List Span) (relations : PlainRelations) (is : IsFamily as_told spans relations) (moments : List At) (are : AreMoments relations.intervals moments) (text : StageName → List ℕ) (exceptions : Exception → List ℕ) where
   abbrev pub Known : PlainKnown

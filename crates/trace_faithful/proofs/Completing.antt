@@ -1,15 +1,14 @@
 -- Each stage of a trace's graph completes as its span ended.
-use Rattle.std.proofs.Common.{◌≡◌, ℕ, suc, zero, ◌+◌, ◌<◌, ◌≤◌, inl, inr, List, [], ◌∷◌, ◌++◌, Bool, true, false, cond, length, map, Option, Some, None, refl, sym, ap, ◌∙◌, subst, arith}
-use Rattle.std.specs.Prelude.{◌⊎◌, Contains, is_none, is_some, option_to_list, slice_get, unwrap_or, Ok}
+use Rattle.std.proofs.Common.{◌≡◌, ℕ, suc, zero, ◌+◌, ◌<◌, inl, inr, List, [], ◌∷◌, ◌++◌, Bool, true, false, cond, length, map, Option, Some, None, refl, sym, ap, ◌∙◌, subst, arith}
+use Rattle.std.specs.Prelude.{Contains, is_none, is_some, option_to_list, slice_get, unwrap_or, Ok}
 use Rattle.std.specs.Option.{option_map}
 use Rattle.std.proofs.lemmas.Bool.{cases_lt, false≢true}
-use Rattle.std.proofs.lemmas.Option.{none-some, same_Some, slice_get_within}
+use Rattle.std.proofs.lemmas.Option.{none-some, slice_get_within}
 use Rattle.act_expr.specs.declared.outcome.Mode.TheVariants.{Computed}
 use Rattle.stage_graph.specs.Loading.{first_refused, loaded, stages_from}
 use Rattle.stage_graph.specs.Names.{place_of, places_of, stage_of}
-use Rattle.stage_graph.specs.Plain.{PlainGraph, feeds_at, feeds_of_place, stage_at}
+use Rattle.stage_graph.specs.Plain.{PlainGraph, feeds_of_place, stage_at}
 use Rattle.stage_graph.specs.Walk.{IsRanked, Walk, step_at}
-use Rattle.stage_graph.specs.declared.op.Op.TheVariants as op
 use Rattle.stage_graph.specs.declared.stage.Spec.{Spec}
 use Rattle.stage_graph.specs.declared.stage.Stage.{Stage}
 use Rattle.stage_ops.specs.Evaluation.{at, on_states}
@@ -17,7 +16,7 @@ use Rattle.stage_ops.specs.Java.{java_step}
 use Rattle.stage_ops.specs.States.{Completion, pending, seen, seen_at}
 use Rattle.stage_ops.specs.declared.state.Done.{Done}
 use Rattle.stage_ops.specs.declared.state.State.{State}
-use Rattle.trace_relations.specs.Moments.{end_after, interval_at}
+use Rattle.trace_relations.specs.Moments.{interval_at}
 use Rattle.trace_relations.specs.Relations.{PlainRelations}
 use Rattle.trace_relations.specs.declared.as_told.AsTold.{AsTold}
 use Rattle.trace_spans.specs.declared.span.Span.{Span}
@@ -44,7 +43,7 @@ use Rattle.trace_faithful.specs.Completes.{CompletesAt, spec_of}
 use Rattle.trace_faithful.specs.Faithful.{CompletesAs, EndsAs}
 use Rattle.trace_faithful.proofs.Answering.{answer_step, entry_step, join_step, limit_step, start_step, tried_step, whole_step, work_step}
 use Rattle.trace_faithful.proofs.Claiming.{Claim, EndClaim, IsTold, at_name, comes, fails_as, within}
-use Rattle.trace_faithful.proofs.Each.{Each, In, contains_in, in-at, in-back, in-each, in-front, in_contains}
+use Rattle.trace_faithful.proofs.Each.{Each, In, contains_in, in-at, in-each, in_contains}
 use Rattle.trace_faithful.proofs.Having.{answer_all, open_all}
 use Rattle.trace_faithful.proofs.Keys.{had_is}
 use Rattle.trace_faithful.proofs.Lesser.{gave_up_end}
@@ -156,7 +155,7 @@ module _ {as_told : AsTold} (spans : List Span) (relations : PlainRelations) (is
 
     -- each source of a join that has completed has
     join_seen : (place count : ℕ) → IsSeen (Join place count) → Each IsSeen (join_sources scene place count)
-    join_seen place count (here, completion, sees) = in-each IsSeen (join_sources scene place count) (λ source among.
+    join_seen place count (here, (completion, sees)) = in-each IsSeen (join_sources scene place count) (λ source among.
         let state = state_is (there (Join place count)) (Join place count) (stands_there (Join place count) here) in
         let done = done_seen (java_step Computed (stage_for (there (Join place count)) (Join place count)) (seen_at states)).done completion (ap (λ s. option_map seen s.done) (sym state) ∙ sees) in
         (source_in (Join place count) source here among,
@@ -188,7 +187,7 @@ module _ {as_told : AsTold} (spans : List Span) (relations : PlainRelations) (is
     open_unseen place (Some again) some none shown =
         let by = tried_by spans relations is place again some in
         none-some by.end.tick (sym none ∙ tick_of_end (interval_at relations.intervals place) by.end by.ends)
-    open_unseen place None once none (here, completion, sees) =
+    open_unseen place None once none (here, (completion, sees)) =
         let state = state_is (there (Whole place)) (Whole place) (stands_there (Whole place) here) in
         none-some completion (ap (λ done. option_map seen done) (sym (open_pending place none (open_kept place none) (there (Whole place)))) ∙ ap (λ s. option_map seen s.done) (sym state) ∙ sees)
 
@@ -218,7 +217,7 @@ module _ {as_told : AsTold} (spans : List Span) (relations : PlainRelations) (is
         never : (completion : Completion) → seen_at states (there answer.stage) ≡ Some completion → ⊥
         never completion sees =
             let same : (had relations moments place).answer ≡ Some answer = ap (λ those. those.answer) (sym (had_is spans relations is moments are failed place lt)) ∙ is_answer in
-            let all = answer_all relations place IsSeen moments are answer same down (source_in (Answer place) answer.stage here among, completion, sees) in
+            let all = answer_all relations place IsSeen moments are answer same down (source_in (Answer place) answer.stage here among, (completion, sees)) in
             let one = open_all relations place IsSeen moments all.0 (sym all.1 ∙ opens) in
             open_unseen one.0 (relations.attempts.next one.0) refl (open_none one.0 one.1) one.2
 

@@ -1,11 +1,10 @@
 -- How the last stage of a span ends, by how the span went and by its source.
-use Rattle.std.proofs.Common.{◌≡◌, ℕ, ◌+◌, ◌<◌, ◌≤◌, List, [], ◌∷◌, Bool, true, false, cond, length, map, min, Option, Some, None, refl, sym, ap, ◌∙◌, subst, arith, length-append}
-use Rattle.std.specs.Prelude.{◌||◌, IfSome, filter, fold, is_some, not, slice_get, unwrap_or}
+use Rattle.std.proofs.Common.{◌≡◌, ℕ, ◌+◌, ◌<◌, ◌≤◌, List, [], ◌∷◌, Bool, true, false, cond, length, map, Option, Some, None, refl, sym, ap, ◌∙◌, arith, length-append}
+use Rattle.std.specs.Prelude.{◌||◌, IfSome, filter, fold, is_some, min, not, slice_get, unwrap_or}
 use Rattle.std.proofs.lemmas.Bool.{eqb-true, false≢true}
 use Rattle.std.proofs.lemmas.List.Sums.{fold-append}
 use Rattle.std.proofs.lemmas.Option.{none-some, same_Some, slice_get_past}
 use Rattle.stage_ops.specs.States.{Completion}
-use Rattle.trace_relations.specs.Moments.{interval_at}
 use Rattle.trace_relations.specs.Relations.{PlainRelations}
 use Rattle.trace_relations.specs.declared.as_told.AsTold.{AsTold}
 use Rattle.trace_spans.specs.declared.span.Span.{Span}
@@ -31,8 +30,8 @@ use Rattle.trace_stages.specs.declared.walk.stage_id.StageId.{StageId}
 use Rattle.trace_stages.specs.declared.walk.stage_id.StageId.TheVariants.{Whole, Join, Tried}
 use Rattle.trace_faithful.specs.Completes.{CompletesAt, action_of, op_of}
 use Rattle.trace_faithful.proofs.Each.{filter_each}
-use Rattle.trace_faithful.proofs.Falling.{handed_call, handed_is, last_in, own_made}
-use Rattle.trace_faithful.proofs.Having.{HadBase, WaitedCall}
+use Rattle.trace_faithful.proofs.Falling.{handed_is, handed_last, last_in, own_made}
+use Rattle.trace_faithful.proofs.Having.{HadBase}
 use Rattle.trace_faithful.proofs.Keys.{joins_at, own_joins}
 use Rattle.trace_faithful.proofs.Relations.{IsFamily, mapped_range}
 use Rattle.trace_faithful.proofs.Stepping.{Done_of, SeesOne, handle_completes, plain_stage, run_completes, watch_completes}
@@ -180,12 +179,11 @@ module _ {as_told : AsTold} (spans : List Span) (relations : PlainRelations) (is
       ap (λ found. unwrap_or found (handed_of place)) (slice_get_past (mine place) (length (mine place)) (itself (length (mine place)))) ∙ those in
       let count : length (sure_joins spans relations is moments are failures place) ≡ length (mine place) + length (handed_join (handed_of place)) =
       ap length (sym (all_sure spans relations is moments are failures place lt kept)) ∙ length-append (mine place) (handed_join (handed_of place)) in
-      let call : WaitedCall relations place (call_end relations.attempts (relations.attempts.first child)) = handed_call spans relations is moments are failures place child handed in
       ap (λ o. o.failure) (join_ends spans relations is moments are failures place (length (mine place)) lt
       (sure (length (sure_joins spans relations is moments are failures place)) (length (mine place)) (length (handed_join (handed_of place))) count (ap (λ some. length (handed_join some)) those)))
       ∙ ap (λ some. (join_outcome (map ends some)).failure) sources
       ∙ second_fails (ends (had_at Known.hads place).has) (ends (call_end relations.attempts (relations.attempts.first child))) (ap (λ o. o.failure) (has_outcome place lt) ∙ none)
-      ∙ call_fails child (relations.attempts.next (relations.attempts.first child)) call.last refl
+      ∙ call_fails child (relations.attempts.next (relations.attempts.first child)) (handed_last spans relations is moments are failures place child handed) refl
     where
       itself : (n : ℕ) → n ≤ n
       itself n = omega arith

@@ -271,6 +271,12 @@ module _ {as_told : AsTold} (spans : List Span) (relations : PlainRelations) (is
         is = refl;
       }
 
+  -- by its last attempt
+  pub handed_last : (place child : ℕ) → is_handed Known failures place child ≡ true → relations.attempts.next child ≡ None
+  handed_last place child handed =
+      is_none_true (relations.attempts.next child) (and_left (is_none (relations.attempts.next child)) (takes_over Known.hands_on (fate_at Known.fates place) (failures child))
+      (and_right (option_eq nat_eq (parent_at relations.waiting child) (Some place)) _ handed))
+
   handed_made : (place : ℕ) → place < length relations.intervals → Each (Piece place (length (Own place))) (handed_sources Known failures place)
   handed_made place lt =
       each_if (Piece place (length (Own place))) _ (handed_from Known failures place (thrower Known failures place))

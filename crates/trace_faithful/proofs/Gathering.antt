@@ -1,5 +1,5 @@
 -- What one stage for several stands for: where it has a property that goes on to the sources of joins, each of them has it.
-use Rattle.std.proofs.Common.{◌≡◌, ℕ, List, [], ◌∷◌, ◌++◌, Bool, true, false, cond, length, Some, refl, arith}
+use Rattle.std.proofs.Common.{◌≡◌, ℕ, List, [], ◌∷◌, ◌++◌, Bool, true, false, cond, length, Some, refl}
 use Rattle.std.specs.Prelude.{IfSome, fold, nat_lt, slice_get}
 use Rattle.trace_stages.specs.Joins.{PlainGathering, PlainJoined, finished, finished_with, gathered, join_id, joined_of}
 use Rattle.trace_stages.specs.declared.walk.joins.JoinsOf.{JoinsOf}
@@ -18,7 +18,7 @@ last_at (y ∷ ys) x = last_at ys x
 
 module _ (of : JoinsOf) where
   one_extends : (gathering : PlainGathering) (source : StageId) (few : Bool)
-      → Extends gathering.joins (cond few (record { joins = gathering.joins; together = gathering.together ++ source ∷ [] })
+      → Extends gathering.joins (cond {A = PlainGathering} few (record { joins = gathering.joins; together = gathering.together ++ source ∷ [] })
       (record { joins = gathering.joins ++ gathering.together ∷ []; together = join_id of (length gathering.joins) ∷ source ∷ [] })).joins
   one_extends gathering source true = extends-refl gathering.joins
   one_extends gathering source false = (gathering.together ∷ [], refl)
@@ -44,9 +44,9 @@ module _ (of : JoinsOf) where
         (at-extends (joins ++ (first ∷ second ∷ others) ∷ []) all (length joins) (first ∷ second ∷ others) extends (last_at joins (first ∷ second ∷ others))) stage
 
     one_all : (gathering : PlainGathering) (source : StageId) (few : Bool)
-        → Extends (cond few (record { joins = gathering.joins; together = gathering.together ++ source ∷ [] })
+        → Extends (cond {A = PlainGathering} few (record { joins = gathering.joins; together = gathering.together ++ source ∷ [] })
         (record { joins = gathering.joins ++ gathering.together ∷ []; together = join_id of (length gathering.joins) ∷ source ∷ [] })).joins all
-        → Each P (cond few (record { joins = gathering.joins; together = gathering.together ++ source ∷ [] })
+        → Each P (cond {A = PlainGathering} few (record { joins = gathering.joins; together = gathering.together ++ source ∷ [] })
         (record { joins = gathering.joins ++ gathering.together ∷ []; together = join_id of (length gathering.joins) ∷ source ∷ [] })).together
         → Each P gathering.together × P source
     one_all gathering source true extends each = let both = each-split P gathering.together (source ∷ []) each in (both.0, both.1.0)

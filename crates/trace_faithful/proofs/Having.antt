@@ -360,11 +360,12 @@ module _ (relations : PlainRelations) (span : ℕ) where
     open_among : (places : List ℕ) → Each (λ call. P call.stage) (map (called_by relations) places) → list_any (λ call. call.is_open) (map (called_by relations) places) ≡ true
         → (place : ℕ) × (is_open relations place ≡ true) × P (call_end relations.attempts place)
     open_among [] all some = absurd (false≢true some)
-    open_among (place ∷ places) all some = by_open (is_open relations place) refl some
+    open_among (place ∷ places) all some = by_open (is_open relations place) refl some (λ rest. open_among places all.1 rest)
       where
-        by_open : (b : Bool) → is_open relations place ≡ b → (b || list_any (λ call. call.is_open) (map (called_by relations) places)) ≡ true → (found : ℕ) × (is_open relations found ≡ true) × P (call_end relations.attempts found)
-        by_open true opens some = (place, opens, all.0)
-        by_open false closed some = open_among places all.1 some
+        by_open : (b : Bool) → is_open relations place ≡ b → (b || list_any (λ call. call.is_open) (map (called_by relations) places)) ≡ true
+            → (list_any (λ call. call.is_open) (map (called_by relations) places) ≡ true → (found : ℕ) × (is_open relations found ≡ true) × P (call_end relations.attempts found)) → (found : ℕ) × (is_open relations found ≡ true) × P (call_end relations.attempts found)
+        by_open true opens some again = (place, opens, all.0)
+        by_open false closed some again = again some
 
     -- so, where one of them is open, that has the property
     pub open_all : (moments : List At) → Each (λ call. P call.stage) (called relations moments span) → some_open (called relations moments span) ≡ true → (place : ℕ) × (is_open relations place ≡ true) × P (call_end relations.attempts place)

@@ -20,9 +20,10 @@ use Rattle.stage_ops.specs.Ended.{ended}
 use Rattle.stage_ops.specs.Java.{java_step}
 use Rattle.stage_ops.specs.Natural.{finished, progress_of, taken_over}
 use Rattle.stage_ops.specs.Pinned.{pinned}
-use Rattle.stage_ops.specs.Sources.{completed, earliest_failed, has_failed as is_failed, have_completed, latest as latest_of, moment_of, source_at, source_of}
+use Rattle.stage_ops.specs.Sources.{completed, earliest_failed, has_failed as is_failed, have_completed, is_exceptional, latest as latest_of, moment_of, source_at, source_of}
 use Rattle.stage_ops.specs.States.{Completion}
 use Rattle.stage_ops.specs.declared.state.Done.{Done}
+use Rattle.trace_stages.specs.Failures.{action_of as action_for}
 use Rattle.trace_stages.specs.Outcomes.{earlier_of, earliest, failure_of, has_failed, join_outcome, latest}
 use Rattle.trace_stages.specs.declared.stage.Action.{Action}
 use Rattle.trace_stages.specs.declared.stage.Action.TheVariants as acts
@@ -120,10 +121,10 @@ module _ (exceptions : Exception → List ℕ) (inputs : ℕ → Option Completi
   alike_kept : (source : Source) (outcome : Outcome) (sources : List Source) (outcomes : List Outcome) (failure : Option Exception) → failure ≡ outcome.failure → source.outcome ≡ outcome_for exceptions failure → source.moment ≡ outcome.tick
       → Alike (earliest_failed sources) (earliest (filter has_failed outcomes)) → Alike (earliest_failed (source ∷ sources)) (earliest (filter has_failed (outcome ∷ outcomes)))
   alike_kept source outcome sources outcomes None none same at rest =
-      subst (λ o. Alike (soonest moment_of (cond (Rattle.stage_ops.specs.Sources.is_exceptional o) (source ∷ filter is_failed sources) (filter is_failed sources))) (earliest (filter has_failed (outcome ∷ outcomes)))) (sym same)
+      subst (λ o. Alike (soonest moment_of (cond (is_exceptional o) (source ∷ filter is_failed sources) (filter is_failed sources))) (earliest (filter has_failed (outcome ∷ outcomes)))) (sym same)
       (subst (λ f. Alike (earliest_failed sources) (earliest (cond (is_some f) (outcome ∷ filter has_failed outcomes) (filter has_failed outcomes)))) none rest)
   alike_kept source outcome sources outcomes (Some exception) some same at rest =
-      subst (λ o. Alike (soonest moment_of (cond (Rattle.stage_ops.specs.Sources.is_exceptional o) (source ∷ filter is_failed sources) (filter is_failed sources))) (earliest (filter has_failed (outcome ∷ outcomes)))) (sym same)
+      subst (λ o. Alike (soonest moment_of (cond (is_exceptional o) (source ∷ filter is_failed sources) (filter is_failed sources))) (earliest (filter has_failed (outcome ∷ outcomes)))) (sym same)
       (subst (λ f. Alike (Some (sooner moment_of source (earliest_failed sources))) (earliest (cond (is_some f) (outcome ∷ filter has_failed outcomes) (filter has_failed outcomes)))) some
       (alike_sooner source outcome (earliest_failed sources) (earliest (filter has_failed outcomes)) (same ∙ ap (outcome_for exceptions) some, at, ap is_some (sym some)) rest))
 
@@ -169,7 +170,7 @@ module _ (exceptions : Exception → List ℕ) (inputs : ℕ → Option Completi
 
   -- a stage without sources
   pub first_completes : (place : ℕ) (name : List ℕ) (created runs : ℕ) (failure : Option Exception)
-      → CompletesAt exceptions (Some (created + 0)) (created + 0 + runs) failure (Done_of (plain_stage place name op.Async [] [] created 0 runs (Some (action_of exceptions (Rattle.trace_stages.specs.Failures.action_of failure)))))
+      → CompletesAt exceptions (Some (created + 0)) (created + 0 + runs) failure (Done_of (plain_stage place name op.Async [] [] created 0 runs (Some (action_of exceptions (action_for failure)))))
   first_completes place name created runs None = (None, refl)
   first_completes place name created runs (Some exception) = (None, refl)
 
@@ -194,7 +195,7 @@ module _ (exceptions : Exception → List ℕ) (inputs : ℕ → Option Completi
 
   -- `thenRun` after a source that did not fail
   pub run_completes : (place : ℕ) (name : List ℕ) (source tick queued runs : ℕ) (failure : Option Exception) → SeesOne source tick None
-      → CompletesAt exceptions (Some (tick + queued)) (tick + queued + runs) failure (Done_of (plain_stage place name op.ThenRun (source ∷ []) [] 0 queued runs (Some (action_of exceptions (Rattle.trace_stages.specs.Failures.action_of failure)))))
+      → CompletesAt exceptions (Some (tick + queued)) (tick + queued + runs) failure (Done_of (plain_stage place name op.ThenRun (source ∷ []) [] 0 queued runs (Some (action_of exceptions (action_for failure)))))
   run_completes place name source tick queued runs None sees = rw (one_seen source tick None sees) (None, later_done (outcome_for exceptions None) None tick queued runs)
   run_completes place name source tick queued runs (Some exception) sees = rw (one_seen source tick None sees) (None, later_done (outcome_for exceptions (Some exception)) None tick queued runs)
 
@@ -298,7 +299,7 @@ module _ (exceptions : Exception → List ℕ) (inputs : ℕ → Option Completi
     where
       by_other : (other : Option Completion) → IsNoSooner completion.moment other → soonest moment_of (source_of one completion ∷ cons_option (option_map (source_of two) other) []) ≡ Some (source_of one completion)
       by_other None later = refl
-      by_other (Some last) later = let not_less : nat_lt last.moment completion.moment ≡ false = le-ltb completion.moment last.moment later in ap (λ b. Some (cond b (source_of two last) (source_of one completion))) not_less
+      by_other (Some last) later = let not_less : nat_lt last.moment completion.moment ≡ false = le-ltb last.moment completion.moment later in ap (λ b. Some (cond b (source_of two last) (source_of one completion))) not_less
 
   any_from : (at : ℕ) (name places : List ℕ) (place tick : ℕ) («from» : Option ℕ) (failure : Option Exception)
       → CompletesAt exceptions None tick failure (ended (plain_stage at name op.AnyOf places [] 0 0 0 None) (pinned (plain_stage at name op.AnyOf places [] 0 0 0 None)

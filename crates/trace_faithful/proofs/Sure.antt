@@ -1,9 +1,8 @@
 -- The joins of what a span has that wait for nothing which it gave up.
-use Rattle.std.proofs.Common.{◌≡◌, ℕ, ◌+◌, ◌<◌, ◌≤◌, inl, inr, List, [], ◌∷◌, ◌++◌, Bool, true, false, cond, length, Option, Some, None, refl, sym, ap, ◌∙◌, subst, arith, append_assoc, get_or, length-append}
-use Rattle.std.specs.Prelude.{◌||◌, IfSome, filter, is_some, not, slice_get, unwrap_or}
+use Rattle.std.proofs.Common.{◌≡◌, ℕ, ◌+◌, ◌<◌, ◌≤◌, inl, inr, List, [], ◌∷◌, ◌++◌, Bool, true, false, cond, length, Option, Some, None, refl, sym, ap, ◌∙◌, subst, arith, get_or, length-append}
+use Rattle.std.specs.Prelude.{◌||◌, IfSome, filter, is_some, not, slice_get}
 use Rattle.std.proofs.lemmas.List.{append-nil}
 use Rattle.std.proofs.lemmas.Option.{same_Some, slice_get-get_or}
-use Rattle.trace_relations.specs.Moments.{interval_at}
 use Rattle.trace_relations.specs.Relations.{PlainRelations}
 use Rattle.trace_relations.specs.declared.as_told.AsTold.{AsTold}
 use Rattle.trace_spans.specs.declared.span.Span.{Span}
@@ -18,7 +17,7 @@ use Rattle.trace_stages.specs.StagesOf.{had, known_of}
 use Rattle.trace_stages.specs.declared.stage.Exception.{Exception}
 use Rattle.trace_stages.specs.declared.walk.joins.JoinsOf.TheVariants as joins_of
 use Rattle.trace_stages.specs.declared.walk.stage_id.StageId.{StageId}
-use Rattle.trace_faithful.proofs.Each.{Each, In, each-in, filter_each, in-each}
+use Rattle.trace_faithful.proofs.Each.{Each, each-in, filter_each, in-each}
 use Rattle.trace_faithful.proofs.Falling.{handed_call, handed_is, join_place, last_in}
 use Rattle.trace_faithful.proofs.Having.{held_now, held_precedes, plain_held}
 use Rattle.trace_faithful.proofs.Joining.{AreMade, Extends, Made, are_made-push, extends-refl, extends-trans, made-at}

@@ -1,6 +1,6 @@
 -- When the stages of a trace end, and with what: no stage ends later than what begins from it.
-use Rattle.std.proofs.Common.{◌≡◌, ℕ, suc, zero, ◌+◌, ◌*◌, ◌<◌, ◌≤◌, inl, inr, List, [], ◌∷◌, ◌++◌, Bool, true, false, cond, length, map, min, Option, Some, None, refl, sym, ap, ◌∙◌, subst, arith, length-append}
-use Rattle.std.specs.Prelude.{◌⊎◌, IfSome, filter, find, fold, is_some, nat_eq, slice_get, unwrap_or}
+use Rattle.std.proofs.Common.{◌≡◌, ℕ, suc, zero, ◌+◌, ◌*◌, ◌<◌, ◌≤◌, inl, inr, List, [], ◌∷◌, ◌++◌, Bool, true, false, cond, length, map, Option, Some, None, refl, sym, ap, ◌∙◌, subst, arith, length-append}
+use Rattle.std.specs.Prelude.{◌⊎◌, IfSome, filter, find, fold, is_some, min, nat_eq, slice_get, unwrap_or}
 use Rattle.std.specs.Option.{option_map}
 use Rattle.std.proofs.lemmas.Bool.{cases_lt, eqb-true}
 use Rattle.std.proofs.lemmas.Option.{none-some, same_Some, slice_get_past, slice_get_within}
@@ -35,13 +35,12 @@ use Rattle.trace_faithful.proofs.Joining.{AreMade, Extends, Joins, Made, extends
 use Rattle.trace_faithful.proofs.Keys.{had_is, joins_at, least, own_joins}
 use Rattle.trace_faithful.proofs.Lesser.{entry_is, no_entry}
 use Rattle.trace_faithful.proofs.Making.{no_had, no_handed, no_join}
-use Rattle.trace_faithful.proofs.Numbers.{end_number, number, start_number}
+use Rattle.trace_faithful.proofs.Numbers.{number, start_number}
 use Rattle.trace_faithful.proofs.Relations.{IsFamily, after_is, and_left, ended_number, ended_place, found_in, inside_before_end, inside_is, mapped_range, turn_three, waits_is, within_number}
 use Rattle.trace_faithful.proofs.Rising.{EndedCall, Within, ended_later}
-use Rattle.trace_faithful.proofs.Sure.{IsSure, SureBase, SurePart, all_sure, has_sure, longer, plain, plain_in_all, sure_extends, sure_joins, sure_made, sure_sources}
+use Rattle.trace_faithful.proofs.Sure.{IsSure, SureBase, SurePart, all_sure, has_sure, longer, plain, sure_extends, sure_joins, sure_made, sure_sources}
 use Rattle.trace_faithful.proofs.Ticking.{Outcome, Settled, at-extends, join_is, made_by, tick_of_end}
 use Rattle.trace_faithful.proofs.Trying.{first_itself, first_last, tried, tried_by}
-use Rattle.trace_faithful.proofs.Unanswered.{PlainBase}
 use Rattle.trace_faithful.proofs.Walking.{Base, IsWellMade, WorkedBy, base-weaker}
 
 -- ---- ticks
@@ -242,7 +241,7 @@ module _ {as_told : AsTold} (spans : List Span) (relations : PlainRelations) (is
   abbrev EarlyBase : ℕ → List OwnWork → ℕ → ℕ → StageId → Type 0
   EarlyBase place those now reached id = Base place (EndedCall relations place now reached) (WorkedBy those now reached) id
 
-  ended_waited : (place now reached : ℕ) (id : StageId) → EndedCall relations place now reached id → WaitedCall relations place id
+  abbrev ended_waited : (place now reached : ℕ) (id : StageId) → EndedCall relations place now reached id → WaitedCall relations place id
   ended_waited place now reached id ended = record { child = ended.child; end = ended.end; ends = ended.ends; waits = ended.waits; last = ended.last; is = ended.is }
 
   early_part : (place now reached : ℕ) (those : List OwnWork) → Extends those (works_at place) → (id : StageId) → EarlyBase place those now reached id → SureBy place id
