@@ -234,8 +234,7 @@ module _ {as_told : AsTold} (spans : List Span) (relations : PlainRelations) (is
     worked_completes : (name : List ℕ) (place count : ℕ) (work : OwnWork) (one : ℕ) → place < length relations.intervals → slice_get (had relations moments place).works count ≡ Some work → Sees exceptions inputs one (ends work.after)
         → (start : Option ℕ) × CompletesAt exceptions start work.until None (done_by (working name (one ∷ []) (work_after scene (Some work))))
     worked_completes name place count work one lt at sees =
-        let leads = work_leads spans relations is moments are failed place count work lt at in
-        (
+        let leads = work_leads spans relations is moments are failed place count work lt at in (
           Some (ends work.after).tick,
           subst (λ o. CompletesAt exceptions (Some (ends work.after).tick) work.until None
               (done_by (plain_stage position name (op_of (cond (has_failed o) Handle ThenRun)) (one ∷ []) [] 0 (o.tick - o.tick) (work.until - o.tick) (Some (action_of exceptions acts.Null))))) (sym (leads.seen []))
@@ -361,12 +360,15 @@ module _ {as_told : AsTold} (spans : List Span) (relations : PlainRelations) (is
         let moment = gave_up_end spans relations is moments are failed place gave in
         let ended : end_of place ≡ Some moment.0.tick = tick_of_end (interval_at relations.intervals place) moment.0 moment.1 in
         let sees = sees_closed spans relations is moments are text exceptions inputs (there (Start place)) (Start place) (told (Start place) (inl refl)) tt in
-        let ran = run_completes exceptions inputs position (text (name_of scene (Limit place))) (there (Start place)) (start_of place) 0 (unwrap_or (end_of place) 0 - start_of place) (thrown (fate_at known.fates place)) sees in
-        (moment.0.tick, ended, Some (start_of place + 0),
-        subst (λ f. CompletesAt exceptions (Some (start_of place + 0)) moment.0.tick f (done_by (stage_of find position (spec_of text exceptions (imported scene (Limit place))))))
-        (sym (fails_given spans relations is moments are text exceptions place moment.0.tick ended gave))
-        (subst (λ n. CompletesAt exceptions (Some (start_of place + 0)) n (thrown (fate_at known.fates place)) (done_by (stage_of find position (spec_of text exceptions (imported scene (Limit place))))))
-        (runs_until (start_of place) (unwrap_or (end_of place) 0) moment.0.tick (ap (λ e. unwrap_or e 0) ended) (is.forward place moment.0.tick ended)) ran))
+        let ran = run_completes exceptions inputs position (text (name_of scene (Limit place))) (there (Start place)) (start_of place) 0 (unwrap_or (end_of place) 0 - start_of place) (thrown (fate_at known.fates place)) sees in (
+          moment.0.tick,
+          ended,
+          Some (start_of place + 0),
+          subst (λ f. CompletesAt exceptions (Some (start_of place + 0)) moment.0.tick f (done_by (stage_of find position (spec_of text exceptions (imported scene (Limit place))))))
+              (sym (fails_given spans relations is moments are text exceptions place moment.0.tick ended gave))
+              (subst (λ n. CompletesAt exceptions (Some (start_of place + 0)) n (thrown (fate_at known.fates place)) (done_by (stage_of find position (spec_of text exceptions (imported scene (Limit place))))))
+              (runs_until (start_of place) (unwrap_or (end_of place) 0) moment.0.tick (ap (λ e. unwrap_or e 0) ended) (is.forward place moment.0.tick ended)) ran),
+        )
       where
         runs_until : (s u e : ℕ) → u ≡ e → s ≤ e → s + 0 + (u - s) ≡ e
         runs_until s u e same le = omega arith
@@ -390,15 +392,19 @@ module _ {as_told : AsTold} (spans : List Span) (relations : PlainRelations) (is
     next_sees call again tick None some none ended told =
         let same : again ≡ relations.attempts.last (relations.attempts.first call) = sym ((tried spans relations is).last again none) ∙ last_same spans relations is call again some in
         let here : end_of again ≡ Some tick = ap end_of same ∙ ended in
-        let sees = sees_closed spans relations is moments are text exceptions inputs (there (Whole again)) (Whole again) told (tick, here) in
-        (sees.0, sees.1 ∙ ap (λ n. Some (record { outcome = outcome_for exceptions (failed again); moment = n; from = sees.0 })) (ap (λ e. unwrap_or e 0) here)
-        ∙ ap (λ p. Some (record { outcome = outcome_for exceptions (failed p); moment = tick; from = sees.0 })) same)
+        let sees = sees_closed spans relations is moments are text exceptions inputs (there (Whole again)) (Whole again) told (tick, here) in (
+          sees.0,
+          sees.1 ∙ ap (λ n. Some (record { outcome = outcome_for exceptions (failed again); moment = n; from = sees.0 })) (ap (λ e. unwrap_or e 0) here)
+              ∙ ap (λ p. Some (record { outcome = outcome_for exceptions (failed p); moment = tick; from = sees.0 })) same,
+        )
     next_sees call again tick (Some other) some next ended told =
         let same : relations.attempts.last (relations.attempts.first again) ≡ relations.attempts.last (relations.attempts.first call) = last_same spans relations is call again some in
         let here : end_of (relations.attempts.last (relations.attempts.first again)) ≡ Some tick = ap end_of same ∙ ended in
-        let sees = sees_closed spans relations is moments are text exceptions inputs (there (Tried again)) (Tried again) told (tick, here) in
-        (sees.0, sees.1 ∙ ap (λ n. Some (record { outcome = outcome_for exceptions (failed (relations.attempts.last (relations.attempts.first again))); moment = n; from = sees.0 })) (ap (λ e. unwrap_or e 0) here)
-        ∙ ap (λ p. Some (record { outcome = outcome_for exceptions (failed p); moment = tick; from = sees.0 })) same)
+        let sees = sees_closed spans relations is moments are text exceptions inputs (there (Tried again)) (Tried again) told (tick, here) in (
+          sees.0,
+          sees.1 ∙ ap (λ n. Some (record { outcome = outcome_for exceptions (failed (relations.attempts.last (relations.attempts.first again))); moment = n; from = sees.0 })) (ap (λ e. unwrap_or e 0) here)
+              ∙ ap (λ p. Some (record { outcome = outcome_for exceptions (failed p); moment = tick; from = sees.0 })) same,
+        )
 
     -- the last attempt has ended
     last_tick : (call again : ℕ) → relations.attempts.next call ≡ Some again → (tick : ℕ) × (end_of (relations.attempts.last (relations.attempts.first call)) ≡ Some tick)
@@ -419,9 +425,11 @@ module _ {as_told : AsTold} (spans : List Span) (relations : PlainRelations) (is
         let same : other ≡ again = same_Some other again some in
         let exception = call_failed call again by.end.tick next ended in
         let first = sees_closed spans relations is moments are text exceptions inputs (there (Whole call)) (Whole call) whole (by.end.tick, ended) in
-        let sees : SeesOne exceptions inputs (there (Whole call)) by.end.tick (Some exception.0) =
-        (first.0, first.1 ∙ ap (λ n. Some (record { outcome = outcome_for exceptions (failed call); moment = n; from = first.0 })) (ap (λ e. unwrap_or e 0) ended)
-        ∙ ap (λ f. Some (record { outcome = outcome_for exceptions f; moment = by.end.tick; from = first.0 })) exception.1) in
+        let sees : SeesOne exceptions inputs (there (Whole call)) by.end.tick (Some exception.0) = (
+          first.0,
+          first.1 ∙ ap (λ n. Some (record { outcome = outcome_for exceptions (failed call); moment = n; from = first.0 })) (ap (λ e. unwrap_or e 0) ended)
+              ∙ ap (λ f. Some (record { outcome = outcome_for exceptions f; moment = by.end.tick; from = first.0 })) exception.1,
+        ) in
         let inner = next_sees call other last.0 (relations.attempts.next other) (next ∙ ap Some (sym same)) refl last.1 told in
         let le : by.end.tick ≤ last.0 = number_tick call (relations.attempts.last (relations.attempts.first call)) last.0 by.end by.ends last.1 (last_is spans relations is call).ends in
         let composed = compose_completes exceptions inputs position name (there (Whole call)) (there (end_of_next relations.attempts call (Some other))) by.end.tick last.0 exception.0 (failed (relations.attempts.last (relations.attempts.first call))) sees inner le in

@@ -157,11 +157,12 @@ module _ {as_told : AsTold} (spans : List Span) (relations : PlainRelations) (is
     join_seen : (place count : ℕ) → IsSeen (Join place count) → Each IsSeen (join_sources scene place count)
     join_seen place count (here, (completion, sees)) = in-each IsSeen (join_sources scene place count) (λ source among.
         let state = state_is (there (Join place count)) (Join place count) (stands_there (Join place count) here) in
-        let done = done_seen (java_step Computed (stage_for (there (Join place count)) (Join place count)) (seen_at states)).done completion (ap (λ s. option_map seen s.done) (sym state) ∙ sees) in
-        (source_in (Join place count) source here among,
-        join_sources_done exceptions (seen_at states) (0 + there (Join place count)) (text (name_of scene (Join place count))) (places_of (place_of specs) (map text (map (name_of scene) (join_sources scene place count)))) (there source) done.0
-        (in_mapped (λ name. unwrap_or (place_of specs name) 0) (map text (map (name_of scene) (join_sources scene place count))) (text (name_of scene source))
-        (in_mapped text (map (name_of scene) (join_sources scene place count)) (name_of scene source) (in_mapped (name_of scene) (join_sources scene place count) source among))) done.1))
+        let done = done_seen (java_step Computed (stage_for (there (Join place count)) (Join place count)) (seen_at states)).done completion (ap (λ s. option_map seen s.done) (sym state) ∙ sees) in (
+          source_in (Join place count) source here among,
+          join_sources_done exceptions (seen_at states) (0 + there (Join place count)) (text (name_of scene (Join place count))) (places_of (place_of specs) (map text (map (name_of scene) (join_sources scene place count)))) (there source) done.0
+              (in_mapped (λ name. unwrap_or (place_of specs name) 0) (map text (map (name_of scene) (join_sources scene place count))) (text (name_of scene source))
+              (in_mapped text (map (name_of scene) (join_sources scene place count)) (name_of scene source) (in_mapped (name_of scene) (join_sources scene place count) source among))) done.1,
+        ))
 
     open_none : (place : ℕ) → is_open relations place ≡ true → end_of place ≡ None
     open_none place opens = by_end (end_of place) opens

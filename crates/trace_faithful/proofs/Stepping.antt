@@ -226,7 +226,6 @@ module _ (exceptions : Exception → List ℕ) (inputs : ℕ → Option Completi
       → CompletesAt exceptions (Some (tick + queued)) (tick + queued + runs) (Some exception) (Done_of (plain_stage place name op.WhenComplete (source ∷ []) [] 0 queued runs (Some (action_of exceptions acts.Null))))
   watch_completes place name source tick queued runs exception sees = rw (one_seen source tick (Some exception) sees) (Some source, later_done (outcome_for exceptions (Some exception)) (Some source) tick queued runs)
 
-
   -- ---- a source that is pending
 
   pending_source : (places : List ℕ) (place : ℕ) → In places place → inputs place ≡ None → have_completed inputs places ≡ false
@@ -345,7 +344,9 @@ module _ (exceptions : Exception → List ℕ) (inputs : ℕ → Option Completi
   pub compose_completes : (at : ℕ) (name : List ℕ) (place inner tick last : ℕ) (exception : Exception) (failure : Option Exception) → SeesOne place tick (Some exception) → SeesOne inner last failure → tick ≤ last
       → (start : Option ℕ) × CompletesAt exceptions start last failure (Done_of (plain_stage at name op.ExceptionallyCompose (place ∷ []) (inner ∷ []) 0 0 0 (Some (action_of exceptions acts.PicksFirst))))
   compose_completes at name place inner tick last exception failure sees picks le =
-      let composed = composed_from at name (place ∷ []) place inner tick last sees.0 picks.0 exception failure le picks.1 in
-      (composed.0, subst (CompletesAt exceptions composed.0 last failure)
-      (sym (after_first op.ExceptionallyCompose (plain_stage at name op.ExceptionallyCompose (place ∷ []) (inner ∷ []) 0 0 0 (Some (action_of exceptions acts.PicksFirst)))
-      (source_of place (record { outcome = outcome_for exceptions (Some exception); moment = tick; from = sees.0 })) (only_first place (record { outcome = outcome_for exceptions (Some exception); moment = tick; from = sees.0 }) sees.1))) composed.1)
+      let composed = composed_from at name (place ∷ []) place inner tick last sees.0 picks.0 exception failure le picks.1 in (
+        composed.0,
+        subst (CompletesAt exceptions composed.0 last failure)
+            (sym (after_first op.ExceptionallyCompose (plain_stage at name op.ExceptionallyCompose (place ∷ []) (inner ∷ []) 0 0 0 (Some (action_of exceptions acts.PicksFirst)))
+            (source_of place (record { outcome = outcome_for exceptions (Some exception); moment = tick; from = sees.0 })) (only_first place (record { outcome = outcome_for exceptions (Some exception); moment = tick; from = sees.0 }) sees.1))) composed.1,
+      )
