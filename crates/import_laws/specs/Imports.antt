@@ -1,5 +1,5 @@
 -- An import is a recording that is read, whose stages complete as the spans of its trace did.
-use Rattle.std.specs.Prelude.{◌≡◌, ⊥, ℕ, List, true, Option, Some, Result, Ok, Err, Unit, slice_get}
+use Rattle.std.specs.Prelude.{◌≡◌, ℕ, List, true, Some, Result, Ok, Err, slice_get}
 use Rattle.act_expr.specs.ExceptionName.{is_exception_name}
 use Rattle.act_expr.specs.declared.outcome.Mode.TheVariants.{Computed}
 use Rattle.recording.specs.Reads.{IsNamed}

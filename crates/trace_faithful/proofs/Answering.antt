@@ -32,7 +32,7 @@ use Rattle.trace_stages.specs.TwoStages.{has_two}
 use Rattle.trace_stages.specs.Visits.{visits}
 use Rattle.trace_stages.specs.Works.{answer_from, answer_tick, at_end, begin_from, begin_work, had_outcome, last_work, whole_with, whole_work, work_after}
 use Rattle.trace_stages.specs.declared.stage.Action.TheVariants as acts
-use Rattle.trace_stages.specs.declared.fates.Fate.{Fate}
+use Rattle.trace_faithful.proofs.Types.{Fate}
 use Rattle.trace_stages.specs.declared.stage.Exception.{Exception}
 use Rattle.trace_stages.specs.declared.stage.Op.TheVariants.{AllOf, AnyOf, ThenRun, Handle}
 use Rattle.trace_stages.specs.declared.stage.StageName.{StageName}

@@ -15,7 +15,7 @@ use Rattle.trace_stages.specs.Holdings.{held, held_until}
 use Rattle.trace_stages.specs.Joins.{PlainJoined, joined_of}
 use Rattle.trace_stages.specs.Moments.{AreMoments, At}
 use Rattle.trace_stages.specs.Walk.{answered, ended_by, some_open, walked, with_called}
-use Rattle.trace_stages.specs.declared.walk.called.Called.{Called}
+use Rattle.trace_faithful.proofs.Types.{Called}
 use Rattle.trace_stages.specs.declared.walk.holding.Answer.{Answer}
 use Rattle.trace_stages.specs.declared.walk.holding.Begin.{Begin}
 use Rattle.trace_stages.specs.declared.walk.holding.OwnWork.{OwnWork}

@@ -31,5 +31,6 @@ pub mod Sure
 pub mod Ticking
 pub mod Timing
 pub mod Trying
+pub mod Types
 pub mod Unanswered
 pub mod Walking

@@ -10,7 +10,7 @@ use Rattle.trace_stages.specs.Held.{PlainHolding, looked}
 use Rattle.trace_stages.specs.Holdings.{held, held_until}
 use Rattle.trace_stages.specs.Moments.{AreMoments, At}
 use Rattle.trace_stages.specs.Walk.{answered, walked}
-use Rattle.trace_stages.specs.declared.walk.called.Called.{Called}
+use Rattle.trace_faithful.proofs.Types.{Called}
 use Rattle.trace_stages.specs.declared.walk.holding.OwnWork.{OwnWork}
 use Rattle.trace_stages.specs.declared.walk.joins.JoinsOf.TheVariants as joins_of
 use Rattle.trace_stages.specs.declared.walk.stage_id.StageId.{StageId}
