@@ -32,7 +32,7 @@ use Rattle.trace_stages.specs.TwoStages.{has_two}
 use Rattle.trace_stages.specs.Visits.{visits}
 use Rattle.trace_stages.specs.Works.{answer_from, answer_tick, at_end, begin_from, begin_work, had_outcome, last_work, whole_with, whole_work, work_after}
 use Rattle.trace_stages.specs.declared.stage.Action.TheVariants as acts
-use Rattle.trace_faithful.proofs.Types.{Fate}
+use Rattle.trace_faithful.proofs.Types.{Fate, WorkOf}
 use Rattle.trace_stages.specs.declared.stage.Exception.{Exception}
 use Rattle.trace_stages.specs.declared.stage.Op.TheVariants.{AllOf, AnyOf, ThenRun, Handle}
 use Rattle.trace_stages.specs.declared.stage.StageName.{StageName}
@@ -41,17 +41,16 @@ use Rattle.trace_stages.specs.declared.walk.holding.OwnWork.{OwnWork}
 use Rattle.trace_stages.specs.declared.walk.joins.JoinsOf.TheVariants as joins_of
 use Rattle.trace_stages.specs.declared.walk.stage_id.StageId.{StageId}
 use Rattle.trace_stages.specs.declared.walk.stage_id.StageId.TheVariants.{Start, Whole, Entry, Join, Work, Tried, Limit, Answer}
-use Rattle.trace_stages.specs.declared.works.Work.{Work as WorkOf}
 use Rattle.trace_faithful.specs.Circles.{sources_of, trace_scene}
 use Rattle.trace_faithful.specs.Completes.{CompletesAt, action_of, op_of, outcome_for, spec_of}
 use Rattle.trace_faithful.specs.Faithful.{IsLater}
 use Rattle.trace_faithful.proofs.Claiming.{Claim, Closed, EndClaim, IsTold, JoinClaim, at_name, at_names, comes, fails_alone, fails_as, fails_given, fails_last, sees_all, sees_closed, within}
-use Rattle.trace_faithful.proofs.Each.{Each, In, each-in, in-each}
+use Rattle.trace_faithful.proofs.Each.{Each, In, each-in, in-each, in-mapped}
 use Rattle.trace_faithful.proofs.Failing.{fate_is, last_completes, last_fails}
 use Rattle.trace_faithful.proofs.Falling.{Piece, join_place, joins_are_made, least_is}
 use Rattle.trace_faithful.proofs.GivingUp.{end_exists}
 use Rattle.trace_faithful.proofs.Having.{HadBase, held_well}
-use Rattle.trace_faithful.proofs.Joining.{made-at}
+use Rattle.trace_faithful.proofs.Joining.{extends-longer, made-at}
 use Rattle.trace_faithful.proofs.Keys.{had_is, joins_at, least, own_joins}
 use Rattle.trace_faithful.proofs.Lesser.{begin_source, gave_up_end}
 use Rattle.trace_faithful.proofs.Making.{no_join, option_in}
@@ -59,7 +58,7 @@ use Rattle.trace_faithful.proofs.Numbers.{end_number, number, number_or}
 use Rattle.trace_faithful.proofs.Relations.{IsFamily, turn_three, waits_is}
 use Rattle.trace_faithful.proofs.Sourcing.{gave_up_two}
 use Rattle.trace_faithful.proofs.Stepping.{Done_of, Sees, SeesAll, SeesOne, IsNoSooner, any_completes, compose_completes, first_completes, handle_completes, join_completes, join_waits, never_completes, plain_stage, run_completes, watch_ends, watch_waits}
-use Rattle.trace_faithful.proofs.Sure.{all_sure, longer, sure_joins}
+use Rattle.trace_faithful.proofs.Sure.{all_sure, sure_joins}
 use Rattle.trace_faithful.proofs.Ticking.{Outcome, tick_of_end}
 use Rattle.trace_faithful.proofs.Timing.{Begins, base_own, entry_closed, entry_ends, first_begins, join_closed, join_ends, join_ends_own, last_leads, outcomes_are, sooner_tick, waited_closed, work_leads}
 use Rattle.trace_faithful.proofs.Trying.{caller_waits, last_is, last_same, tried, tried_by}
@@ -547,14 +546,9 @@ module _ {as_told : AsTold} (spans : List Span) (relations : PlainRelations) (is
           later = greater (lower place source) ended.tick (latest (map (outcome_of (own_sight known failed) (join_outcomes (own_sight known failed) (All place))) sources)) (latest more.actual) ended.later more.later;
         })
 
-    in_mapped : {X Y : Type 0} (f : X → Y) (xs : List X) (x : X) → In xs x → In (map f xs) (f x)
-    in_mapped f [] x here = absurd here
-    in_mapped f (y ∷ ys) x (inl same) = inl (ap f same)
-    in_mapped f (y ∷ ys) x (inr later) = inr (in_mapped f ys x later)
-
     in_theirs : (sources : List StageId) (source : StageId) → In sources source → In (theirs sources) (there source)
     in_theirs sources source here =
-        in_mapped (λ name. unwrap_or (find name) 0) (map text (map (name_of scene) sources)) (text (name_of scene source)) (in_mapped text (map (name_of scene) sources) (name_of scene source) (in_mapped (name_of scene) sources source here))
+        in-mapped (λ name. unwrap_or (find name) 0) (map text (map (name_of scene) sources)) (text (name_of scene source)) (in-mapped text (map (name_of scene) sources) (name_of scene source) (in-mapped (name_of scene) sources source here))
 
     abbrev joining : ℕ → ℕ → Stage
     joining place count = plain_stage position (text (name_of scene (Join place count))) op.AllOf (theirs (join_sources scene place count)) [] 0 0 0 None
@@ -666,7 +660,7 @@ module _ {as_told : AsTold} (spans : List Span) (relations : PlainRelations) (is
         fits : length (had relations moments place).joins ≤ length (All place)
         fits = le_through (length (had relations moments place).joins) (length (own_joins spans relations is moments are failed place)) (length (All place))
             (ap (λ those. length those.joins) (sym (had_is spans relations is moments are failed place lt)))
-            (longer spans relations is moments are failed (own_joins spans relations is moments are failed place) (All place) (handed_join (list_at (all_handed known failed) place), refl))
+            (extends-longer (own_joins spans relations is moments are failed place) (All place) (handed_join (list_at (all_handed known failed) place), refl))
 
         tick_is : (b : Bool) → answer.is_open ≡ b → b ≡ false → answer_tick answer.is_open (had_outcome scene answer.stage) tick ≡ lower place answer.stage
         tick_is b opens closed = ap (λ o. answer_tick o (had_outcome scene answer.stage) tick) (opens ∙ closed) ∙ piece_whole place (length (had relations moments place).joins) answer.stage lt fits well

@@ -43,7 +43,7 @@ use Rattle.trace_faithful.specs.Completes.{CompletesAt, spec_of}
 use Rattle.trace_faithful.specs.Faithful.{CompletesAs, EndsAs}
 use Rattle.trace_faithful.proofs.Answering.{answer_step, entry_step, join_step, limit_step, start_step, tried_step, whole_step, work_step}
 use Rattle.trace_faithful.proofs.Claiming.{Claim, EndClaim, IsTold, at_name, comes, fails_as, within}
-use Rattle.trace_faithful.proofs.Each.{Each, In, contains_in, in-at, in-each, in_contains}
+use Rattle.trace_faithful.proofs.Each.{Each, In, contains_in, in-at, in-each, in-mapped, in_contains}
 use Rattle.trace_faithful.proofs.Having.{answer_all, open_all}
 use Rattle.trace_faithful.proofs.Keys.{had_is}
 use Rattle.trace_faithful.proofs.Lesser.{gave_up_end}
@@ -102,11 +102,6 @@ module _ {as_told : AsTold} (spans : List Span) (relations : PlainRelations) (is
   abbrev stage_for : ℕ → StageId → Stage
   stage_for place id = stage_of (place_of specs) (0 + place) (spec_of text exceptions (imported scene id))
 
-  in_mapped : {X Y : Type 0} (f : X → Y) (xs : List X) (x : X) → In xs x → In (map f xs) (f x)
-  in_mapped f [] x here = absurd here
-  in_mapped f (y ∷ ys) x (inl same) = inl (ap f same)
-  in_mapped f (y ∷ ys) x (inr later) = inr (in_mapped f ys x later)
-
   map_append : {X Y : Type 0} (f : X → Y) (xs ys : List X) → map f xs ++ map f ys ≡ map f (xs ++ ys)
   map_append f [] ys = refl
   map_append f (x ∷ xs) ys = ap (λ rest. f x ∷ rest) (map_append f xs ys)
@@ -121,8 +116,8 @@ module _ {as_told : AsTold} (spans : List Span) (relations : PlainRelations) (is
   source_feeds place id source here =
       in_contains (feeds_of_place (Some (stage_for place id))) (there source)
       (subst (λ feeds. In feeds (there source)) (sym (feeds_are place id))
-      (in_mapped (λ name. unwrap_or (place_of specs name) 0) (map text (map (name_of scene) (sources_of scene id))) (text (name_of scene source))
-      (in_mapped text (map (name_of scene) (sources_of scene id)) (name_of scene source) (in_mapped (name_of scene) (sources_of scene id) source here))))
+      (in-mapped (λ name. unwrap_or (place_of specs name) 0) (map text (map (name_of scene) (sources_of scene id))) (text (name_of scene source))
+      (in-mapped text (map (name_of scene) (sources_of scene id)) (name_of scene source) (in-mapped (name_of scene) (sources_of scene id) source here))))
 
   -- ---- the whole graph
 
@@ -160,8 +155,8 @@ module _ {as_told : AsTold} (spans : List Span) (relations : PlainRelations) (is
         let done = done_seen (java_step Computed (stage_for (there (Join place count)) (Join place count)) (seen_at states)).done completion (ap (λ s. option_map seen s.done) (sym state) ∙ sees) in (
           source_in (Join place count) source here among,
           join_sources_done exceptions (seen_at states) (0 + there (Join place count)) (text (name_of scene (Join place count))) (places_of (place_of specs) (map text (map (name_of scene) (join_sources scene place count)))) (there source) done.0
-              (in_mapped (λ name. unwrap_or (place_of specs name) 0) (map text (map (name_of scene) (join_sources scene place count))) (text (name_of scene source))
-              (in_mapped text (map (name_of scene) (join_sources scene place count)) (name_of scene source) (in_mapped (name_of scene) (join_sources scene place count) source among))) done.1,
+              (in-mapped (λ name. unwrap_or (place_of specs name) 0) (map text (map (name_of scene) (join_sources scene place count))) (text (name_of scene source))
+              (in-mapped text (map (name_of scene) (join_sources scene place count)) (name_of scene source) (in-mapped (name_of scene) (join_sources scene place count) source among))) done.1,
         ))
 
     open_none : (place : ℕ) → is_open relations place ≡ true → end_of place ≡ None

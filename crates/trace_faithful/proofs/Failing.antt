@@ -32,10 +32,11 @@ use Rattle.trace_faithful.specs.Completes.{CompletesAt, action_of, op_of}
 use Rattle.trace_faithful.proofs.Each.{filter_each}
 use Rattle.trace_faithful.proofs.Falling.{handed_is, handed_last, last_in, own_made}
 use Rattle.trace_faithful.proofs.Having.{HadBase}
+use Rattle.trace_faithful.proofs.Joining.{extends-longer}
 use Rattle.trace_faithful.proofs.Keys.{joins_at, own_joins}
 use Rattle.trace_faithful.proofs.Relations.{IsFamily, mapped_range}
 use Rattle.trace_faithful.proofs.Stepping.{Done_of, SeesOne, handle_completes, plain_stage, run_completes, watch_completes}
-use Rattle.trace_faithful.proofs.Sure.{all_sure, has_sure, longer, plain, plain_in_all, sure_joins}
+use Rattle.trace_faithful.proofs.Sure.{all_sure, has_sure, plain, plain_in_all, sure_joins}
 use Rattle.trace_faithful.proofs.Ticking.{Outcome, made_settled, outcomes_extend}
 use Rattle.trace_faithful.proofs.Timing.{join_ends, outcome, outcomes_count, own_settled, part_own}
 use Rattle.trace_faithful.proofs.Trying.{first_itself, first_last}
@@ -145,7 +146,7 @@ module _ {as_told : AsTold} (spans : List Span) (relations : PlainRelations) (is
       let settles = made_settled sight (joins_of.Holding place) (λ those k. refl) (HadBase relations (works_at place) place) (own_settled spans relations is moments are failures place) (length (mine place)) has both.1
       (join_outcomes sight (mine place)) extends.0 (same_le (length (mine place)) (length (join_outcomes sight (mine place))) (outcomes_count spans relations is moments are failures sight (mine place))) in
       sym (part_own spans relations is moments are failures place (length (plain spans relations is moments are failures place).joins) has
-      (longer spans relations is moments are failures (plain spans relations is moments are failures place).joins (all place) (plain_in_all spans relations is moments are failures place lt)) (has_sure spans relations is moments are failures place lt))
+      (extends-longer (plain spans relations is moments are failures place).joins (all place) (plain_in_all spans relations is moments are failures place lt)) (has_sure spans relations is moments are failures place lt))
       ∙ ap (λ those. outcome_of (own_sight Known failures) those (had_at Known.hads place).has) (split ∙ extends.1) ∙ settles
     where
       same_le : (a b : ℕ) → b ≡ a → a ≤ b

@@ -110,12 +110,6 @@ module _ {as_told : AsTold} (spans : List Span) (relations : PlainRelations) (is
   pub plain_in_all : (place : ℕ) → place < length relations.intervals → Extends (plain place).joins (All place)
   plain_in_all place lt = extends-trans (plain place).joins (sure_joins place) (All place) (handed_join (handed_of place), refl) (sure_extends place lt)
 
-  pub longer : {X : Type 0} (xs ys : List X) → Extends xs ys → length xs ≤ length ys
-  longer xs ys (more, same) = less (length xs) (length ys) (length more) (ap length same ∙ length-append xs more)
-    where
-      less : (a b c : ℕ) → b ≡ a + c → a ≤ b
-      less a b c e = omega arith
-
   -- ---- what they are made of
 
   handed_sure : (place : ℕ) → place < length relations.intervals → Each (SurePart place (length (plain place).joins)) (handed_sources Known failures place)

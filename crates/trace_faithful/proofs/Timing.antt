@@ -31,14 +31,14 @@ use Rattle.trace_stages.specs.declared.walk.stage_id.StageId.TheVariants.{Start,
 use Rattle.trace_faithful.proofs.Each.{Each, In, at-append, each-append, each-in, each-map, each-weaker, filter_each, in-at, in_flat_map}
 use Rattle.trace_faithful.proofs.Falling.{in_mapped_range, join_place, joins_are_made, least_is, past_end, work_inside}
 use Rattle.trace_faithful.proofs.Having.{BeganWell, HadBase, HasWorked, WaitedCall, WorkedWell, held_now, held_precedes}
-use Rattle.trace_faithful.proofs.Joining.{AreMade, Extends, Joins, Made, extends-refl, extends-trans, joins_made, made-at, made-later, made-weaker}
+use Rattle.trace_faithful.proofs.Joining.{AreMade, Extends, Joins, Made, extends-longer, extends-refl, extends-trans, joins_made, made-at, made-later, made-weaker}
 use Rattle.trace_faithful.proofs.Keys.{had_is, joins_at, least, own_joins}
 use Rattle.trace_faithful.proofs.Lesser.{entry_is, no_entry}
 use Rattle.trace_faithful.proofs.Making.{no_had, no_handed, no_join}
 use Rattle.trace_faithful.proofs.Numbers.{number, start_number}
 use Rattle.trace_faithful.proofs.Relations.{IsFamily, after_is, and_left, ended_number, ended_place, found_in, inside_before_end, inside_is, mapped_range, turn_three, waits_is, within_number}
 use Rattle.trace_faithful.proofs.Rising.{EndedCall, Within, ended_later}
-use Rattle.trace_faithful.proofs.Sure.{IsSure, SureBase, SurePart, all_sure, has_sure, longer, plain, sure_extends, sure_joins, sure_made, sure_sources}
+use Rattle.trace_faithful.proofs.Sure.{IsSure, SureBase, SurePart, all_sure, has_sure, plain, sure_extends, sure_joins, sure_made, sure_sources}
 use Rattle.trace_faithful.proofs.Ticking.{Outcome, Settled, at-extends, join_is, made_by, tick_of_end}
 use Rattle.trace_faithful.proofs.Trying.{first_itself, first_last, tried, tried_by}
 use Rattle.trace_faithful.proofs.Walking.{Base, IsWellMade, WorkedBy, base-weaker}
@@ -187,7 +187,7 @@ module _ {as_told : AsTold} (spans : List Span) (relations : PlainRelations) (is
   part_closed place n id lt le (inl (inr (inl call))) = waited_closed place id call
   part_closed place n id lt le (inl (inr (inr (count, worked, same)))) = subst IsClosed (sym same) tt
   part_closed place n id lt le (inr (k, short, same)) =
-      let within : length (Certain place) ≤ length (All place) = longer spans relations is moments are failures (Certain place) (All place) (sure_extends spans relations is moments are failures place lt) in
+      let within : length (Certain place) ≤ length (All place) = extends-longer (Certain place) (All place) (sure_extends spans relations is moments are failures place lt) in
       let sooner : k < length (Certain place) = below_up_to k n (length (Certain place)) short le in
       subst IsClosed (sym same) (subst (λ m. m < length (Certain place)) (sym (least_is spans relations is moments are failures place k (below_up_to k (length (Certain place)) (length (All place)) sooner within))) sooner)
 
@@ -232,7 +232,7 @@ module _ {as_told : AsTold} (spans : List Span) (relations : PlainRelations) (is
       → AreMade (joins_of.Holding place) Stage 0 before → Made (joins_of.Holding place) Stage (length before) id → (outcome id).tick ≤ tick
   early_tick place tick Stage before id lt early extends made here =
       subst (λ o. o.tick ≤ tick)
-      (part_own place (length before) id (longer spans relations is moments are failures before (All place) extends) (made-weaker (joins_of.Holding place) Stage (SureBy place) early.part (length before) id here))
+      (part_own place (length before) id (extends-longer before (All place) extends) (made-weaker (joins_of.Holding place) Stage (SureBy place) early.part (length before) id here))
       (made_by own (joins_of.Holding place) (λ those k. refl) (HadBase relations (works_at place) place) (own_settled place) (All place) before Stage tick
       (joins_are_made spans relations is moments are failures place lt) extends made
       (λ base stage. subst (λ o. o.tick ≤ tick) (sym (base_own place (joined_at place) base (early.part base stage))) (early.by base stage)) id here)
@@ -289,12 +289,12 @@ module _ {as_told : AsTold} (spans : List Span) (relations : PlainRelations) (is
     pub closed : IsClosed id
 
   certain_in_all : (place : ℕ) → place < length relations.intervals → length (Certain place) ≤ length (All place)
-  certain_in_all place lt = longer spans relations is moments are failures (Certain place) (All place) (sure_extends spans relations is moments are failures place lt)
+  certain_in_all place lt = extends-longer (Certain place) (All place) (sure_extends spans relations is moments are failures place lt)
 
   end_part : (place : ℕ) (handed : List StageId) → list_at (all_handed Known failures) place ≡ handed → place < length relations.intervals → gave_up Known place ≡ false → PartOf place (length (Certain place)) (end_with Scene place handed)
   end_part place [] none lt kept =
       made-later (joins_of.Holding place) (SureBy place) (length (plain spans relations is moments are failures place).joins) (length (Certain place))
-      (longer spans relations is moments are failures (plain spans relations is moments are failures place).joins (Certain place) (handed_join (list_at (all_handed Known failures) place), refl))
+      (extends-longer (plain spans relations is moments are failures place).joins (Certain place) (handed_join (list_at (all_handed Known failures) place), refl))
       (had_at Known.hads place).has (has_sure spans relations is moments are failures place lt)
   end_part place (source ∷ sources) some lt kept =
       let all : length (Certain place) ≡ length (Own place) + length (handed_join (list_at (all_handed Known failures) place)) =
@@ -336,9 +336,9 @@ module _ {as_told : AsTold} (spans : List Span) (relations : PlainRelations) (is
       let part : PartOf place (length well.before) id =
       made-weaker (joins_of.Holding place) (EarlyBase place well.those now reached) (SureBy place) (early_part place now reached well.those more) (length well.before) id well.«from» in
       record {
-        seen = part_whole place (length well.before) id lt (longer spans relations is moments are failures well.before (All place) all) part;
+        seen = part_whole place (length well.before) id lt (extends-longer well.before (All place) all) part;
         by = early_tick place tick (EarlyBase place well.those now reached) well.before id lt (record { part = early_part place now reached well.those more; by = low }) all well.made well.«from»;
-        closed = part_closed place (length well.before) id lt (longer spans relations is moments are failures well.before (Certain place) certain) part;
+        closed = part_closed place (length well.before) id lt (extends-longer well.before (Certain place) certain) part;
       }
 
   -- what own work comes after
