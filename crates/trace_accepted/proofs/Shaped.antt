@@ -19,9 +19,8 @@ use Rattle.trace_stages.specs.Order.{entry_sources, join_sources}
 use Rattle.trace_stages.specs.Outcomes.{has_failed}
 use Rattle.trace_stages.specs.Scene.{PlainScene, entry_at}
 use Rattle.trace_stages.specs.Works.{after_source, answer_from, answer_tick, at_end, begin_from, begin_work, first_outcome, had_outcome, last_outcome, last_work, limit_work, manual, whole_with, whole_work, work_after}
-use Rattle.trace_accepted.proofs.Types.{Fate}
+use Rattle.trace_accepted.proofs.Types.{Fate, Outcome}
 use Rattle.trace_stages.specs.declared.fates.Fate.TheVariants.{Succeeded, Failed, Threw}
-use Rattle.trace_stages.specs.declared.outcomes.Outcome.{Outcome}
 use Rattle.trace_stages.specs.declared.stage.Action.{Action}
 use Rattle.trace_stages.specs.declared.stage.Action.TheVariants.{Null, ThrowsIfFailed}
 use Rattle.trace_stages.specs.declared.stage.Exception.{Exception}
