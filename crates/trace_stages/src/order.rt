@@ -10,7 +10,7 @@ use crate::attempts::{attempt_after, attempt_before};
 use crate::known::{answer_at, gave_up, has_two, joins_at, works_at};
 use crate::scene::{Scene, entry_joins, entry_stage, handed_at};
 use crate::tour::Visit;
-use crate::walk::{Answer, StageId};
+use crate::walk::StageId;
 use crate::works::whole_source;
 use std::alloc::{AllocError, Global};
 use std::collections::HashSet;
@@ -152,7 +152,7 @@ fn answer_source(scene: &Scene<'_>, place: usize) -> Option<StageId>
     ensures { result ≡ answer_source (plain_scene scene.now) place }
 {
     match answer_at(&scene.known.holdings, place) {
-        Some(Answer { stage, .. }) => Some(stage),
+        Some(answer) => Some(answer.stage),
         None => None,
     }
 }

@@ -8,4 +8,4 @@ use Rattle.trace_stages.proofs.walk.called.all_called.Given as goal
 abbrev pub invariant-loop-place : goal.invariant-loop-place
 invariant-loop-place l =
     (vec_len l.all ≡ length l.relations.intervals.items)
-    × ((span : ℕ) → span < length l.relations.intervals.items → called_at l.all.items span ≡ map (called_by (plain l.relations)) (filter (gave_up (plain l.relations) span) (take l.place-index l.places.items)))
+    × ((span : ℕ) → span < length l.relations.intervals.items → called_at l.all.items span ≡ map (called_by (plain l.relations)) (filter (gave_up (plain l.relations) span) (take l.place-index l.place-items)))

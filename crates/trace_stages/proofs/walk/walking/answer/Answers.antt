@@ -1,10 +1,11 @@
-use Rattle.std.proofs.Common.{◌≡◌, ℕ, Bool, Some}
+use Rattle.std.proofs.Common.{◌≡◌, ℕ, Bool, Option, Some}
+use Rattle.trace_stages.specs.declared.walk.holding.Answer.{Answer}
 use Rattle.trace_stages.specs.declared.walk.stage_id.StageId.{StageId}
 use Rattle.trace_stages.specs.Walk.{with_called}
 use Rattle.trace_stages.proofs.walk.walking.answer.Goals as goal
 
-same_told : (a b : StageId) (m n : ℕ) (p q : Bool) → a ≡ b → m ≡ n → p ≡ q → Some (record { stage = a; since = m; is_open = p }) ≡ Some (record { stage = b; since = n; is_open = q })
-same_told a b m n p q = cc
+same_told : (a b : StageId) (m n : ℕ) (p q : Bool) → a ≡ b → m ≡ n → p ≡ q → ◌≡◌ {A = Option Answer} (Some (record { stage = a; since = m; is_open = p })) (Some (record { stage = b; since = n; is_open = q }))
+same_told a b m n p q e f g = cc
 
 pub returns : goal.returns
 returns c = λ plain h.
