@@ -1,1 +1,2 @@
+pub mod Exceptions
 pub mod Joining

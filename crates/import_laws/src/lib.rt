@@ -6,4 +6,4 @@
 
 mod law;
 
-pub use law::{each_import_is_accepted, each_import_is_faithful};
+pub use law::{each_exception_has_its_name, each_import_is_accepted, each_import_is_faithful};

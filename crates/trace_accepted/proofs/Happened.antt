@@ -26,10 +26,9 @@ use Rattle.trace_stages.specs.Holdings.{held, held_until}
 use Rattle.trace_stages.specs.Moments.{AreMoments, At, all_moments, end_of, moments_from, moments_of}
 use Rattle.trace_stages.specs.TwoStages.{has_two, hosts, waits}
 use Rattle.trace_stages.specs.Walk.{answered, walked}
-use Rattle.trace_stages.specs.declared.walk.called.Called.{Called}
+use Rattle.trace_accepted.proofs.Types.{Called, Happening}
 use Rattle.trace_stages.specs.declared.walk.event.Event.{Event}
 use Rattle.trace_stages.specs.declared.walk.event.Event.TheVariants.{Starts, Ends}
-use Rattle.trace_stages.specs.declared.walk.events.Happening.{Happening}
 use Rattle.trace_stages.specs.declared.walk.holding.Begin.{Begin}
 use Rattle.trace_stages.specs.declared.walk.stage_id.StageId.TheVariants.{Tried, Whole}
 use Rattle.trace_accepted.proofs.Joined.{each_push}

@@ -15,6 +15,7 @@ pub mod Spelled
 pub mod Staged
 pub mod Standing
 pub mod Timed
+pub mod Types
 pub mod Visited
 pub mod Walked
 pub mod Wellnamed

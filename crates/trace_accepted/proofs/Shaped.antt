@@ -19,9 +19,8 @@ use Rattle.trace_stages.specs.Order.{entry_sources, join_sources}
 use Rattle.trace_stages.specs.Outcomes.{has_failed}
 use Rattle.trace_stages.specs.Scene.{PlainScene, entry_at}
 use Rattle.trace_stages.specs.Works.{after_source, answer_from, answer_tick, at_end, begin_from, begin_work, first_outcome, had_outcome, last_outcome, last_work, limit_work, manual, whole_with, whole_work, work_after}
-use Rattle.trace_stages.specs.declared.fates.Fate.{Fate}
+use Rattle.trace_accepted.proofs.Types.{Fate, Outcome}
 use Rattle.trace_stages.specs.declared.fates.Fate.TheVariants.{Succeeded, Failed, Threw}
-use Rattle.trace_stages.specs.declared.outcomes.Outcome.{Outcome}
 use Rattle.trace_stages.specs.declared.stage.Action.{Action}
 use Rattle.trace_stages.specs.declared.stage.Action.TheVariants.{Null, ThrowsIfFailed}
 use Rattle.trace_stages.specs.declared.stage.Exception.{Exception}
@@ -162,8 +161,8 @@ module _ (scene : PlainScene) (timed : Each IsTimed scene.known.relations.interv
   answer_shaped : (place start : ℕ) (o : Option AnswerOf) (end : Option ℕ) → ((answer : AnswerOf) → o ≡ Some answer → answer.since ≤ last_tick) → ((t : ℕ) → end ≡ Some t → t ≤ last_tick)
       → IsShaped (imported_work scene (Answer place) (answer_from scene start o end))
   answer_shaped place start (Some answer) (Some end) since low =
-      one_shaped (Answer place) WhenComplete answer.stage 0 (max (answer.since - start) (end - answer_tick (had_outcome scene answer.stage) end)) Null refl (omega arith)
-      (runs_low answer.since start end (answer_tick (had_outcome scene answer.stage) end) (since answer refl) (low end refl))
+      one_shaped (Answer place) WhenComplete answer.stage 0 (max (answer.since - start) (end - answer_tick answer.is_open (had_outcome scene answer.stage) end)) Null refl (omega arith)
+      (runs_low answer.since start end (answer_tick answer.is_open (had_outcome scene answer.stage) end) (since answer refl) (low end refl))
   answer_shaped place start (Some answer) None since low = manual_shaped (Answer place) 0 (omega arith)
   answer_shaped place start None (Some end) since low = manual_shaped (Answer place) 0 (omega arith)
   answer_shaped place start None None since low = manual_shaped (Answer place) 0 (omega arith)

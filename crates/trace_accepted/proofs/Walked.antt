@@ -4,7 +4,7 @@ use Rattle.std.specs.Prelude.{nat_lt, unwrap_or, if◌then◌else◌}
 use Rattle.std.specs.List.{AllByRecursion as Each}
 use Rattle.std.proofs.lemmas.List.{length-append}
 use Rattle.trace_relations.specs.Ticks.{last_tick}
-use Rattle.trace_stages.specs.declared.walk.called.Called.{Called}
+use Rattle.trace_accepted.proofs.Types.{Called}
 use Rattle.trace_stages.specs.declared.walk.event.Event.{Event}
 use Rattle.trace_stages.specs.declared.walk.event.Event.TheVariants.{Starts, Ends}
 use Rattle.trace_stages.specs.declared.walk.holding.Answer.{Answer}

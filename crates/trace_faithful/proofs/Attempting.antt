@@ -5,10 +5,10 @@ use Rattle.std.specs.Option.{option_eq}
 use Rattle.std.proofs.lemmas.Bool.{eq-eqb, eqb-true, false≢true, ne_eqb}
 use Rattle.std.proofs.lemmas.Option.{none-some, same_Some}
 use Rattle.trace_relations.specs.Ancestry.{start_at}
-use Rattle.trace_relations.specs.Attempts.{Attempts, CallsOf, at_place, attempts_of, can_try, first_try, is_failed_call, is_same_call, same_caller, tried_again, tried_once, with_try}
+use Rattle.trace_relations.specs.Attempts.{Attempts, CallsOf, at_place, attempts_of, can_try, first_try, has_failed, is_failed_call, is_same_call, same_caller, tried_again, tried_once, with_try}
 use Rattle.trace_relations.specs.ByStart.{AreInTurn}
 use Rattle.trace_relations.specs.Moments.{ended_before, interval_at, start_moment}
-use Rattle.trace_faithful.proofs.Each.{Each, each-filter}
+use Rattle.trace_faithful.proofs.Each.{Each, each-filter, filter_each}
 use Rattle.trace_faithful.proofs.Numbers.{number, start_number}
 use Rattle.trace_faithful.proofs.Relations.{and_left, and_right, ended_number, found_split, start_before_end}
 
@@ -75,6 +75,11 @@ module _ (calls : CallsOf) (forward : (place end : ℕ) → (interval_at calls.i
     pub same : (call : ℕ) → attempts.first (attempts.first call) ≡ attempts.first call
     pub leads : (call : ℕ) → (attempts.first call ≡ call) ⊎ ((again : ℕ) × (attempts.next (attempts.first call) ≡ Some again))
     pub callers : (call : ℕ) → calls.callers (attempts.first call) ≡ calls.callers call
+    -- nothing comes before the first attempt, and a later one leads to itself
+    pub begins : (call : ℕ) → attempts.previous (attempts.first call) ≡ None
+    pub itself : (call again : ℕ) → attempts.previous again ≡ Some call → attempts.last again ≡ again
+    -- what is tried again failed
+    pub failed : (call again : ℕ) → attempts.next call ≡ Some again → has_failed (slice_get calls.spans call) ≡ true
 
   once_tried : AreTried tried_once
   once_tried = record {
@@ -86,10 +91,13 @@ module _ (calls : CallsOf) (forward : (place end : ℕ) → (interval_at calls.i
     same = λ call. refl;
     leads = λ call. inl refl;
     callers = λ call. refl;
+    begins = λ call. refl;
+    itself = λ call again is. absurd (none-some call is);
+    failed = λ call again is. absurd (none-some again is);
   }
 
   module _ (attempts : Attempts) (tried : AreTried attempts) (call again : ℕ) (can : can_try calls call again ≡ true) (free : attempts.previous again ≡ None) (ends_here : attempts.next call ≡ None)
-      (begins_here : attempts.next again ≡ None) (differ : again ≡ call → ⊥) where
+      (begins_here : attempts.next again ≡ None) (differ : again ≡ call → ⊥) (fails : has_failed (slice_get calls.spans call) ≡ true) where
     abbrev More : Attempts
     More = with_try attempts call (Some again)
 
@@ -213,8 +221,45 @@ module _ (calls : CallsOf) (forward : (place end : ℕ) → (interval_at calls.i
       | inr apart ↦ ap calls.callers (at_other attempts.first again (attempts.first call) one apart) ∙ tried.callers one
     ]
 
+    more_begins : (one : ℕ) → More.previous (More.first one) ≡ None
+    more_begins one = elim (decide one again) [
+      | inl same ↦
+          let here : More.first one ≡ attempts.first call = ap More.first same ∙ at_same attempts.first again (attempts.first call) in
+          ap More.previous here ∙ at_other attempts.previous again (Some call) (attempts.first call) first_apart ∙ tried.begins call
+      | inr apart ↦
+          let here : More.first one ≡ attempts.first one = at_other attempts.first again (attempts.first call) one apart in
+          ap More.previous here ∙ at_other attempts.previous again (Some call) (attempts.first one) (λ is. apart (leads_none one is)) ∙ tried.begins one
+    ]
+
+    more_itself : (one other : ℕ) → More.previous other ≡ Some one → More.last other ≡ other
+    more_itself one other is = elim (previous_of one other is) [
+      | inl both ↦
+          let alone : attempts.last again ≡ again = ap attempts.last (sym (tried.alone again free)) ∙ tried.last again begins_here in
+          ap More.last both.0 ∙ at_other attempts.last (attempts.first call) again again (λ same. first_apart (sym same)) ∙ alone ∙ sym both.0
+      | inr both ↦
+          at_other attempts.last (attempts.first call) again other (λ same. none-some one (sym (tried.begins call) ∙ ap attempts.previous (sym same) ∙ both.1)) ∙ tried.itself one other both.1
+    ]
+
+    more_failed : (one other : ℕ) → More.next one ≡ Some other → has_failed (slice_get calls.spans one) ≡ true
+    more_failed one other is = elim (next_of one other is) [
+      | inl both ↦ ap (λ place. has_failed (slice_get calls.spans place)) both.0 ∙ fails
+      | inr both ↦ tried.failed one other both.1
+    ]
+
     pub more_tried : AreTried More
-    more_tried = record { next = more_next; previous = more_previous; first = more_first; alone = more_alone; last = more_last; same = more_same; leads = more_leads; callers = more_callers }
+    more_tried = record {
+      next = more_next;
+      previous = more_previous;
+      first = more_first;
+      alone = more_alone;
+      last = more_last;
+      same = more_same;
+      leads = more_leads;
+      callers = more_callers;
+      begins = more_begins;
+      itself = more_itself;
+      failed = more_failed;
+    }
 
   -- those that are tried again come before all that are still to come
   record Stand (attempts : Attempts) (coming : List ℕ) : Type 0 where
@@ -238,10 +283,10 @@ module _ (calls : CallsOf) (forward : (place end : ℕ) → (interval_at calls.i
   none_or None never = refl
   none_or (Some x) never = absurd (never x refl)
 
-  one_more : (order : List ℕ) (attempts : Attempts) (call : ℕ) (coming : List ℕ) → Each (ComesAfter calls call) coming → Stand attempts (call ∷ coming) → (found : Option ℕ) → first_try calls order attempts call ≡ found
+  one_more : (order : List ℕ) (attempts : Attempts) (call : ℕ) (coming : List ℕ) → is_failed_call calls call ≡ true → Each (ComesAfter calls call) coming → Stand attempts (call ∷ coming) → (found : Option ℕ) → first_try calls order attempts call ≡ found
       → Stand (with_try attempts call found) coming
-  one_more order attempts call coming turn stand None is = record { tried = stand.tried; before = λ one other next. (stand.before one other next).1 }
-  one_more order attempts call coming turn stand (Some again) is =
+  one_more order attempts call coming failed turn stand None is = record { tried = stand.tried; before = λ one other next. (stand.before one other next).1 }
+  one_more order attempts call coming failed turn stand (Some again) is =
       let found = found_split (λ other. can_try calls call other && not (is_some (attempts.previous other))) order again is in
       let can : can_try calls call again ≡ true = and_left (can_try calls call again) _ found.passes in
       let later : start_at calls.intervals call < start_at calls.intervals again = starts_later call again can in
@@ -249,23 +294,24 @@ module _ (calls : CallsOf) (forward : (place end : ℕ) → (interval_at calls.i
       let ends_here : attempts.next call ≡ None = none_or (attempts.next call) (λ other next. (stand.before call other next).0.1 refl) in
       let begins_here : attempts.next again ≡ None = none_or (attempts.next again)
       (λ other next. let le : start_at calls.intervals again ≤ start_at calls.intervals call = (stand.before again other next).0.0 in omega arith) in
+      let fails : has_failed (slice_get calls.spans call) ≡ true = and_left (has_failed (slice_get calls.spans call)) (is_some (calls.callers call)) failed in
       let differ : again ≡ call → ⊥ = λ same. (let e : start_at calls.intervals again ≡ start_at calls.intervals call = ap (start_at calls.intervals) same in omega arith) in
       record {
-        tried = more_tried attempts stand.tried call again can free ends_here begins_here differ;
-        before = λ one other next. elim (next_of attempts stand.tried call again can free ends_here begins_here differ one other next) [
+        tried = more_tried attempts stand.tried call again can free ends_here begins_here differ fails;
+        before = λ one other next. elim (next_of attempts stand.tried call again can free ends_here begins_here differ fails one other next) [
           | inl both ↦ subst (λ x. Each (ComesAfter calls x) coming) (sym both.0) turn
           | inr both ↦ (stand.before one other both.1).1
         ];
       }
 
-  all_stand : (order : List ℕ) (attempts : Attempts) (coming : List ℕ) → InTurn calls coming → Stand attempts coming → AreTried (fold (tried_again calls order) attempts coming)
-  all_stand order attempts [] turn stand = stand.tried
-  all_stand order attempts (call ∷ coming) turn stand =
-      all_stand order (tried_again calls order attempts call) coming turn.1 (one_more order attempts call coming turn.0 stand (first_try calls order attempts call) refl)
+  all_stand : (order : List ℕ) (attempts : Attempts) (coming : List ℕ) → Each (λ call. is_failed_call calls call ≡ true) coming → InTurn calls coming → Stand attempts coming → AreTried (fold (tried_again calls order) attempts coming)
+  all_stand order attempts [] failed turn stand = stand.tried
+  all_stand order attempts (call ∷ coming) failed turn stand =
+      all_stand order (tried_again calls order attempts call) coming failed.1 turn.1 (one_more order attempts call coming failed.0 turn.0 stand (first_try calls order attempts call) refl)
 
   pub attempts_are_tried : (order : List ℕ) → InTurn calls order → AreTried (attempts_of calls order)
   attempts_are_tried order turn =
-      all_stand order tried_once (filter (is_failed_call calls) order) (turn_filter calls (is_failed_call calls) order turn)
+      all_stand order tried_once (filter (is_failed_call calls) order) (filter_each (is_failed_call calls) order) (turn_filter calls (is_failed_call calls) order turn)
       (record { tried = once_tried; before = λ call again next. absurd (none-some again next) })
 
   pub all_tried : (b : Bool) (order : List ℕ) → InTurn calls order → AreTried (cond b tried_once (attempts_of calls order))

@@ -109,3 +109,8 @@ pub in_contains : {X : Type 0} (xs : List X) (x : X) → In xs x → Contains xs
 in_contains [] x here = absurd here
 in_contains (y ∷ ys) x (inl same) = (0, omega arith, same)
 in_contains (y ∷ ys) x (inr later) = let rest = in_contains ys x later in (suc rest.0, omega (arith, rest.1), rest.2)
+
+pub in-mapped : {X Y : Type 0} (f : X → Y) (xs : List X) (x : X) → In xs x → In (map f xs) (f x)
+in-mapped f [] x here = absurd here
+in-mapped f (y ∷ ys) x (inl same) = inl (ap f same)
+in-mapped f (y ∷ ys) x (inr later) = inr (in-mapped f ys x later)

@@ -2,6 +2,7 @@
 use Rattle.std.proofs.Common.{◌≡◌, ℕ, ◌+◌, ◌<◌, ◌≤◌, List, length, map, ◌∙◌, arith}
 use Rattle.std.specs.Prelude.{Ok}
 use Rattle.act_expr.specs.declared.outcome.Mode.{Mode}
+use Rattle.act_expr.specs.declared.outcome.Mode.TheVariants.{Computed}
 use Rattle.stage_graph.specs.Loading.{loaded}
 use Rattle.stage_graph.specs.Names.{place_of}
 use Rattle.stage_graph.specs.Plain.{PlainGraph}
@@ -13,7 +14,10 @@ use Rattle.trace_stages.specs.Moments.{At}
 use Rattle.trace_stages.specs.Naming.{PlainStage, imported}
 use Rattle.trace_stages.specs.declared.walk.stage_id.StageId.TheVariants.{Start, Whole, Tried, Limit, Answer}
 use Rattle.trace_faithful.specs.Circles.{EachSourceIsAStage, NoTraceHasACircle, trace_scene, trace_stages}
+use Rattle.trace_faithful.specs.Completes.{spec_of}
+use Rattle.trace_faithful.specs.Faithful.{EachTraceIsFaithful}
 use Rattle.trace_faithful.specs.Present.{EachSpanHasItsStages}
+use Rattle.trace_faithful.proofs.Completing.{EachIsMet, faithful_among}
 use Rattle.trace_faithful.proofs.Each.{in_contains}
 use Rattle.trace_faithful.proofs.Loaded.{few_loaded}
 use Rattle.trace_faithful.proofs.Ranking.{length_mapped, loaded_is, no_circle_among}
@@ -54,3 +58,10 @@ pub no_circle : NoTraceHasACircle
 no_circle unit as_told spans relations moments trace text spec named mode graph loads =
     let is = family_is unit as_told spans relations trace.stand trace.few in
     no_circle_among as_told spans relations is moments trace.happen (have_sources spans relations is moments trace.happen (few_stages as_told spans relations moments spec mode graph loads)) text spec named mode graph loads
+
+-- each completes as its span ended, where what is evaluated meets each place's equation
+pub faithful_where_met : EachIsMet → EachTraceIsFaithful
+faithful_where_met meets unit as_told spans relations moments trace text exceptions graph loads =
+    let is = family_is unit as_told spans relations trace.stand trace.few in
+    faithful_among as_told spans relations is moments trace.happen
+    (have_sources spans relations is moments trace.happen (few_stages as_told spans relations moments (spec_of text exceptions) Computed graph loads)) meets text exceptions graph loads

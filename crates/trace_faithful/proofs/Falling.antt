@@ -256,7 +256,7 @@ module _ {as_told : AsTold} (spans : List Span) (relations : PlainRelations) (is
       let well = held_well relations place moments are in
       subst (λ those. AreMade (joins_of.Holding place) (HadBase relations (works_of place) place) 0 those.joins × Piece place (length those.joins) those.has) (sym (had_is spans relations is moments are failures place lt)) (well.joins, well.has)
 
-  handed_call : (place child : ℕ) → is_handed Known failures place child ≡ true → WaitedCall relations place (call_end relations.attempts (relations.attempts.first child))
+  pub handed_call : (place child : ℕ) → is_handed Known failures place child ≡ true → WaitedCall relations place (call_end relations.attempts (relations.attempts.first child))
   handed_call place child handed =
       let waited : parent_at relations.waiting child ≡ Some place = same_option (parent_at relations.waiting child) place (and_left (option_eq nat_eq (parent_at relations.waiting child) (Some place)) _ handed) in
       let waiting : slice_get relations.waiting child ≡ Some (Some place) = known_known (slice_get relations.waiting child) place waited in
@@ -270,6 +270,12 @@ module _ {as_told : AsTold} (spans : List Span) (relations : PlainRelations) (is
         last = is_none_true (relations.attempts.next child) (and_left (is_none (relations.attempts.next child)) (takes_over Known.hands_on (fate_at Known.fates place) (failures child)) rest);
         is = refl;
       }
+
+  -- by its last attempt
+  pub handed_last : (place child : ℕ) → is_handed Known failures place child ≡ true → relations.attempts.next child ≡ None
+  handed_last place child handed =
+      is_none_true (relations.attempts.next child) (and_left (is_none (relations.attempts.next child)) (takes_over Known.hands_on (fate_at Known.fates place) (failures child))
+      (and_right (option_eq nat_eq (parent_at relations.waiting child) (Some place)) _ handed))
 
   handed_made : (place : ℕ) → place < length relations.intervals → Each (Piece place (length (Own place))) (handed_sources Known failures place)
   handed_made place lt =

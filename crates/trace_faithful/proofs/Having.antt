@@ -1,8 +1,9 @@
 -- What a span has at its end, and what it would have had with the answers of the calls that it gave up.
 use Rattle.std.proofs.Common.{◌≡◌, ℕ, ◌+◌, ◌≤◌, inl, inr, List, [], ◌∷◌, ◌++◌, Bool, true, false, cond, length, map, Option, Some, None, refl, sym, ap, ◌∙◌, subst, arith, length-append}
-use Rattle.std.specs.Prelude.{◌⊎◌, IfSome, filter, is_some, slice_get, unwrap_or}
+use Rattle.std.specs.Prelude.{◌⊎◌, ◌||◌, IfSome, filter, is_some, slice_get, unwrap_or}
+use Rattle.std.specs.List.{list_any}
 use Rattle.std.proofs.lemmas.Bool.{false≢true}
-use Rattle.std.proofs.lemmas.Option.{none-some}
+use Rattle.std.proofs.lemmas.Option.{none-some, same_Some}
 use Rattle.trace_relations.specs.Ancestry.{parent_at}
 use Rattle.trace_relations.specs.Moments.{end_moment, interval_at}
 use Rattle.trace_relations.specs.Relations.{PlainRelations}
@@ -13,14 +14,16 @@ use Rattle.trace_stages.specs.Held.{PlainHolding, looked, looked_at, sources_of}
 use Rattle.trace_stages.specs.Holdings.{held, held_until}
 use Rattle.trace_stages.specs.Joins.{PlainJoined, joined_of}
 use Rattle.trace_stages.specs.Moments.{AreMoments, At}
-use Rattle.trace_stages.specs.Walk.{answered, ended_by, walked, with_called}
-use Rattle.trace_stages.specs.declared.walk.called.Called.{Called}
+use Rattle.trace_stages.specs.Walk.{answered, ended_by, some_open, walked, with_called}
+use Rattle.trace_faithful.proofs.Types.{Called}
 use Rattle.trace_stages.specs.declared.walk.holding.Answer.{Answer}
 use Rattle.trace_stages.specs.declared.walk.holding.Begin.{Begin}
 use Rattle.trace_stages.specs.declared.walk.holding.OwnWork.{OwnWork}
 use Rattle.trace_stages.specs.declared.walk.joins.JoinsOf.TheVariants as joins_of
 use Rattle.trace_stages.specs.declared.walk.stage_id.StageId.{StageId}
+use Rattle.trace_stages.specs.declared.walk.stage_id.StageId.TheVariants.{Join}
 use Rattle.trace_faithful.proofs.Each.{Each, each-append, each-map, each-push, each-weaker, filter_each}
+use Rattle.trace_faithful.proofs.Gathering.{each-split, joined_all}
 use Rattle.trace_faithful.proofs.Joining.{AreMade, Extends, Joins, Made, are_made-weaker, extends-refl, joins_made, made-later, made-weaker}
 use Rattle.trace_faithful.proofs.Numbers.{start_number}
 use Rattle.trace_faithful.proofs.Relations.{same_option}
@@ -246,3 +249,124 @@ module _ (relations : PlainRelations) (span : ℕ) where
           (looked_has span (EndedCall relations span) (start_number relations.intervals) (Within span relations (length relations.intervals)) (ended_later relations span) last
           (walked span (interval_at relations.intervals span).start (events_of (length relations.intervals) relations moments span)) here)
           (each_given (ending moments ++ filter (is_open relations) (starting moments))) answers
+
+  -- ---- before the answers of calls
+
+  abbrev plain_until : Option ℕ → PlainHolding → PlainHolding
+  plain_until None holding = holding
+  plain_until (Some end) holding = looked span holding
+
+  -- what a span has at its end, without the answers of what it gave up
+  abbrev pub plain_held : List At → PlainHolding
+  plain_held moments =
+      plain_until (interval_at relations.intervals span).end (walked span (interval_at relations.intervals span).start (events_of (length relations.intervals) relations moments span))
+
+  -- answers add joins, and nothing else
+  pub record Precedes (plain holding : PlainHolding) : Type 0 where
+    pub extends : Extends plain.joins holding.joins
+    pub works : holding.works ≡ plain.works
+    pub begins : holding.begins ≡ plain.begins
+    pub has : holding.has ≡ plain.has
+    pub alone : is_some holding.answer ≡ false → holding.joins ≡ plain.joins
+
+  itself : (holding : PlainHolding) → Precedes holding holding
+  itself holding = record { extends = extends-refl holding.joins; works = refl; begins = refl; has = refl; alone = λ none. refl }
+
+  answered_precedes : (now : ℕ) (holding : PlainHolding) (calls : List Called) → NowHas now holding → Each (λ call. GivenCall relations span call.stage) calls → Precedes holding (answered span calls holding)
+  answered_precedes now holding [] here all = itself holding
+  answered_precedes now holding (first ∷ others) here all =
+      let made = is_made now holding here in
+      let calls : List Called = first ∷ others in
+      let given = each-weaker (λ (call : Called). GivenCall relations span call.stage) (λ call. HadBase relations holding.works span call.stage) (λ call gave. inr (inl (inr gave))) calls all in
+      let adds = add span (HadBase relations holding.works span) holding calls made.ended given in
+      let with_calls = added span (HadBase relations holding.works span) holding calls made given in
+      let looks = look span (HadBase relations holding.works span) (with_called holding calls) (with_called holding calls).ended with_calls in
+      record {
+        extends = subst (λ joins. Extends joins (looked span (with_called holding calls)).joins) adds.joins looks.1.extends;
+        works = looks.1.works ∙ adds.works;
+        begins = looks.1.begins ∙ adds.begins;
+        has = refl;
+        alone = λ none. absurd (false≢true (sym none));
+      }
+
+  abbrev Walked : List At → PlainHolding
+  Walked moments = walked span (interval_at relations.intervals span).start (events_of (length relations.intervals) relations moments span)
+
+  pub held_now : (moments : List At) → AreMoments relations.intervals moments → (now : ℕ) × NowHas now (plain_held moments)
+  held_now moments are = by_end (interval_at relations.intervals span).end (walked_has span relations (length relations.intervals) (interval_at relations.intervals span).start (omega arith) moments are)
+    where
+      by_end : (end : Option ℕ) → (last : ℕ) × NowHas last (Walked moments) → (now : ℕ) × NowHas now (plain_until end (Walked moments))
+      by_end None here = here
+      by_end (Some tick) (last, here) =
+          (last, looked_has span (EndedCall relations span) (start_number relations.intervals) (Within span relations (length relations.intervals)) (ended_later relations span) last (Walked moments) here)
+
+  pub held_precedes : (moments : List At) → AreMoments relations.intervals moments → Precedes (plain_held moments) (held relations moments span)
+  held_precedes moments are = by_end (interval_at relations.intervals span).end (walked_has span relations (length relations.intervals) (interval_at relations.intervals span).start (omega arith) moments are)
+    where
+      by_end : (end : Option ℕ) → (last : ℕ) × NowHas last (Walked moments) → Precedes (plain_until end (Walked moments)) (held_until end span (called relations moments span) (Walked moments))
+      by_end None (last, here) = itself (Walked moments)
+      by_end (Some tick) (last, here) =
+          answered_precedes last (looked span (Walked moments)) (called relations moments span)
+          (looked_has span (EndedCall relations span) (start_number relations.intervals) (Within span relations (length relations.intervals)) (ended_later relations span) last (Walked moments) here)
+          (each_given (ending moments ++ filter (is_open relations) (starting moments)))
+
+  -- ---- an answer stands for each call that was given up
+
+  module _ (P : StageId → Type 0) where
+    called_ended : (holding : PlainHolding) (calls : List Called) → Each P (with_called holding calls).ended → Each P holding.ended × Each (λ call. P call.stage) calls
+    called_ended holding [] all = (all, tt)
+    called_ended holding (call ∷ calls) all =
+        let rest = called_ended (ended_by call.span call.stage 0 holding) calls all in
+        let both = each-split P holding.ended (call.stage ∷ []) rest.0 in
+        (both.0, (both.1.0, rest.1))
+
+    stage_all : (stage : Option StageId) (has : StageId) → P (unwrap_or stage has) → IfSome stage P
+    stage_all None has here = tt
+    stage_all (Some id) has here = here
+
+    looked_all : (holding : PlainHolding) (ended : List StageId) → holding.ended ≡ ended
+        → ((k : ℕ) (sources : List StageId) → slice_get (looked_at span holding ended).joins k ≡ Some sources → P (Join span k) → Each P sources) → P (looked_at span holding ended).has → Each P holding.ended
+    looked_all holding [] same down here = subst (Each P) (sym same) tt
+    looked_all holding (first ∷ others) same down here =
+        let joined : PlainJoined = joined_of (joins_of.Holding span) holding.joins (sources_of holding) in
+        let all : Each P (sources_of holding) = joined_all (joins_of.Holding span) P joined.joins down holding.joins (sources_of holding) (extends-refl joined.joins) (stage_all joined.stage holding.has here) in
+        (each-split P (cond holding.is_used [] (holding.has ∷ [])) holding.ended all).1
+
+    abbrev AnswersFor : (calls : List Called) (holding : PlainHolding) → Answer → Type 0
+    AnswersFor calls holding answer =
+        ((k : ℕ) (sources : List StageId) → slice_get holding.joins k ≡ Some sources → P (Join span k) → Each P sources) → P answer.stage → Each (λ (call : Called). P call.stage) calls × (answer.is_open ≡ some_open calls)
+
+    answered_all : (holding : PlainHolding) (calls : List Called) (answer : Answer) → holding.answer ≡ None → (answered span calls holding).answer ≡ Some answer → AnswersFor calls (answered span calls holding) answer
+    answered_all holding [] answer unanswered is = absurd (none-some answer (sym unanswered ∙ is))
+    answered_all holding (first ∷ others) answer unanswered is = λ down here. (
+      (called_ended holding (first ∷ others)
+          (looked_all (with_called holding (first ∷ others)) (with_called holding (first ∷ others)).ended refl down
+          (subst P (ap (λ those. those.stage) (sym (same_Some _ answer is))) here))).1,
+      ap (λ those. those.is_open) (sym (same_Some _ answer is)),
+    )
+
+    pub answer_all : (moments : List At) → AreMoments relations.intervals moments → (answer : Answer) → (held relations moments span).answer ≡ Some answer
+        → ((k : ℕ) (sources : List StageId) → slice_get (held relations moments span).joins k ≡ Some sources → P (Join span k) → Each P sources) → P answer.stage
+        → Each (λ call. P call.stage) (called relations moments span) × (answer.is_open ≡ some_open (called relations moments span))
+    answer_all moments are answer is = by_end (interval_at relations.intervals span).end (walked_has span relations (length relations.intervals) (interval_at relations.intervals span).start (omega arith) moments are) is
+      where
+        by_end : (end : Option ℕ) → (last : ℕ) × NowHas last (Walked moments) → (held_until end span (called relations moments span) (Walked moments)).answer ≡ Some answer
+            → AnswersFor (called relations moments span) (held_until end span (called relations moments span) (Walked moments)) answer
+        by_end None (last, here) is = absurd (none-some answer (sym here.unanswered ∙ is))
+        by_end (Some tick) (last, here) is =
+            answered_all (looked span (Walked moments)) (called relations moments span) answer
+            (looked_has span (EndedCall relations span) (start_number relations.intervals) (Within span relations (length relations.intervals)) (ended_later relations span) last (Walked moments) here).unanswered is
+
+    open_among : (places : List ℕ) → Each (λ call. P call.stage) (map (called_by relations) places) → list_any (λ call. call.is_open) (map (called_by relations) places) ≡ true
+        → (place : ℕ) × (is_open relations place ≡ true) × P (call_end relations.attempts place)
+    open_among [] all some = absurd (false≢true some)
+    open_among (place ∷ places) all some = by_open (is_open relations place) refl some (λ rest. open_among places all.1 rest)
+      where
+        by_open : (b : Bool) → is_open relations place ≡ b → (b || list_any (λ call. call.is_open) (map (called_by relations) places)) ≡ true
+            → (list_any (λ call. call.is_open) (map (called_by relations) places) ≡ true → (found : ℕ) × (is_open relations found ≡ true) × P (call_end relations.attempts found)) → (found : ℕ) × (is_open relations found ≡ true) × P (call_end relations.attempts found)
+        by_open true opens some again = (place, opens, all.0)
+        by_open false closed some again = again some
+
+    -- so, where one of them is open, that has the property
+    pub open_all : (moments : List At) → Each (λ call. P call.stage) (called relations moments span) → some_open (called relations moments span) ≡ true → (place : ℕ) × (is_open relations place ≡ true) × P (call_end relations.attempts place)
+    open_all moments all some = open_among (filter (gave_up relations span) (ending moments ++ filter (is_open relations) (starting moments))) all some

@@ -26,6 +26,12 @@ extends-refl xs = ([], sym (append-nil xs))
 pub extends-trans : {X : Type 0} (xs ys zs : List X) → Extends xs ys → Extends ys zs → Extends xs zs
 extends-trans xs ys zs (more, first) (others, second) = (more ++ others, second ∙ ap (λ those. those ++ others) first ∙ append_assoc xs more others)
 
+pub extends-longer : {X : Type 0} (xs ys : List X) → Extends xs ys → length xs ≤ length ys
+extends-longer xs ys (more, same) = less (length xs) (length ys) (length more) (ap length same ∙ length-append xs more)
+  where
+    less : (a b c : ℕ) → b ≡ a + c → a ≤ b
+    less a b c e = omega arith
+
 pub made-later : (of : JoinsOf) (Base : StageId → Type 0) (j n : ℕ) → j ≤ n → (id : StageId) → Made of Base j id → Made of Base n id
 made-later of Base j n le id (inl base) = inl base
 made-later of Base j n le id (inr (k, lt, is)) = inr (k, omega arith, is)

@@ -17,10 +17,9 @@ use Rattle.trace_stages.specs.Joins.{PlainGathering, finished_with, gathered, jo
 use Rattle.trace_stages.specs.Moments.{At}
 use Rattle.trace_stages.specs.OwnWork.{with_work, worked}
 use Rattle.trace_stages.specs.Walk.{after, answered, ended_by, walked, with_called}
-use Rattle.trace_stages.specs.declared.walk.called.Called.{Called}
+use Rattle.trace_faithful.proofs.Types.{Called, Happening}
 use Rattle.trace_stages.specs.declared.walk.event.Event.{Event}
 use Rattle.trace_stages.specs.declared.walk.event.Event.TheVariants.{Starts, Ends}
-use Rattle.trace_stages.specs.declared.walk.events.Happening.{Happening}
 use Rattle.trace_stages.specs.declared.walk.joins.JoinsOf.{JoinsOf}
 use Rattle.trace_stages.specs.declared.walk.joins.JoinsOf.TheVariants as joins_of
 use Rattle.trace_stages.specs.declared.walk.stage_id.StageId.{StageId}

@@ -1,9 +1,14 @@
+pub mod Answering
 pub mod Attempting
+pub mod Claiming
 pub mod Climbing
+pub mod Completing
 pub mod Dictionary
 pub mod Each
+pub mod Failing
 pub mod Faithful
 pub mod Falling
+pub mod Gathering
 pub mod GivingUp
 pub mod Having
 pub mod Joining
@@ -13,6 +18,7 @@ pub mod Leaving
 pub mod Lesser
 pub mod Loaded
 pub mod Making
+pub mod Meeting
 pub mod Numbers
 pub mod Presence
 pub mod Putting
@@ -20,7 +26,11 @@ pub mod Ranking
 pub mod Relations
 pub mod Rising
 pub mod Sourcing
+pub mod Stepping
+pub mod Sure
 pub mod Ticking
+pub mod Timing
 pub mod Trying
+pub mod Types
 pub mod Unanswered
 pub mod Walking

@@ -200,7 +200,7 @@ module _ {as_told : AsTold} (spans : List Span) (relations : PlainRelations) (is
       ap (λ found. unwrap_or found (record { has = Start place; joins = []; works = []; begins = []; answer = None }))
       (slice_get_past Known.hads place (same_le (length Known.hads) (length relations.intervals) place (length-map-range_with_len (had relations moments) 0 (length relations.intervals)) le))
 
-  no_handed : (place : ℕ) → length relations.intervals ≤ place → list_at (all_handed Known failures) place ≡ []
+  pub no_handed : (place : ℕ) → length relations.intervals ≤ place → list_at (all_handed Known failures) place ≡ []
   no_handed place le =
       ap (λ found. unwrap_or found [])
       (slice_get_past (all_handed Known failures) place (same_le (length (all_handed Known failures)) (length relations.intervals) place (length-map-range_with_len (handed_sources Known failures) 0 (length relations.intervals)) le))

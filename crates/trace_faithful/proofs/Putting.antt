@@ -1,15 +1,16 @@
 -- A join, or own work, that a stage needs first is put with it; what else is put has its reason.
 use Rattle.std.proofs.Common.{◌≡◌, ℕ, suc, zero, ◌+◌, ◌<◌, ◌≤◌, inl, inr, List, [], ◌∷◌, ◌++◌, Bool, true, false, cond, length, map, Option, Some, None, refl, sym, ap, ◌∙◌, subst, arith, length-append}
-use Rattle.std.specs.Prelude.{◌⊎◌, ◌&&◌, ◌||◌, fold, is_some, nat_eq, not, reverse}
+use Rattle.std.specs.Prelude.{◌⊎◌, ◌&&◌, ◌||◌, fold, is_some, nat_eq, not, reverse, slice_get}
 use Rattle.std.specs.List.{list_any}
 use Rattle.std.proofs.lemmas.Bool.{eqb-true, false≢true}
 use Rattle.std.proofs.lemmas.List.Sorted.{Contains-permutation, IsPermutation-reverse, IsPermutation-sym, length_permutation}
 use Rattle.std.proofs.lemmas.Option.{none-some, same_Some}
-use Rattle.trace_stages.specs.Known.{gave_up}
+use Rattle.trace_stages.specs.Known.{gave_up, had_at}
 use Rattle.trace_stages.specs.Order.{attempts_before, first_source, is_entry, is_join, is_work, most_needed, needed, needs, put_end, put_last, put_stage, source_of, tried_before, visited}
 use Rattle.trace_stages.specs.Scene.{PlainScene}
 use Rattle.trace_stages.specs.declared.tour.visit.Visit.{Visit}
 use Rattle.trace_stages.specs.declared.tour.visit.Visit.TheVariants.{Enters, Leaves}
+use Rattle.trace_stages.specs.declared.walk.holding.OwnWork.{OwnWork}
 use Rattle.trace_stages.specs.declared.walk.stage_id.StageId.{StageId}
 use Rattle.trace_stages.specs.declared.walk.stage_id.StageId.TheVariants.{Start, Whole, Entry, Join, Work, Tried, Limit, Answer}
 use Rattle.trace_faithful.proofs.Each.{In, contains_in, in-append, in-back, in-front, in_contains}
@@ -317,52 +318,45 @@ module _ (scene : PlainScene) where
 
   -- ---- the reasons of what is put
 
-  -- a limit is that of a span which gave calls up; what a call came to is put where it was tried again
+  -- a limit is that of a span which gave calls up; what a call came to is put where it was tried again; own work was done
   abbrev pub HasReason : StageId → Type 0
   HasReason (Start place) = Unit {0}
   HasReason (Whole place) = Unit {0}
   HasReason (Tried place) = (again : ℕ) × (scene.known.relations.attempts.next place ≡ Some again)
   HasReason (Limit place) = gave_up scene.known place ≡ true
   HasReason (Answer place) = gave_up scene.known place ≡ true
-  HasReason (Work span number) = Unit {0}
+  HasReason (Work span number) = (work : OwnWork) × (slice_get (had_at scene.known.hads span).works number ≡ Some work)
   HasReason (Entry span number) = Unit {0}
   HasReason (Join span number) = Unit {0}
-
-  needed_reason : (id : StageId) → IsNeeded id → HasReason id
-  needed_reason (Start place) need = absurd need
-  needed_reason (Whole place) need = absurd need
-  needed_reason (Tried place) need = absurd need
-  needed_reason (Limit place) need = absurd need
-  needed_reason (Answer place) need = absurd need
-  needed_reason (Work span number) need = tt
-  needed_reason (Entry span number) need = tt
-  needed_reason (Join span number) need = tt
 
   abbrev pub HaveReasons : List StageId → Type 0
   HaveReasons order = (x : StageId) → In order x → HasReason x
 
-  needed_if : (order those : List StageId) (id : StageId) (b : Bool) → needs order id ≡ b → ((x : StageId) → In those x → IsNeeded x) → (x : StageId) → In (cond b (id ∷ those) []) x → IsNeeded x
-  needed_if order those id true is again x (inl same) = subst IsNeeded same (only_needed order id is)
-  needed_if order those id true is again x (inr further) = again x further
-  needed_if order those id false is again x here = absurd here
+  module _ (leads_on : (place call : ℕ) → scene.known.relations.attempts.previous place ≡ Some call → scene.known.relations.attempts.next call ≡ Some place)
+      (leads_well : (id s : StageId) → HasReason id → lead scene id ≡ Some s → IsNeeded s → HasReason s) where
+    needed_if : (order those : List StageId) (id : StageId) (b : Bool) → needs order id ≡ b → (IsNeeded id → HasReason id) → (IsNeeded id → HasReason id → HaveReasons those) → HaveReasons (cond b (id ∷ those) [])
+    needed_if order those id true is reason again x (inl same) = subst HasReason same (reason (only_needed order id is))
+    needed_if order those id true is reason again x (inr further) = let need = only_needed order id is in again need (reason need) x further
+    needed_if order those id false is reason again x here = absurd here
 
-  all_needed : (n : ℕ) (order : List StageId) (source : Option StageId) (x : StageId) → In (needed scene order n source) x → IsNeeded x
-  unfolding needed
-  all_needed zero order source x here = absurd here
-  all_needed (suc n) order None x here = absurd here
-  all_needed (suc n) order (Some id) x here =
-      needed_if order (needed scene (order ++ id ∷ []) n (first_source scene id)) id (needs order id) refl (λ y at. all_needed n (order ++ id ∷ []) (first_source scene id) y at) x here
+    all_needed : (n : ℕ) (order : List StageId) (source : Option StageId) → ((s : StageId) → source ≡ Some s → IsNeeded s → HasReason s) → HaveReasons (needed scene order n source)
+    unfolding needed
+    all_needed zero order source reason x here = absurd here
+    all_needed (suc n) order None reason x here = absurd here
+    all_needed (suc n) order (Some id) reason x here =
+        needed_if order (needed scene (order ++ id ∷ []) n (first_source scene id)) id (needs order id) refl (reason id refl)
+        (λ need given y at. all_needed n (order ++ id ∷ []) (first_source scene id) (λ s first wants. leads_well id s given (lead_first id need ∙ first) wants) y at) x here
 
-  put_reason : (order : List StageId) (id : StageId) → HasReason id → HaveReasons order → HaveReasons (put_stage scene order id)
-  put_reason order id reason all x here = elim (in-append order (reverse (needed scene order most_needed (source_of scene id)) ++ id ∷ []) x here) [
-    | inl old ↦ all x old
-    | inr new ↦ elim (in-append (reverse (needed scene order most_needed (source_of scene id))) (id ∷ []) x new) [
-      | inl among ↦ needed_reason x (all_needed most_needed order (source_of scene id) x (in_unreversed (needed scene order most_needed (source_of scene id)) x among))
-      | inr last ↦ elim last [ inl same ↦ subst HasReason same reason | inr never ↦ absurd never ]
+    put_reason : (order : List StageId) (id : StageId) → lead scene id ≡ source_of scene id → HasReason id → HaveReasons order → HaveReasons (put_stage scene order id)
+    put_reason order id leads reason all x here = elim (in-append order (reverse (needed scene order most_needed (source_of scene id)) ++ id ∷ []) x here) [
+      | inl old ↦ all x old
+      | inr new ↦ elim (in-append (reverse (needed scene order most_needed (source_of scene id))) (id ∷ []) x new) [
+        | inl among ↦
+            all_needed most_needed order (source_of scene id) (λ s first wants. leads_well id s reason (leads ∙ first) wants) x (in_unreversed (needed scene order most_needed (source_of scene id)) x among)
+        | inr last ↦ elim last [ inl same ↦ subst HasReason same reason | inr never ↦ absurd never ]
+      ]
     ]
-  ]
 
-  module _ (leads_on : (place call : ℕ) → scene.known.relations.attempts.previous place ≡ Some call → scene.known.relations.attempts.next call ≡ Some place) where
     before_reason : (n place : ℕ) (previous : Option ℕ) → scene.known.relations.attempts.previous place ≡ previous → (x : StageId) → In (map Tried (attempts_before scene n previous)) x → HasReason x
     unfolding attempts_before
     before_reason zero place previous is x here = absurd here
@@ -377,19 +371,19 @@ module _ (scene : PlainScene) where
     end_reason : (order : List StageId) (place : ℕ) (b : Bool) → gave_up scene.known place ≡ b → HaveReasons order
         → HaveReasons (cond b (put_stage scene order (Answer place) ++ (Limit place ∷ Whole place ∷ [])) (put_stage scene order (Whole place)))
     end_reason order place true gave all x here = elim (in-append (put_stage scene order (Answer place)) (Limit place ∷ Whole place ∷ []) x here) [
-      | inl old ↦ put_reason order (Answer place) gave all x old
+      | inl old ↦ put_reason order (Answer place) refl gave all x old
       | inr new ↦ elim new [
         | inl same ↦ subst HasReason same gave
         | inr further ↦ elim further [ inl same ↦ subst HasReason same tt | inr never ↦ absurd never ]
       ]
     ]
-    end_reason order place false gave all x here = put_reason order (Whole place) tt all x here
+    end_reason order place false gave all x here = put_reason order (Whole place) (ap (λ b. cond b None (source_of scene (Whole place))) gave) tt all x here
 
     visit_reason : (order : List StageId) (visit : Visit) → HaveReasons order → HaveReasons (visited scene order visit)
     visit_reason order (Enters place) all x here = by_two (scene.known.has_two place) x here
       where
         by_two : (b : Bool) → HaveReasons (cond b (put_stage scene order (Start place)) order)
-        by_two true = put_reason order (Start place) tt all
+        by_two true = put_reason order (Start place) refl tt all
         by_two false = all
     visit_reason order (Leaves place) all x here = elim (in-append (put_end scene order place) (tried_before scene place) x here) [
       | inl old ↦ end_reason order place (gave_up scene.known place) refl all x old

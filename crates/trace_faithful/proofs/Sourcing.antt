@@ -41,11 +41,11 @@ use Rattle.trace_stages.specs.declared.walk.stage_id.StageId.{StageId}
 use Rattle.trace_stages.specs.declared.walk.stage_id.StageId.TheVariants.{Start, Whole, Entry, Join, Work, Tried, Limit, Answer}
 use Rattle.trace_faithful.specs.Circles.{HaveSources, sources_of, trace_scene, trace_stages}
 use Rattle.trace_faithful.proofs.Climbing.{ancestors_step, any_in}
-use Rattle.trace_faithful.proofs.Each.{Each, In, contains_in, each-append, each-in, each-map, each-weaker, filter_each, in_contains, in_flat_map}
+use Rattle.trace_faithful.proofs.Each.{Each, In, contains_in, each-append, each-in, each-map, each-weaker, filter_each, in-at, in_contains, in_flat_map}
 use Rattle.trace_faithful.proofs.Falling.{Piece, handed_is, in_mapped_range, join_place, joins_are_made, work_inside}
 use Rattle.trace_faithful.proofs.GivingUp.{GaveUp, end_exists, gave_up_is}
 use Rattle.trace_faithful.proofs.Having.{BeganWell, GivenCall, HadBase, WaitedCall, given_where_answered, held_well}
-use Rattle.trace_faithful.proofs.Joining.{Joins, Made, extends-refl, joins_made, made-at}
+use Rattle.trace_faithful.proofs.Joining.{Extends, Joins, Made, extends-refl, joins_made, made-at}
 use Rattle.trace_faithful.proofs.Keys.{had_is, joins_at, least, own_joins}
 use Rattle.trace_faithful.proofs.Leading.{IsEnd, IsLed, Led, all_ends, call_is_end, ends_led, held_led, joined_led}
 use Rattle.trace_faithful.proofs.Lesser.{begin_source, end_piece, entry_is, gave_up_end, last_ended, no_entry}
@@ -55,6 +55,7 @@ use Rattle.trace_faithful.proofs.Presence.{all_visited}
 use Rattle.trace_faithful.proofs.Putting.{HasReason, IsNeeded, all_led, all_reasons, answer_put, lead, limit_put, start_put, tried_put, whole_put}
 use Rattle.trace_faithful.proofs.Relations.{IsFamily, Parents, after_is, and_left, child_below, ended_number, ended_place, found_in, mapped_range, parents_count, parents_within}
 use Rattle.trace_faithful.proofs.Rising.{EndedCall}
+use Rattle.trace_faithful.proofs.Ticking.{at-extends, tick_of_end}
 use Rattle.trace_faithful.proofs.Trying.{ends_later, last_same, tried, tried_by}
 use Rattle.trace_faithful.proofs.Trying as trying
 use Rattle.trace_faithful.proofs.Walking.{Base, WorkedBy}
@@ -179,7 +180,7 @@ module _ {as_told : AsTold} (spans : List Span) (relations : PlainRelations) (is
   given_two : (caller : ℕ) (id : StageId) → GivenCall relations caller id → HasTwo caller
   given_two caller id call = inside_two call.child caller (given_inside call.child caller (gave_up_is spans relations is call.child caller call.gave))
 
-  gave_up_two : (place : ℕ) → gave_up known place ≡ true → HasTwo place
+  pub gave_up_two : (place : ℕ) → gave_up known place ≡ true → HasTwo place
   gave_up_two place gave = elim (cases_lt place (length relations.intervals)) [
     | inl lt ↦
         let answers : is_some (had relations moments place).answer ≡ true = ap (λ those. is_some those.answer) (sym (had_is spans relations is moments are failed place lt)) ∙ gave in
@@ -196,7 +197,7 @@ module _ {as_told : AsTold} (spans : List Span) (relations : PlainRelations) (is
   There (Tried place) = (again : ℕ) × (relations.attempts.next place ≡ Some again)
   There (Limit place) = gave_up known place ≡ true
   There (Answer place) = gave_up known place ≡ true
-  There (Work span number) = Unit {0}
+  There (Work span number) = (work : OwnWork) × (slice_get (had_at known.hads span).works number ≡ Some work)
   There (Entry span number) = Unit {0}
   There (Join span number) = Unit {0}
 
@@ -204,7 +205,7 @@ module _ {as_told : AsTold} (spans : List Span) (relations : PlainRelations) (is
   call_there call None none lt = lt
   call_there call (Some again) some lt = (again, some)
 
-  tried_within : (call again : ℕ) → relations.attempts.next call ≡ Some again → (call < length relations.intervals) × (again < length relations.intervals)
+  pub tried_within : (call again : ℕ) → relations.attempts.next call ≡ Some again → (call < length relations.intervals) × (again < length relations.intervals)
   tried_within call again next =
       let by = tried_by spans relations is call again next in
       let last = end_exists (end_moment (interval_at relations.intervals again)) (end_moment (interval_at relations.intervals by.caller)) by.waits_again.ends in
@@ -228,15 +229,18 @@ module _ {as_told : AsTold} (spans : List Span) (relations : PlainRelations) (is
   piece_there place n id lt two (inl (inl same)) = subst There (sym same) (lt, two)
   piece_there place n id lt two (inl (inr (inl (inl call)))) = waited_there place id call
   piece_there place n id lt two (inl (inr (inl (inr call)))) = given_there place id call
-  piece_there place n id lt two (inl (inr (inr (count, worked, same)))) = subst There (sym same) tt
+  piece_there place n id lt two (inl (inr (inr (count, worked, same)))) =
+      subst There (sym same) (worked.0, ap (λ those. slice_get those.works count) (had_is spans relations is moments are failed place lt) ∙ worked.1)
   piece_there place n id lt two (inr (count, less, same)) = subst There (sym same) tt
 
-  early_there : (place now reached n : ℕ) (those : List OwnWork) (id : StageId) → place < length relations.intervals → HasTwo place → Made (joins_of.Holding place) (Base place (EndedCall relations place now reached) (WorkedBy those now reached)) n id → There id
-  early_there place now reached n those id lt two (inl (inl same)) = subst There (sym same) (lt, two)
-  early_there place now reached n those id lt two (inl (inr (inl ended))) =
+  early_there : (place now reached n : ℕ) (those : List OwnWork) (id : StageId) → place < length relations.intervals → HasTwo place → Extends those (had relations moments place).works → Made (joins_of.Holding place) (Base place (EndedCall relations place now reached) (WorkedBy those now reached)) n id → There id
+  early_there place now reached n those id lt two extends (inl (inl same)) = subst There (sym same) (lt, two)
+  early_there place now reached n those id lt two extends (inl (inr (inl ended))) =
       waited_there place id (record { child = ended.child; end = ended.end; ends = ended.ends; waits = ended.waits; last = ended.last; is = ended.is })
-  early_there place now reached n those id lt two (inl (inr (inr (count, worked, same)))) = subst There (sym same) tt
-  early_there place now reached n those id lt two (inr (count, less, same)) = subst There (sym same) tt
+  early_there place now reached n those id lt two extends (inl (inr (inr (count, worked, same)))) =
+      subst There (sym same)
+      (worked.work, ap (λ those. slice_get those.works count) (had_is spans relations is moments are failed place lt) ∙ at-extends those (had relations moments place).works count worked.work extends worked.is)
+  early_there place now reached n those id lt two extends (inr (count, less, same)) = subst There (sym same) tt
 
   -- ---- the first stage of a span
 
@@ -255,7 +259,7 @@ module _ {as_told : AsTold} (spans : List Span) (relations : PlainRelations) (is
           (subst (λ those. In those.begins begin) (sym of_span.2) of_had.2) in
           subst There (same_Some begin.from id some)
           (early_there (0 + of_span.0) (start_number relations.intervals begin.span) began.reached (length began.well.before) began.well.those begin.from (plus_zero of_span.0 (length relations.intervals) of_span.1)
-          (inside_two begin.span (0 + of_span.0) began.inside) began.well.«from»)
+          (inside_two begin.span (0 + of_span.0) began.inside) began.well.more began.well.«from»)
         where
           plus_zero : (a b : ℕ) → a < b → 0 + a < b
           plus_zero a b lt = omega arith
@@ -415,7 +419,7 @@ module _ {as_told : AsTold} (spans : List Span) (relations : PlainRelations) (is
         | inl lt ↦
             let inside = work_inside spans relations is moments are failed place count work (ap (λ those. slice_get those.works count) (sym (had_is spans relations is moments are failed place lt)) ∙ at) in
             subst There (same_Some work.after source (option_in (Some work.after) source here))
-            (early_there place inside.now inside.reached (length inside.well.before) inside.well.those work.after lt (inside_two inside.child place inside.inside) inside.well.«from»)
+            (early_there place inside.now inside.reached (length inside.well.before) inside.well.those work.after lt (inside_two inside.child place inside.inside) inside.well.more inside.well.«from»)
         | inr ge ↦ absurd (none-some work (sym (ap (λ those. slice_get those.works count) (no_had spans relations is moments are failed place ge)) ∙ at))
       ]
 
@@ -653,13 +657,61 @@ module _ {as_told : AsTold} (spans : List Span) (relations : PlainRelations) (is
   stands (Entry place count) there need = need tt
   stands (Join place count) there need = need tt
 
+  -- ---- what is put has its reason
+
+  option_here : (found : Option StageId) (source : StageId) → found ≡ Some source → In (option_list found) source
+  option_here None source none = absurd (none-some source none)
+  option_here (Some id) source some = inl (same_Some id source some)
+
+  whole_lead : (place : ℕ) (source : StageId) (b : Bool) → cond b None (whole_work scene place).source ≡ Some source → In (cond b (Limit place ∷ Answer place ∷ []) (option_list (whole_work scene place).source)) source
+  whole_lead place source true none = absurd (none-some source none)
+  whole_lead place source false some = option_here (whole_work scene place).source source some
+
+  answer_lead : (place tick : ℕ) (source : StageId) (answer : Option Answered) (end : Option ℕ) → end ≡ Some tick → option_map (λ those. those.stage) answer ≡ Some source
+      → In (option_list (answer_from scene (interval_at relations.intervals place).start answer end).source) source
+  answer_lead place tick source None end ends none = absurd (none-some source none)
+  answer_lead place tick source (Some answer) None ends some = absurd (none-some tick ends)
+  answer_lead place tick source (Some answer) (Some end) ends some = inl (same_Some answer.stage source some)
+
+  work_lead : (source : StageId) (found : Option OwnWork) → option_map (λ those. those.after) found ≡ Some source → In (option_list (work_after scene found).source) source
+  work_lead source None none = absurd (none-some source none)
+  work_lead source (Some work) some = inl (same_Some work.after source some)
+
+  -- what leads is waited for
+  lead_waits : (id source : StageId) → Reason id → lead scene id ≡ Some source → In (sources_of scene id) source
+  lead_waits (Start place) source reason leads = option_here (begin_work scene place 0 Null).source source leads
+  lead_waits (Whole place) source reason leads = whole_lead place source (gave_up known place) leads
+  lead_waits (Work place count) source reason leads = work_lead source (slice_get (had_at known.hads place).works count) leads
+  lead_waits (Tried place) source reason leads = absurd (none-some source leads)
+  lead_waits (Limit place) source reason leads = absurd (none-some source leads)
+  lead_waits (Answer place) source reason leads =
+      let end = gave_up_end spans relations is moments are failed place reason in
+      answer_lead place end.0.tick source (had_at known.hads place).answer (interval_at relations.intervals place).end (tick_of_end (interval_at relations.intervals place) end.0 end.1) leads
+  lead_waits (Entry place count) source reason leads = in-at (entry_sources scene place count) 0 source leads
+  lead_waits (Join place count) source reason leads = in-at (join_sources scene place count) 0 source leads
+
+  needed_reason : (id : StageId) → IsNeeded id → There id → Reason id
+  needed_reason (Start place) need there = absurd need
+  needed_reason (Whole place) need there = absurd need
+  needed_reason (Tried place) need there = absurd need
+  needed_reason (Limit place) need there = absurd need
+  needed_reason (Answer place) need there = absurd need
+  needed_reason (Work place count) need there = there
+  needed_reason (Entry place count) need there = tt
+  needed_reason (Join place count) need there = tt
+
+  pub reason_of : (id : StageId) → In stages id → HasReason scene id
+  reason_of id here =
+      all_reasons scene (λ place call previous. (tried spans relations is).previous call place previous)
+      (λ other source reason leads need. needed_reason source need (sources_there other source reason (lead_waits other source reason leads)))
+      [] (visits relations.parents relations.order) (λ x never. absurd never) id here
+
   pub have_sources : length stages ≤ most_needed → HaveSources scene stages
   have_sources few stage source here among =
       let stage_in : In stages stage = contains_in stages stage here in
       let inside : In (sources_of scene stage) source = contains_in (sources_of scene stage) source among in
-      let reason : Reason stage = all_reasons scene (λ place call previous. (tried spans relations is).previous call place previous) [] (visits relations.parents relations.order) (λ x never. absurd never) stage stage_in in
       in_contains stages source
-      (stands source (sources_there stage source reason inside)
+      (stands source (sources_there stage source (reason_of stage stage_in) inside)
       (λ need. all_led scene [] (visits relations.parents relations.order) few (λ x s never. absurd never) stage source stage_in (leads stage source inside need) need))
 
   -- ---- each span has its stages

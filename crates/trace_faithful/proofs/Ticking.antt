@@ -1,7 +1,11 @@
 -- When joins end: with the latest of their sources.
-use Rattle.std.proofs.Common.{◌≡◌, ℕ, suc, zero, ◌+◌, ◌<◌, ◌≤◌, inl, inr, List, [], ◌∷◌, ◌++◌, length, map, Some, None, refl, sym, ap, ◌∙◌, subst, arith, get_or, length-append}
+use Rattle.std.proofs.Common.{◌≡◌, ℕ, suc, zero, ◌+◌, ◌<◌, ◌≤◌, inl, inr, List, [], ◌∷◌, ◌++◌, length, map, Option, Some, None, refl, sym, ap, ◌∙◌, subst, arith, get_or, length-append}
 use Rattle.std.specs.Prelude.{fold, slice_get, unwrap_or}
 use Rattle.std.proofs.lemmas.Option.{none-some, same_Some, slice_get-get_or, slice_get_within}
+use Rattle.std.specs.Option.{option_map}
+use Rattle.trace_relations.specs.Moments.{end_after, end_moment}
+use Rattle.trace_relations.specs.declared.moment.Interval.{Interval}
+use Rattle.trace_relations.specs.declared.moment.Moment.{Moment}
 use Rattle.trace_stages.specs.Outcomes.{PlainSight, join_outcome, join_outcomes, latest, outcome_at, outcome_of, with_join}
 use Rattle.trace_stages.specs.Joins.{join_id}
 use Rattle.trace_stages.specs.declared.walk.joins.JoinsOf.{JoinsOf}
@@ -11,6 +15,14 @@ use Rattle.trace_faithful.proofs.Joining.{AreMade, Extends, Made, extends-refl, 
 
 abbrev TypeOf : {A : Type 0} → A → Type 0
 TypeOf {A} x = A
+
+-- the tick of an end
+pub tick_of_end : (interval : Interval) (last : Moment) → end_moment interval ≡ Some last → interval.end ≡ Some last.tick
+tick_of_end interval last is = at interval.end is
+  where
+    at : (end : Option ℕ) → option_map (end_after interval.start) end ≡ Some last → end ≡ Some last.tick
+    at None is = absurd (none-some last is)
+    at (Some tick) is = ap (λ m. Some m.tick) (same_Some (end_after interval.start tick) last is)
 
 -- how a stage ends: its tick, and the exception with which it fails
 abbrev pub Outcome : Type 0

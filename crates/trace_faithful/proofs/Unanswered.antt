@@ -10,7 +10,7 @@ use Rattle.trace_stages.specs.Held.{PlainHolding, looked}
 use Rattle.trace_stages.specs.Holdings.{held, held_until}
 use Rattle.trace_stages.specs.Moments.{AreMoments, At}
 use Rattle.trace_stages.specs.Walk.{answered, walked}
-use Rattle.trace_stages.specs.declared.walk.called.Called.{Called}
+use Rattle.trace_faithful.proofs.Types.{Called}
 use Rattle.trace_stages.specs.declared.walk.holding.OwnWork.{OwnWork}
 use Rattle.trace_stages.specs.declared.walk.joins.JoinsOf.TheVariants as joins_of
 use Rattle.trace_stages.specs.declared.walk.stage_id.StageId.{StageId}
@@ -38,7 +38,7 @@ module _ (relations : PlainRelations) (span : ℕ) where
   plain_base works now reached id base =
       base-weaker span (EndedCall relations span now reached) (WaitedCall relations span) (WorkedBy works now reached) (HasWorked works) (plain_call now reached) (λ count worked. (worked.work, worked.is)) id base
 
-  had_plain : (now : ℕ) (holding : PlainHolding) → NowHas now holding → HadPlain holding
+  pub had_plain : (now : ℕ) (holding : PlainHolding) → NowHas now holding → HadPlain holding
   had_plain now holding here = record {
     has = made-weaker (joins_of.Holding span) (Base span (EndedCall relations span now holding.reached) (WorkedBy holding.works now holding.reached)) (PlainBase holding.works)
         (plain_base holding.works now holding.reached) (length holding.joins) holding.has here.has;
