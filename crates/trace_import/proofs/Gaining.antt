@@ -1,6 +1,6 @@
 -- Texts that gain stages.
-use Rattle.std.proofs.Common.{◌≡◌, ◌∙◌, ◌<◌, ℕ, List, [], ◌∷◌, ◌++◌, length, map, take, drop, get_or, refl, sym, ap, subst, append_assoc, map-append, arith, Err}
-use Rattle.std.proofs.lemmas.List.{take-append-drop, take_more}
+use Rattle.std.proofs.Common.{◌≡◌, ◌∙◌, ◌+◌, ◌<◌, ℕ, List, [], ◌∷◌, ◌++◌, length, map, take, drop, get_or, refl, sym, ap, subst, append_assoc, arith}
+use Rattle.std.proofs.lemmas.List.{map-append, take-append-drop, take_more}
 use Rattle.recording_text.specs.Labels.{Begun, Labelled, PlainHead, begun, labelled_recording}
 use Rattle.recording_text.proofs.Begun.{begun_within}
 use Rattle.trace_spans.specs.declared.span.Span.{Span}

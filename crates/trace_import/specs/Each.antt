@@ -1,5 +1,5 @@
 -- What an import of each trace of a file writes: its recording on one line.
-use Rattle.std.specs.Prelude.{◌≡◌, ℕ, ◌++◌, ◌⊎◌, List, [], ◌∷◌, filter, nat_eq, not, Option, Result, Ok, Err, Vec}
+use Rattle.std.specs.Prelude.{◌≡◌, ℕ, ◌++◌, List, [], ◌∷◌, filter, nat_eq, not, Option, Result, Ok, Err, Vec}
 use Rattle.std.specs.Io.KnownBytes.{Appends, Keeps}
 use Rattle.std.specs.declared.alloc.Global.{Global}
 use Rattle.text_io.specs.Sink.{AppendsPrefix}
@@ -71,7 +71,7 @@ pub record IsTornOff (bytes : List ℕ) (mapping : Mapping) (old new : Option (L
 -- the lines of the first traces, as memory was out
 pub record IsCutShort (bytes : List ℕ) (mapping : Mapping) (old new : Option (List ℕ)) : Type 0 where
   pub first : List Trace
-  pub begins : (first ≡ []) ⊎ BeginsWith bytes first
+  pub begins : BeginsWith bytes first
   pub outcomes : List Outcome
   pub written : List ℕ
   pub are : AreOutcomesOf mapping first outcomes written

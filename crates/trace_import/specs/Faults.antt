@@ -1,9 +1,11 @@
 -- Faults, and the numbers and texts by which they are printed.
-use Rattle.std.specs.Prelude.{ℕ, List, Result, Err, codes}
+use Rattle.std.specs.Prelude.{ℕ, Bool, true, false, List, Result, Err, codes}
 use Rattle.trace_relations.specs.FaultNumbers.{fault_number as relations_number}
 use Rattle.trace_relations.specs.FaultTexts.{fault_text as relations_text}
+use Rattle.trace_relations.specs.declared.fault.RelationsFault.TheVariants as without
 use Rattle.trace_spans.specs.FaultNumbers.{fault_number}
 use Rattle.trace_spans.specs.FaultTexts.{fault_text}
+use Rattle.trace_spans.specs.declared.fault.Fault.TheVariants as refused
 use Rattle.trace_import.specs.declared.fault.ImportFault.{ImportFault}
 use Rattle.trace_import.specs.declared.fault.ImportFault.TheVariants.{Refused, Unticked, TooManyStages, TooLong, Write, Memory}
 
@@ -28,3 +30,11 @@ import_text Memory = codes "refused 90 Memory"
 abbrev pub failed_writes : {A : Type 0} → Result A ImportFault → ℕ
 failed_writes (Err Write) = 1
 failed_writes others = 0
+
+-- whether nothing more can be written of other traces either: memory is out, or a write failed
+abbrev pub ends_all : ImportFault → Bool
+ends_all (Refused refused.Memory) = true
+ends_all (Unticked without.Memory) = true
+ends_all Write = true
+ends_all Memory = true
+ends_all others = false

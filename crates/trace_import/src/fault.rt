@@ -1,6 +1,6 @@
 //! Why a trace is not imported.
 ghost use Rattle.std.specs.Prelude.{◌≡◌};
-ghost use Rattle.trace_import.specs.Faults.{import_number};
+ghost use Rattle.trace_import.specs.Faults.{ends_all, import_number};
 
 use std::alloc::AllocError;
 use std::fmt;
@@ -44,7 +44,9 @@ impl ImportFault {
 
 impl ImportFault {
     /// Whether nothing more can be written of other traces either.
-    pub(crate) fn ends_all(&self) -> bool {
+    pub(crate) fn ends_all(&self) -> bool
+        ensures { result ≡ ends_all self.now }
+    {
         matches!(
             self,
             ImportFault::Refused(Fault::Memory)

@@ -18,6 +18,7 @@ mod reading;
 mod recorded;
 mod stage_names;
 mod text;
+mod texts;
 
 pub use each::{Outcome, import_each};
 pub use fault::ImportFault;

@@ -4,6 +4,7 @@ ghost use Rattle.trace_import.specs.Imported.{IsReadingOf};
 
 use crate::fault::ImportFault;
 use crate::options::Mapping;
+use crate::texts::tells_texts;
 use std::alloc::Global;
 use trace_relations::{Relations, relations_of};
 use trace_spans::Trace;
@@ -28,6 +29,7 @@ pub(crate) fn reading_of(
 ) -> Result<Reading, ImportFault>
     ensures { IsReadingOf mapping trace result }
 {
+    tells_texts(&trace);
     let spans = trace.spans.as_slice();
     let relations = relations_of(alloc, mapping.unit, mapping.as_told, spans)?;
     let stages = stages_of(alloc, spans, &relations, mapping.as_told)?;
