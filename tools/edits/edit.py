@@ -26,6 +26,11 @@ class Edit:
         return f"{self.crate}/{self.name}"
 
     @property
+    def last_name(self):
+        """The name of the function that is to refuse it, without the path."""
+        return self.function.split("::")[-1]
+
+    @property
     def words(self):
         """What of the edit decides its answer."""
         return repr((self.pairs, self.function, self.clause))
@@ -33,9 +38,9 @@ class Edit:
     def files(self):
         return dict.fromkeys(file for file, _, _ in self.pairs)
 
-    def texts(self, folder):
-        """The whole texts of the files that it changes, as they are after it."""
-        texts = {}
+    def texts(self, folder, begun=()):
+        """The whole texts of the files that it changes, as they are after it, with all of what it is put upon."""
+        texts = dict(begun)
         for file, old, new in self.pairs:
             if file not in texts:
                 with open(f"{folder}/{file}", encoding="utf-8") as source:

@@ -4,7 +4,7 @@ from dataclasses import dataclass
 
 # what the prover says of an answer that names what the edit took away, which shows nothing of a contract
 LOST = re.compile(r"has no field|is not in scope|has no `|is no name|was not admitted|cannot continue|expected the end|operand is missing")
-UNFOUND = re.compile(r"^fn (\S+): (?:no proof|not proved).*?`search` did not prove (.*)$", re.M)
+UNFOUND = re.compile(r"^fn (\S+): (?:no proof|not proved).*?`search` did not prove ([^;\n]*)", re.M)
 ANSWERED = re.compile(r"^(?:note: )?(?:\./)?proofs/(?P<path>\S+?)/\w+\.antt:\d+:\d+: error: `(?P<goal>[^`]*)`: (?P<said>.*)$", re.M)
 PLACED = re.compile(r"^(?:note: )?(?P<file>src/\S+?):(?P<line>\d+):\d+: (?P<said>.*?)\(`(?P<goal>[^`]*)`\)", re.M)
 

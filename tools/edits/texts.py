@@ -8,8 +8,8 @@ from glob import glob
 
 WORD = re.compile(r"[^\W\d][\w-]*")
 GHOST_USE = re.compile(r"^\s*(?:pub )?(?:ghost )?use (Rattle\.(\w+)\.specs\.[\w.]+)\.\{([^}]*)\}", re.M)
-OWNER = re.compile(r"^(?:pub )?(?:unsafe )?(?:trait (?P<trait>\w+)|impl(?:<[^>]*>)? (?:(?:\w+::)*(?P<of>\w+)(?:<.*>)? for )?&?(?P<type>\w+))")
-HEAD = re.compile(r"^(?P<indent> *)(?:pub(?:\(\w+\))? )?(?:const )?(?:unsafe )?fn (?P<name>\w+)", re.M)
+OWNER = re.compile(r"^(?:pub )?(?:unsafe )?(?:trait (?P<trait>\w+)|impl(?:<.*?>)? (?:(?:\w+::)*(?P<of>\w+)(?:<.*>)? for )?&?(?P<type>\w+))")
+HEAD = re.compile(r"^(?P<indent> *)(?:pub(?:\(\w+\))? )?(?:final )?(?:const )?(?:unsafe )?fn (?P<name>\w+)", re.M)
 SIGNATURE = re.compile(r"^(?:(?:pub|abbrev|unfoldable|opaque|infix\w*) )*(?:record |data )?(?:pub )?([^\s:{}()\[\],]+)(?: [^:=\n]*)?:(?=\s|$)")
 
 
@@ -31,6 +31,13 @@ class Function:
     def path(self):
         return f"{self.owner}::{self.name}" if self.owner else self.name
 
+    @property
+    def body(self):
+        """What stands in its braces, where these open at the end of a line that stands as far in as its head. Clauses stand further in."""
+        indent = re.match(" *", self.text)[0]
+        parts = re.split(rf"^{indent}(?:\S.*)?\{{$", self.text, maxsplit=1, flags=re.M)
+        return parts[1] if len(parts) == 2 else ""
+
 
 def owner_of(found):
     """What a check calls a trait, or an impl: that of a trait has the type's name, with a capital, and then the trait's."""
@@ -38,15 +45,22 @@ def owner_of(found):
 
 
 def functions(text):
-    """Each function of a source text. A laid out function ends with a brace that stands as far in as its head."""
+    """Each function of a source text, laid out."""
     lines, owner = text.split("\n"), ""
     for at, line in enumerate(lines):
         head, outer = HEAD.match(line), OWNER.match(line)
         if outer:
             owner = owner_of(outer)
         if head:
-            ends = (it for it in range(at, len(lines)) if lines[it] == f"{head['indent']}}}" or it == at and line.endswith(("}", ";")))
-            yield Function(head["name"], owner if head["indent"] else "", "\n".join(lines[at : next(ends, len(lines)) + 1]))
+            yield Function(head["name"], owner if head["indent"] else "", "\n".join(lines[at : end_of(lines, at, head["indent"])]))
+
+
+def end_of(lines, at, indent):
+    """The line after a function: it ends on the line of its head, with a brace that stands as far in as that, or, where it has no body, with a semicolon."""
+    rest, braces = lines[at:], (f"{indent}}}", f"{indent}{{}}")
+    has_body = not next((it for it in rest if it.endswith(("{", ";")) or it in braces), "").endswith(";")
+    ends = (it for it, line in enumerate(rest, at) if line in braces or it == at and line.endswith("}") or not has_body and line.endswith(";"))
+    return next(ends, len(lines)) + 1
 
 
 def definitions(text):
@@ -101,7 +115,7 @@ def named_definitions(top, text, source):
 
 def deciding(top, edit):
     """What decides the edit: the functions that refuse it and those that it turns, the definitions that they name, and the edit."""
-    folder, last = f"{top}/crates/{edit.crate}", edit.function.split("::")[-1]
+    folder, last = f"{top}/crates/{edit.crate}", edit.last_name
     sources = sorted(glob(f"{folder}/src/**/*.rt", recursive=True))
     turned = [f"{folder}/{file}" for file in edit.files()]
     refusing = [it for it in turned if it.endswith(".rt") and any(fn.name == last for fn in functions(text_of(it)))] or sources
