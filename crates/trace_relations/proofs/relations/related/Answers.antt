@@ -1,4 +1,4 @@
-use Rattle.std.proofs.Common.{◌∙◌, ap, refl}
+use Rattle.std.proofs.Common.{refl, rules}
 use Rattle.trace_relations.specs.Ancestry.{parent_at}
 use Rattle.trace_relations.specs.KeptAttempts.{plain_attempts}
 use Rattle.trace_relations.proofs.Relating.{given_up_seen, hosts_seen, in_turn_seen, next_kept, parents_seen, places_seen, related_is, spans_seen, tried_seen, waiting_seen}
@@ -22,6 +22,7 @@ returns c =
     let order = c.args.timed.order.items in
     let family = c.in_ok-family.family in
     let tries = c.in_ok-tries.tries in
+    let all =
     related_is c.args.as_told c.args.spans.now c.args.timed.origin intervals references order family.parents.items family.hosts.items family.waiting.items (plain_attempts tries.attempts) (parent_at tries.attempts.next.items) tries.given_up.items
     (record {
       references_are = c.requires.references;
@@ -31,4 +32,5 @@ returns c =
       attempts_are = tried_seen c.args.as_told c.args.spans.now intervals _ order _ family.hosts.items _ family.waiting.items _ (plain_attempts tries.attempts) c.deref-3.ensures.value c.deref-5.ensures.value refl refl c.in_ok-tries.ensures.attempts;
       next_is = next_kept tries.attempts.next.items;
       given_up_are = given_up_seen c.args.as_told c.args.spans.now order _ intervals _ references _ family.parents.items _ family.waiting.items _ tries.attempts.next.items _ tries.given_up.items c.deref-5.ensures.value c.deref-3.ensures.value c.deref-4.ensures.value refl refl refl c.in_ok-tries.ensures.given_up;
-    })
+    }) in
+    search (rules, all)

@@ -14,7 +14,7 @@ pub returns-in_err-origin : goal.returns-in_err-origin
 returns-in_err-origin c =
     let fault = c.in_err-origin.field-0.0 in
     let times = c.in_ok-moved.times.items in
-    let told : times ≡ told_times c.args.as_told c.args.spans.now = ap (λ (those : Vec Times Global). those.items) c.in_ok-moved.times-is ∙ c.in_ok-moved.ensures in
+    let told : times ≡ told_times c.args.as_told c.args.spans.now = ap (λ (those : Vec Times Global). those.items) (sym c.in_ok-moved.times-is) ∙ c.in_ok-moved.ensures in
     passed_on c.args.unit c.args.as_told c.args.spans.now c.from_residual-in_err-origin.result fault c.from_residual-in_err-origin.ensures.1
     (no_origin c.args.unit c.args.as_told c.args.spans.now times fault told (subst (λ those. IsFault fault (earliest_time c.args.spans.now those)) c.deref.ensures.value c.in_err-origin.ensures))
 
@@ -23,7 +23,7 @@ returns-in_err-intervals c =
     let fault = c.in_err-intervals.field-0.0 in
     let times = c.in_ok-moved.times.items in
     let origin = c.in_ok-origin.origin in
-    let told : times ≡ told_times c.args.as_told c.args.spans.now = ap (λ (those : Vec Times Global). those.items) c.in_ok-moved.times-is ∙ c.in_ok-moved.ensures in
+    let told : times ≡ told_times c.args.as_told c.args.spans.now = ap (λ (those : Vec Times Global). those.items) (sym c.in_ok-moved.times-is) ∙ c.in_ok-moved.ensures in
     passed_on c.args.unit c.args.as_told c.args.spans.now c.from_residual-in_err-intervals.result fault c.from_residual-in_err-intervals.ensures.1
     (no_intervals c.args.unit c.args.as_told c.args.spans.now times origin fault told (ap (earliest_time c.args.spans.now) (sym c.deref.ensures.value) ∙ c.in_ok-origin.ensures)
     (subst (λ those. IsFault fault (intervals_of c.args.unit origin c.args.spans.now those)) c.deref-2.ensures.value c.in_err-intervals.ensures))
@@ -33,7 +33,7 @@ returns c =
     let times = c.in_ok-moved.times.items in
     let told = c.in_ok-intervals.intervals.items in
     let order = c.in_ok-order.order.items in
-    let are : times ≡ told_times c.args.as_told c.args.spans.now = ap (λ (those : Vec Times Global). those.items) c.in_ok-moved.times-is ∙ c.in_ok-moved.ensures in
+    let are : times ≡ told_times c.args.as_told c.args.spans.now = ap (λ (those : Vec Times Global). those.items) (sym c.in_ok-moved.times-is) ∙ c.in_ok-moved.ensures in
     record {
       told = told;
       ticks = ticks_are c.args.unit c.args.as_told c.args.spans.now times c.in_ok-origin.origin told are
