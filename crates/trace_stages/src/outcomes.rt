@@ -14,7 +14,7 @@ use std::collections::HashMap;
 
 /// How a stage ends: at which tick, and with which exception if it fails.
 #[derive(Clone, Copy, PartialEq, Eq, Debug)]
-pub(crate) struct Outcome {
+pub struct Outcome {
     pub tick: u64,
     pub failure: Option<Exception>,
 }
