@@ -7,6 +7,7 @@ use trace_import::{Attempt, GivenUp, LateCall, MovedClock, Note, NoteKind, Outli
 const DECIMALS: [u128; 6] = [100_000, 10_000, 1_000, 100, 10, 1];
 
 /// Nanoseconds, told in milliseconds.
+#[derive(Drop)]
 struct Milliseconds(i128);
 
 impl fmt::Display for Milliseconds {
@@ -31,6 +32,7 @@ impl fmt::Display for Milliseconds {
 }
 
 /// A number as a word is told: the second, the third ..
+#[derive(Drop)]
 struct Nth(usize);
 
 impl fmt::Display for Nth {

@@ -1,10 +1,11 @@
 -- The spans of a file by their traces.
 use Rattle.std.proofs.Common.{◌≡◌, ℕ, suc, ◌<◌, List, [], ◌∷◌, ◌++◌, length, get_or, set, map, Bool, true, false, cond, Option, Some, None, Ok, Err, refl, sym, ap, subst, ◌∙◌, arith}
-use Rattle.std.specs.Prelude.{◌&&◌, ◌||◌, fold, not, option_map}
+use Rattle.std.specs.Prelude.{◌==◌, ◌&&◌, ◌||◌, fold, not, option_map}
 use Rattle.std.specs.HashMap.{HashMap, get_by_text}
 use Rattle.std.specs.List.{filter, list_any}
 use Rattle.std.specs.Str.{bytes_eq}
 use Rattle.std.proofs.lemmas.Bool.{false_from_ne_true, false≢true}
+use Rattle.std.proofs.lemmas.Bool.Decides.{nat_tests}
 use Rattle.std.proofs.lemmas.List.{append-nil, length-map, map-append}
 use Rattle.std.proofs.lemmas.List.Elements.{filter-append}
 use Rattle.std.proofs.lemmas.List.Folds.{list_any-append}
@@ -245,16 +246,16 @@ at_place (own ∷ ids) spans id p default e = elim (found_by (bytes_eq own id) (
 ]
 
 -- a span goes to those of its trace
-pub one_more_span : (groups now : Groups) (spans : List Span) (span : Span) (p : ℕ) (group : Group) → AreGroups groups (with_id (ids_of spans) span.trace) spans → place_in (with_id (ids_of spans) span.trace) span.trace ≡ Some p → group ≡ get_or groups.groups.items p group → now.groups.items ≡ set groups.groups.items p (record group { spans = group.spans ++ span ∷ [] }) → now.places ≡ groups.places → AreGroups now (ids_of (spans ++ span ∷ [])) (spans ++ span ∷ [])
-one_more_span groups now spans span p group are at own added same =
+pub one_more_span : (groups : Groups) (items : List Group) (spans : List Span) (span : Span) (p : ℕ) (group : Group) → AreGroups groups (with_id (ids_of spans) span.trace) spans → place_in (with_id (ids_of spans) span.trace) span.trace ≡ Some p → group ≡ get_or groups.groups.items p group → items ≡ set groups.groups.items p (record group { spans = group.spans ++ span ∷ [] }) → (items ≡ map (group_of (spans ++ span ∷ [])) (ids_of (spans ++ span ∷ []))) × ((id : List ℕ) → get_by_text groups.places id ≡ place_in (ids_of (spans ++ span ∷ [])) id)
+one_more_span groups items spans span p group are at own added =
     let ids : with_id (ids_of spans) span.trace ≡ ids_of (spans ++ span ∷ []) = sym (ids_of_more spans span) in
     let is : group ≡ group_of spans span.trace = own ∙ ap (λ all. get_or all p group) are.0 ∙ (at_place (with_id (ids_of spans) span.trace) spans span.trace p group at).1 in
-    let items : now.groups.items ≡ map (group_of (spans ++ span ∷ [])) (with_id (ids_of spans) span.trace) =
+    let with_own : items ≡ map (group_of (spans ++ span ∷ [])) (with_id (ids_of spans) span.trace) =
     added
     ∙ ap (λ all. set all p (record group { spans = group.spans ++ span ∷ [] })) are.0
     ∙ ap (λ (own : Group). set (map (group_of spans) (with_id (ids_of spans) span.trace)) p (record own { spans = own.spans ++ span ∷ [] })) is
     ∙ sym (grown (with_id (ids_of spans) span.trace) spans span p ids at) in
-    subst (λ (own : List (List ℕ)). AreGroups now own (spans ++ span ∷ [])) ids (items, λ id. ap (λ places. get_by_text places id) same ∙ are.1 id)
+    (with_own ∙ ap (map (group_of (spans ++ span ∷ []))) ids, λ id. are.1 id ∙ ap (λ own. place_in own id) ids)
 
 -- the place of a trace is one of a group
 pub below : (groups : Groups) (ids : List (List ℕ)) (spans : List Span) (id : List ℕ) (p : ℕ) → AreGroups groups ids spans → place_in ids id ≡ Some p → p < length groups.groups.items
@@ -269,10 +270,18 @@ unfolding traces_of_bytes
 all_traces bytes told groups traces read are is =
     ap (λ r. then_on r (λ all. unless_none (traces_of all))) read ∙ ap unless_none (sym (is ∙ ap (map (trace_of told.is_cut)) are ∙ all_counted told))
 
-pub none_there : (traces : List Trace) → length traces ≡ 0 → unless_none traces ≡ Err NoTrace
-none_there [] e = refl
-none_there (trace ∷ traces) e = absurd (omega arith)
+is_zero : (n : ℕ) → (n == 0) ≡ true → n ≡ 0
+is_zero n h = grind (arith, nat_tests)
 
-pub some_there : (traces : List Trace) → 0 < length traces → unless_none traces ≡ Ok traces
-some_there [] lt = absurd (omega arith)
-some_there (trace ∷ traces) lt = refl
+zero_is : (n : ℕ) → n ≡ 0 → (n == 0) ≡ true
+zero_is n e = rw e refl
+
+-- a file without traces
+pub none_there : (traces : List Trace) (n : ℕ) → n ≡ length traces → (n == 0) ≡ true → unless_none traces ≡ Err NoTrace
+none_there [] n long e = refl
+none_there (trace ∷ traces) n long e = let none : n ≡ 0 = is_zero n e in absurd (omega arith)
+
+-- and one with some
+pub some_there : (traces : List Trace) (n : ℕ) → n ≡ length traces → (n == 0) ≡ false → unless_none traces ≡ Ok traces
+some_there [] n long e = absurd (false≢true (sym e ∙ zero_is n long))
+some_there (trace ∷ traces) n long e = refl

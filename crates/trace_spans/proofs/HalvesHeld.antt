@@ -1,5 +1,5 @@
 -- The set of servers' halves, as spans are read one after another.
-use Rattle.std.proofs.Common.{◌≡◌, ℕ, List, [], ◌∷◌, ◌++◌, length, Bool, true, false, not, true≢false, refl, sym, ap, subst, ◌∙◌, string_bytes, arith}
+use Rattle.std.proofs.Common.{◌≡◌, ℕ, List, [], ◌∷◌, ◌++◌, length, Bool, true, false, not, Result, Ok, Err, refl, sym, ap, ◌∙◌, string_bytes, arith}
 use Rattle.std.specs.Prelude.{◌&&◌, ◌||◌, Some}
 use Rattle.std.specs.HashSet.{HashSet, PutsKey, contains_by}
 use Rattle.std.specs.List.{list_any}
@@ -10,8 +10,11 @@ use Rattle.std.proofs.lemmas.List.Folds.{list_any-append}
 use Rattle.std.proofs.lemmas.List.Sorted.{list_any-IsPermutation}
 use Rattle.std.proofs.lemmas.Slice.Eq.{bytes_eq-Decides}
 use Rattle.trace_spans.specs.declared.zipkin.halves.Half.{Half}
-use Rattle.trace_spans.specs.Halves.{ToldHalf, has_half, is_half}
+use Rattle.serde_json.specs.Data.{Items}
+use Rattle.trace_spans.specs.declared.fault.Fault.{Fault}
+use Rattle.trace_spans.specs.Halves.{ToldHalf, halves_of, has_half, is_half}
 use Rattle.trace_spans.specs.HalfMarks.{AreHalves, is_held, told_of}
+use Rattle.trace_spans.specs.Members.{then_on}
 use Rattle.trace_spans.proofs.Marking.{any_same}
 
 abbrev pub same_half : Half → Half → Bool
@@ -73,6 +76,17 @@ none_held halves known trace id service are none = none_in halves.keys none ∙ 
     none_in : (keys : List Half) → length keys ≡ 0 → false ≡ list_any (is_held trace id service) keys
     none_in [] e = refl
     none_in (key ∷ keys) e = absurd (omega arith)
+
+-- no halves, before any span was read
+pub none_yet : {S : Type 0} (halves : HashSet Half S) → halves.keys ≡ [] → AreHalves halves []
+none_yet halves none = λ trace id service. ap (λ keys. list_any (is_held trace id service) keys) none
+
+nothing_before : (r : Result (List ToldHalf) Fault) → r ≡ then_on r (λ rest. Ok ([] ++ rest))
+nothing_before (Ok halves) = refl
+nothing_before (Err fault) = refl
+
+pub none_read : {S : Type 0} (halves : HashSet Half S) (spans : Items) → halves.keys ≡ [] → (known : List ToldHalf) × (halves_of spans ≡ then_on (halves_of spans) (λ rest. Ok (known ++ rest))) × AreHalves halves known
+none_read halves spans none = ([], nothing_before (halves_of spans), none_yet halves none)
 
 -- a half is looked up by its texts
 pub looked_up : {S : Type 0} (halves : HashSet Half S) (half : Half) (known : List ToldHalf) (trace id service : List ℕ) → AreHalves halves known → string_bytes half.trace ≡ trace → string_bytes half.id ≡ id → string_bytes half.service ≡ service → contains_by (same_half half) halves ≡ has_half known trace id service

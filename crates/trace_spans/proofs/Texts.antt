@@ -175,18 +175,18 @@ unfolding json_of
 json_fault line fault e = only_json (read line) fault e
 
 unread : (fault : Fault) (line : List ℕ) (f : Texts → Result Told Fault) → IsFault fault (json_of line) → (fault ≡ Json → ⊥) → IsFault fault (then_on (last_text true line) f)
-unread Memory line f h no = tt
-unread TooLong line f h no = absurd (no (json_fault line TooLong h))
-unread Json line f h no = absurd (no refl)
-unread (NotATrace strange) line f h no = absurd (no (json_fault line (NotATrace strange) h))
-unread (Shape member) line f h no = absurd (no (json_fault line (Shape member) h))
-unread (SeveralTraces traces) line f h no = absurd (no (json_fault line (SeveralTraces traces) h))
-unread NoTrace line f h no = absurd (no (json_fault line NoTrace h))
+unread Memory line f h other_than = tt
+unread TooLong line f h other_than = absurd (other_than (json_fault line TooLong h))
+unread Json line f h other_than = absurd (other_than refl)
+unread (NotATrace strange) line f h other_than = absurd (other_than (json_fault line (NotATrace strange) h))
+unread (Shape member) line f h other_than = absurd (other_than (json_fault line (Shape member) h))
+unread (SeveralTraces traces) line f h other_than = absurd (other_than (json_fault line (SeveralTraces traces) h))
+unread NoTrace line f h other_than = absurd (other_than (json_fault line NoTrace h))
 
 -- the last line where it is no JSON and is not cut
 pub last_unread : (fault : Fault) (some : Bool) (line : List ℕ) (f : Texts → Result Told Fault) → is_blank line ≡ false → IsFault fault (json_of line) → (some ≡ true → fault ≡ Json → ⊥) → IsFault fault (then_on (last_text some line) f)
-last_unread fault true line f e h no = unread fault line f h (no refl)
-last_unread fault false line f e h no = last_refused fault line f e h
+last_unread fault true line f e h other_than = unread fault line f h (other_than refl)
+last_unread fault false line f e h other_than = last_refused fault line f e h
 
 -- one text alone
 told_alone_as : (r : Result (List Span) Fault) (spans : List Span) → then_on r (λ more. Ok ([] ++ more)) ≡ Ok spans → then_on r (λ all. Ok (told_with false all)) ≡ Ok (told_with false spans)

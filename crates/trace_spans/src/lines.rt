@@ -1,11 +1,11 @@
 //! A text of which each line is a JSON text.
-ghost use Rattle.std.specs.Prelude.{◌≡◌, List, ◌∷◌, IfOk, false};
+ghost use Rattle.std.specs.Prelude.{◌≡◌, ℕ, List, ◌∷◌, IfOk, true, false};
 ghost use Rattle.serde_json.specs.Data.{Data};
 ghost use Rattle.trace_spans.specs.Lines.{ReadsOn, spans_after, told_after};
 ghost use Rattle.trace_spans.specs.Members.{then_on};
-ghost use Rattle.trace_spans.specs.Reads.{IsRead};
+ghost use Rattle.trace_spans.specs.Reads.{IsFault, IsRead};
 ghost use Rattle.trace_spans.specs.Spans.{told_by_texts};
-ghost use Rattle.trace_spans.specs.Texts.{last_text, lines_of, nothing_more, texts_of_lines};
+ghost use Rattle.trace_spans.specs.Texts.{is_blank, json_of, last_text, lines_of, nothing_more, texts_of_lines, with_text};
 
 use crate::fault::Fault;
 use crate::formats::add_text;
@@ -71,7 +71,43 @@ fn read_line(
     Ok(with_text(alloc, so_far, &document.root(), number)?)
 }
 
-/// What the lines tell with the last one, which no line end ends; of a file that is still written it may be cut.
+/// What the lines tell with the last one, which is a text.
+fn last_told(
+    alloc: Global,
+    so_far: Reading,
+    text: &Tree<'_, '_>,
+    number: usize,
+) -> Result<Told, Fault>
+    ensures { IsRead result (told_after so_far (with_text text.now (nothing_more false))) }
+{
+    let reading = with_text(alloc, so_far, text, number)?;
+    told(reading, false)
+}
+
+/// What the lines tell with the last one, which is blank: there have to be some before it.
+fn told_before(so_far: Reading, some_before: bool) -> Result<Told, Fault>
+    ensures { (line : List ℕ) → is_blank line ≡ true → result ≡ then_on (last_text some_before line) (told_after so_far) }
+{
+    if some_before {
+        return told(so_far, false);
+    }
+    Err(Fault::Json)
+}
+
+/// What the lines tell with the last one, which is no text for that reason; of a file that is still written it may be cut.
+fn cut_off(fault: Fault, some_before: bool, so_far: Reading) -> Result<Told, Fault>
+    ensures { (line : List ℕ) → is_blank line ≡ false → IsFault fault (json_of line) → IsRead result (then_on (last_text some_before line) (told_after so_far)) }
+{
+    if !some_before {
+        return Err(fault);
+    }
+    match fault {
+        Fault::Json => told(so_far, true),
+        fault => Err(fault),
+    }
+}
+
+/// What the lines tell with the last one, which no line end ends.
 fn read_last(
     alloc: Global,
     line: &str,
@@ -83,16 +119,11 @@ fn read_last(
     ensures { IsRead result (then_on (last_text some_before line.now) (told_after so_far)) }
 {
     if is_blank(line) {
-        return if some_before {
-            told(so_far, false)
-        } else {
-            Err(Fault::Json)
-        };
+        return told_before(so_far, some_before);
     }
     match read_json(alloc, line, room) {
-        Ok(document) => told(with_text(alloc, so_far, &document.root(), number)?, false),
-        Err(Fault::Json) if some_before => told(so_far, true),
-        Err(fault) => Err(fault),
+        Ok(document) => last_told(alloc, so_far, &document.root(), number),
+        Err(fault) => cut_off(fault, some_before, so_far),
     }
 }
 

@@ -1,7 +1,7 @@
 //! All traces of a file.
-ghost use Rattle.std.specs.Prelude.{◌≡◌, List, [], ◌∷◌, ◌++◌, IfOk, OnOk, Some};
+ghost use Rattle.std.specs.Prelude.{◌≡◌, List, [], ◌∷◌, ◌++◌, map, IfOk, OnOk, Some};
 ghost use Rattle.trace_spans.specs.declared.span.Span.{Span};
-ghost use Rattle.trace_spans.specs.Groups.{AreGroups, place_in};
+ghost use Rattle.trace_spans.specs.Groups.{AreGroups, place_in, trace_of};
 ghost use Rattle.trace_spans.specs.Reads.{IsReadAs};
 ghost use Rattle.trace_spans.specs.Traces.{ids_of, traces_of_bytes, with_id};
 
@@ -9,7 +9,6 @@ use crate::choice::spans_of_trace;
 use crate::fault::Fault;
 use crate::span::{Span, Spans};
 use crate::text::Text;
-use crate::told::Told;
 use crate::trace::{Trace, read_told};
 use std::alloc::{AllocError, Global};
 use std::collections::HashMap;
@@ -62,19 +61,55 @@ impl Groups {
         ensures { (spans : List Span) → AreGroups self.old (ids_of spans) spans → OnOk result (AreGroups self.new (ids_of (spans ++ span ∷ [])) (spans ++ span ∷ [])) }
     {
         let place = self.place_of(alloc, span.trace.as_str())?;
-        if let Some(group) = self.groups.get_mut(place) {
-            group.spans.push(span)?;
+        match self.groups.get_mut(place) {
+            Some(group) => {
+                group.spans.push(span)?;
+                Ok(())
+            }
+            None => Ok(()),
         }
-        Ok(())
     }
 }
 
-/// Adds a trace at the end.
-fn add_trace(traces: &mut Vec<Trace>, trace: Trace) -> Result<(), AllocError>
-    ensures { OnOk result (traces.new.items ≡ traces.old.items ++ trace ∷ []) }
+/// The spans of a file by their traces.
+fn grouped(alloc: Global, spans: Spans) -> Result<Groups, AllocError>
+    ensures { IfOk result (λ groups. AreGroups groups (ids_of spans) spans) }
 {
-    traces.push(trace)?;
+    let mut groups = Groups::new(alloc);
+    for span in spans.into_vec() {
+        groups.add(alloc, span)?;
+    }
+    Ok(groups)
+}
+
+/// Adds the trace of a group at the end.
+fn add_trace(
+    alloc: Global,
+    traces: &mut Vec<Trace>,
+    group: Group,
+    is_cut: bool,
+) -> Result<(), AllocError>
+    ensures { OnOk result (traces.new.items ≡ traces.old.items ++ trace_of is_cut group ∷ []) }
+{
+    let Group { trace, spans } = group;
+    let spans = spans_of_trace(alloc, &trace, spans)?;
+    traces.push(Trace {
+        id: trace,
+        spans,
+        is_cut,
+    })?;
     Ok(())
+}
+
+/// The traces of groups.
+fn counted(alloc: Global, groups: Vec<Group>, is_cut: bool) -> Result<Vec<Trace>, AllocError>
+    ensures { IfOk result (λ traces. traces.items ≡ map (trace_of is_cut) groups.items) }
+{
+    let mut traces = Vec::new(alloc);
+    for group in groups {
+        add_trace(alloc, &mut traces, group, is_cut)?;
+    }
+    Ok(traces)
 }
 
 /// All traces of a file, in the order of their first spans, each with its spans but for repeats.
@@ -82,21 +117,9 @@ fn add_trace(traces: &mut Vec<Trace>, trace: Trace) -> Result<(), AllocError>
 pub fn read_traces(alloc: Global, bytes: &[u8]) -> Result<Vec<Trace>, Fault>
     ensures { IsReadAs (λ traces. traces.items) result (traces_of_bytes bytes.now) }
 {
-    let Told { spans, is_cut } = read_told(alloc, bytes)?;
-    let mut groups = Groups::new(alloc);
-    for span in spans.into_vec() {
-        groups.add(alloc, span)?;
-    }
-    let mut traces = Vec::new(alloc);
-    for Group { trace, spans } in groups.groups {
-        let spans = spans_of_trace(alloc, &trace, spans)?;
-        let trace = Trace {
-            id: trace,
-            spans,
-            is_cut,
-        };
-        add_trace(&mut traces, trace)?;
-    }
+    let told = read_told(alloc, bytes)?;
+    let groups = grouped(alloc, told.spans)?;
+    let traces = counted(alloc, groups.groups, told.is_cut)?;
     if traces.is_empty() {
         return Err(Fault::NoTrace);
     }

@@ -1,5 +1,5 @@
 //! The servers' halves of spans that client and server share.
-ghost use Rattle.std.specs.Prelude.{◌≡◌, ◌++◌, IfOk, List, OnOk, Some};
+ghost use Rattle.std.specs.Prelude.{◌≡◌, ◌++◌, IfOk, List, OnOk};
 ghost use Rattle.trace_spans.specs.Halves.{ToldHalf, half_of, has_half, is_shared_by};
 ghost use Rattle.trace_spans.specs.HalfMarks.{AreHalves, HasHalves, told_of};
 ghost use Rattle.trace_spans.specs.Reads.{IsReadAs};
@@ -59,12 +59,17 @@ fn half_of(alloc: Global, span: &Tree<'_, '_>) -> Result<Option<Half>, Fault>
     }))
 }
 
-/// Puts a half into a set of them.
-fn hold(halves: &mut HashSet<Half>, half: Half) -> Result<(), AllocError>
-    ensures { (known : List ToldHalf) → AreHalves halves.old known → OnOk result (AreHalves halves.new (known ++ told_of (Some half))) }
+/// Puts a half into a set of them, if there is one.
+fn hold(halves: &mut HashSet<Half>, half: Option<Half>) -> Result<(), AllocError>
+    ensures { (known : List ToldHalf) → AreHalves halves.old known → OnOk result (AreHalves halves.new (known ++ told_of half)) }
 {
-    halves.insert(half)?;
-    Ok(())
+    match half {
+        Some(half) => {
+            halves.insert(half)?;
+            Ok(())
+        }
+        None => Ok(()),
+    }
 }
 
 impl Halves {
@@ -74,9 +79,8 @@ impl Halves {
     {
         let mut all = HashSet::new(alloc);
         'spans: while let Some(span) = spans.next() {
-            if let Some(half) = half_of(alloc, &span)? {
-                hold(&mut all, half)?;
-            }
+            let half = half_of(alloc, &span)?;
+            hold(&mut all, half)?;
         }
         Ok(Halves { all })
     }

@@ -1,5 +1,13 @@
+use Rattle.std.proofs.Common.{List, subst, sym, ◌∙◌, ap}
+use Rattle.std.proofs.lemmas.List.{append-nil}
+use Rattle.trace_spans.specs.Halves.{ToldHalf}
+use Rattle.trace_spans.specs.HalfMarks.{AreHalves, told_of}
 use Rattle.trace_spans.proofs.HalvesHeld.{inserted}
 use Rattle.trace_spans.proofs.zipkin.halves.hold.Goals as goal
 
-pub returns : goal.returns
-returns c = λ known are. inserted c.args.halves.now c.insert.new.self c.args.half known c.in_ok-insert.field-0 are c.in_ok-insert.ensures.added c.in_ok-insert.ensures.keys
+pub returns-in-Some : goal.returns-in-Some
+returns-in-Some c = λ known are.
+    rw c.in-Some.is (inserted c.args.halves.now c.insert.new.self c.in-Some.half known c.in_ok-insert.field-0 are c.in_ok-insert.ensures.added c.in_ok-insert.ensures.keys)
+
+pub returns-in-None : goal.returns-in-None
+returns-in-None c = λ known are. rw (c.in-None.is, append-nil known) are

@@ -1,10 +1,13 @@
-use Rattle.std.proofs.Common.{sym, ap, ◌∙◌}
-use Rattle.serde_json.specs.Data.{put}
+use Rattle.std.proofs.Common.{refl, sym, ap, ◌∙◌}
+use Rattle.serde_json.specs.Data.{no_members, put}
 use Rattle.json_trees.specs.Named.{put_all}
 use Rattle.trace_spans.specs.Members.{unless_null}
 use Rattle.trace_spans.specs.Tags.{with_tag}
 use Rattle.trace_spans.proofs.MembersFound.{tags_among-put}
 use Rattle.trace_spans.proofs.zipkin.span.tags_among.Goals as goal
+
+pub members-init : goal.members-init
+members-init c = (no_members, refl, c.none-tags.ensures)
 
 pub members-preserved : goal.members-preserved
 members-preserved c =
