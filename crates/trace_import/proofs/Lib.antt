@@ -1,6 +1,6 @@
 pub mod Clocks
-pub mod Each
 pub mod Gaining
 pub mod Made
 pub mod Names
+pub mod Outcomes
 pub mod Writing
