@@ -3,4 +3,3 @@ pub mod Gaining
 pub mod Made
 pub mod Names
 pub mod Outcomes
-pub mod Writing
