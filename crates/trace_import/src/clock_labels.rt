@@ -1,5 +1,6 @@
 //! The clocks that are moved, as labels of a recording.
 ghost use Rattle.std.specs.Prelude.{◌≡◌, IfOk, map, slice_get, string_bytes};
+ghost use Rattle.std.specs.Fmt.{signed_decimal};
 ghost use Rattle.recording_text.specs.Labels.{plain_label};
 ghost use Rattle.trace_import.specs.ClockLabels.{plain_clock, told_clock, told_clocks};
 
@@ -26,8 +27,15 @@ fn clock_told(alloc: Global, spans: &[Span], place: usize) -> Result<String, All
     }
 }
 
+/// By how many nanoseconds a clock is moved.
+fn by_told(alloc: Global, moved: Moved) -> Result<String, AllocError>
+    ensures { IfOk result (λ text. string_bytes text ≡ signed_decimal moved.by) }
+{
+    let by = moved.by;
+    format!(in alloc; "{by}")
+}
+
 /// The clocks that are moved, as they are told, in the order of their texts; of several that are told alike the last.
-#[tactic(auto, using(crate::proofs::Clocks::put_in))]
 pub(crate) fn clock_texts(
     alloc: Global,
     spans: &[Span],
@@ -37,8 +45,7 @@ pub(crate) fn clock_texts(
 {
     let mut by_text = BTreeMap::new(alloc);
     for clock in moved {
-        let by = clock.by;
-        let by = format!(in alloc; "{by}")?;
+        let by = by_told(alloc, *clock)?;
         by_text.insert(clock_told(alloc, spans, clock.clock)?, by)?;
     }
     let mut texts = Vec::new(alloc);
