@@ -157,15 +157,6 @@ related_is as_told spans origin intervals references order parents hosts waiting
     ∙ ap (λ those. made origin intervals (all_references spans) order (parents_of spans intervals) (hosts_of intervals (parents_of spans intervals)) (waiting_parents spans intervals (all_references spans) (parents_of spans intervals))
     (tried_of as_told spans intervals order (hosts_of intervals (parents_of spans intervals)) (waiting_parents spans intervals (all_references spans) (parents_of spans intervals))) those) g
 
--- the origin as it is kept
-pub related_from : (as_told : AsTold) (spans : List Span) (kept origin : ℤ) (intervals : List Interval) (references : List (List ℕ × Bool)) (order : List ℕ) (parents : List (Option ℕ)) (hosts : List Host) (waiting : List (Option ℕ)) (attempts : Attempts) (next : ℕ → Option ℕ) (given_up : List (Option ℕ))
-    → kept ≡ origin
-    → AreRelated as_told spans intervals references order parents hosts waiting attempts next given_up
-    → ◌≡◌ {A = PlainRelations} (record { origin = kept; intervals = intervals; references = references; order = order; parents = parents; hosts = hosts; waiting = waiting; attempts = attempts; given_up = given_up }) (relations_with as_told spans origin intervals order)
-unfolding made
-related_from as_told spans kept origin intervals references order parents hosts waiting attempts next given_up same are =
-    ap (λ z. made z intervals references order parents hosts waiting attempts given_up) same ∙ related_is as_told spans origin intervals references order parents hosts waiting attempts next given_up are
-
 known_or : (o : Option (Option ℕ)) → known o ≡ unwrap_or o None
 known_or None = refl
 known_or (Some place) = refl
