@@ -1,4 +1,8 @@
-use Rattle.std.proofs.Common.{◌≡◌, ◌∙◌, ap, arith, subst, sym}
+use Rattle.std.proofs.Common.{◌≡◌, ◌∙◌, ap, arith, rules, subst, sym}
+use mir.Syntax.{w128}
+use mir.Val.{SFits, of_z, to_z}
+use Rattle.std.proofs.lemmas.Int.{to_z-of_z}
+use Rattle.std.specs.Prelude.{Ok}
 use Rattle.std.proofs.lemmas.List.{with_items_is}
 use Rattle.trace_relations.specs.ByStart.{AreByStart}
 use Rattle.trace_relations.specs.Reads.{IsFault}
@@ -20,22 +24,29 @@ returns-in_err-intervals c =
     let fault = c.in_err-intervals.field-0.0 in
     let times = c.in_ok-moved.field-0.times.items in
     let origin = c.in_ok-origin.origin in
+    let fits : SFits w128 origin = search rules in
+    let same = to_z-of_z w128 origin fits in
     let told : times ≡ told_times c.args.as_told c.args.spans.now = c.in_ok-moved.ensures.times in
     passed_on c.args.unit c.args.as_told c.args.spans.now c.from_residual-in_err-intervals.result fault c.from_residual-in_err-intervals.ensures.1
     (no_intervals c.args.unit c.args.as_told c.args.spans.now times origin fault told (ap (earliest_time c.args.spans.now) (sym c.deref.ensures.value) ∙ c.in_ok-origin.ensures)
-    (subst (λ those. IsFault fault (intervals_of c.args.unit origin c.args.spans.now those)) c.deref-2.ensures.value c.in_err-intervals.ensures))
+    (subst (λ z. IsFault fault (intervals_of c.args.unit z c.args.spans.now times)) same
+    (subst (λ those. IsFault fault (intervals_of c.args.unit (to_z w128 (of_z w128 origin)) c.args.spans.now those)) c.deref-2.ensures.value c.in_err-intervals.ensures)))
 
 pub returns : goal.returns
 returns c =
     let times = c.in_ok-moved.field-0.times.items in
+    let origin = c.in_ok-origin.origin in
+    let fits : SFits w128 origin = search rules in
+    let same = to_z-of_z w128 origin fits in
+    let kept = to_z w128 (of_z w128 origin) in
     let told = c.in_ok-intervals.intervals.items in
     let order = c.in_ok-order.order.items in
     let are : times ≡ told_times c.args.as_told c.args.spans.now = c.in_ok-moved.ensures.times in
     record {
       told = told;
-      ticks = ticks_are c.args.unit c.args.as_told c.args.spans.now times c.in_ok-origin.origin told are
-          (ap (earliest_time c.args.spans.now) (sym c.deref.ensures.value) ∙ c.in_ok-origin.ensures)
-          (ap (intervals_of c.args.unit c.in_ok-origin.origin c.args.spans.now) (sym c.deref-2.ensures.value) ∙ c.in_ok-intervals.ensures);
+      ticks = ticks_are c.args.unit c.args.as_told c.args.spans.now times kept told are
+          (subst (λ z. earliest_time c.args.spans.now times ≡ Ok z) (sym same) (ap (earliest_time c.args.spans.now) (sym c.deref.ensures.value) ∙ c.in_ok-origin.ensures))
+          (ap (intervals_of c.args.unit kept c.args.spans.now) (sym c.deref-2.ensures.value) ∙ c.in_ok-intervals.ensures);
       by_start = subst (λ those. AreByStart those order) c.deref-3.ensures.value c.in_ok-order.ensures;
       moved = c.in_ok-moved.ensures.moved;
       ended_with = with_items_is c.in_ok-intervals.intervals c.late_ends_of.new.intervals (omega arith) ∙ c.in_ok-late.ensures
