@@ -4,14 +4,16 @@ use Rattle.trace_spans.specs.declared.span.Span.{Span}
 use Rattle.trace_relations.specs.declared.as_told.AsTold.{AsTold}
 use Rattle.trace_relations.specs.declared.hosts.Host.{Host}
 use Rattle.trace_relations.specs.declared.moment.Interval.{Interval}
+use Rattle.trace_relations.specs.declared.placing.Moved.{Moved}
 use Rattle.trace_relations.specs.declared.times.Times.{Times}
 use Rattle.trace_relations.specs.Attempts.{Attempts, attempts_of, tried_once}
 use Rattle.trace_relations.specs.GivenUp.{Called, all_given_up}
 use Rattle.trace_relations.specs.LateEnds.{with_callers_ends}
-use Rattle.trace_relations.specs.Moves.{all_moves}
+use Rattle.trace_relations.specs.Moves.{all_moves, moved_clocks}
 use Rattle.trace_relations.specs.Parents.{all_references}
-use Rattle.trace_relations.specs.Relations.{calls_of, ended, given_up_of, told_times, tried_of}
+use Rattle.trace_relations.specs.Relations.{calls_of, ended, given_up_of, moved_of, told_times, tried_of}
 use Rattle.trace_relations.specs.Times.{times_of}
+use Rattle.trace_relations.proofs.Clocked.{none_told}
 
 chosen : {X : Type 0} (b : Bool) (x y : X) → b ≡ true → x ≡ cond b x y
 chosen b x y is = sym (ap (λ c. cond c x y) is)
@@ -25,6 +27,12 @@ times_told as_told spans times told are = are ∙ ap (λ (moves : ℕ → ℤ). 
 
 pub times_found : (as_told : AsTold) (spans : List Span) (times : List Times) → as_told.clocks ≡ false → times ≡ times_of (all_moves spans) spans → times ≡ told_times as_told spans
 times_found as_told spans times found are = are ∙ ap (λ (moves : ℕ → ℤ). times_of moves spans) (passed_over as_told.clocks (λ place. pos 0) (all_moves spans) found)
+
+pub moved_told : (as_told : AsTold) (spans : List Span) (moved : List Moved) → as_told.clocks ≡ true → moved ≡ [] → moved ≡ moved_of as_told spans
+moved_told as_told spans moved told none = none ∙ sym (none_told spans) ∙ ap (λ (moves : ℕ → ℤ). moved_clocks spans moves) (chosen as_told.clocks (λ place. pos 0) (all_moves spans) told)
+
+pub moved_found : (as_told : AsTold) (spans : List Span) (moved : List Moved) → as_told.clocks ≡ false → moved ≡ moved_clocks spans (all_moves spans) → moved ≡ moved_of as_told spans
+moved_found as_told spans moved found are = are ∙ ap (λ (moves : ℕ → ℤ). moved_clocks spans moves) (passed_over as_told.clocks (λ place. pos 0) (all_moves spans) found)
 
 -- ends that are left, or cut
 pub ends_told : (as_told : AsTold) (spans : List Span) (order : List ℕ) (intervals : List Interval) → as_told.clocks ≡ true → intervals ≡ ended as_told spans order intervals

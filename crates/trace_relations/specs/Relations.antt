@@ -1,7 +1,5 @@
 -- How the spans of a trace stand to each other.
-use Rattle.std.specs.Prelude.{◌≡◌, ◌≤◌, ℕ, ℤ, pos, List, [], ◌∷◌, ◌&&◌, Bool, not, filter, length, map, nat_eq, nat_lt, if◌then◌else◌, Option, None, Result, Ok, Err, slice_get, unwrap_or}
-use Rattle.std.specs.List.{range_with_len}
-use Rattle.std.specs.Ordering.{int_eq}
+use Rattle.std.specs.Prelude.{◌≡◌, ◌≤◌, ℕ, ℤ, pos, List, Bool, length, map, nat_lt, if◌then◌else◌, Option, None, Result, Ok, Err, slice_get}
 use Rattle.trace_spans.specs.declared.span.Span.{Span}
 use Rattle.trace_relations.specs.declared.as_told.AsTold.{AsTold}
 use Rattle.trace_relations.specs.declared.fault.RelationsFault.{RelationsFault}
@@ -17,11 +15,10 @@ use Rattle.trace_relations.specs.Ancestry.{known, most_spans, without_circles}
 use Rattle.trace_relations.specs.Attempts.{Attempts, CallsOf, attempts_of, caller_of, tried_once}
 use Rattle.trace_relations.specs.ByStart.{AreByStart}
 use Rattle.trace_relations.specs.GivenUp.{Called, all_given_up}
-use Rattle.trace_relations.specs.ClockNumbers.{clock_at}
 use Rattle.trace_relations.specs.Hosts.{hosts_of}
 use Rattle.trace_relations.specs.KeptAttempts.{plain_attempts}
 use Rattle.trace_relations.specs.LateEnds.{with_callers_ends}
-use Rattle.trace_relations.specs.Moves.{all_moves}
+use Rattle.trace_relations.specs.Moves.{all_moves, moved_clocks}
 use Rattle.trace_relations.specs.Parents.{all_references}
 use Rattle.trace_relations.specs.Reads.{IsFault}
 use Rattle.trace_relations.specs.Ticks.{earliest_time, intervals_of, then_on}
@@ -64,16 +61,9 @@ parent_meant references = slice_get references.0 0
 abbrev pub moves_of : AsTold → List Span → ℕ → ℤ
 moves_of as_told spans = if as_told.clocks then (λ place. pos 0) else all_moves spans
 
--- whether the clock that the span at a place is the first to have is moved
-abbrev pub is_moved : AsTold → List Span → ℕ → Bool
-is_moved as_told spans place = nat_eq (clock_at spans place) place && not (int_eq (moves_of as_told spans place) (pos 0))
-
-abbrev pub moved_at : AsTold → List Span → ℕ → Moved
-moved_at as_told spans place = record { clock = place; by = moves_of as_told spans place }
-
 -- the clocks that are moved, by the first spans that have them, and by how much
 abbrev pub moved_of : AsTold → List Span → List Moved
-moved_of as_told spans = map (moved_at as_told spans) (filter (is_moved as_told spans) (range_with_len 0 (length spans)))
+moved_of as_told spans = moved_clocks spans (moves_of as_told spans)
 
 abbrev pub told_times : AsTold → List Span → List Times
 told_times as_told spans = times_of (moves_of as_told spans) spans

@@ -6,7 +6,7 @@ ghost use Rattle.trace_relations.specs.KeptAttempts.{plain_attempts};
 ghost use Rattle.trace_relations.specs.KeptCalled.{HasAllPlaces, ParentsAreSpans, called_with};
 ghost use Rattle.trace_relations.specs.KeptRelations.{AreTries, AreWithin, HasAll, IsFamily};
 ghost use Rattle.trace_relations.specs.Parents.{all_references};
-ghost use Rattle.trace_relations.specs.Relations.{AreRelations, IsTimed, ended, given_up_of, parent_meant, plain, relations_with, told_times, tried_of};
+ghost use Rattle.trace_relations.specs.Relations.{AreRelations, IsTimed, ended, given_up_of, moved_of, parent_meant, plain, relations_with, told_times, tried_of};
 
 use crate::as_told::AsTold;
 use crate::attempts::{Attempts, Calls, attempts_of, tried_once};
@@ -74,7 +74,8 @@ fn times_of(
 ) -> Result<Placed, AllocError>
     requires count { length spans.now ≤ most_spans }
     requires references { references.now ≡ all_references spans.now }
-    ensures { IfOk result (λ placed. placed.times.items ≡ told_times as_told spans.now) }
+    ensures times { IfOk result (λ placed. placed.times.items ≡ told_times as_told spans.now) }
+    ensures moved { IfOk result (λ placed. placed.moved.items ≡ moved_of as_told spans.now) }
 {
     if as_told.clocks {
         let times = times_as_told(alloc, spans)?;
@@ -267,7 +268,8 @@ fn related(
     requires references { references.items ≡ all_references spans.now }
     requires order { AreByStart timed.intervals.items timed.order.items }
     requires count { length timed.intervals.items ≡ length spans.now }
-    ensures { IfOk result (λ relations. plain relations ≡ relations_with as_told spans.now timed.origin timed.intervals.items timed.order.items) }
+    ensures related { IfOk result (λ relations. plain relations ≡ relations_with as_told spans.now timed.origin timed.intervals.items timed.order.items) }
+    ensures moved { IfOk result (λ relations. relations.moved.items ≡ timed.moved.items) }
 {
     let family = family_of(alloc, spans, &timed.intervals, &references)?;
     let tries = tries_of(

@@ -15,8 +15,8 @@ tries_of-requires-clause-parents c =
     spans_seen c.args.spans.now c.args.timed.intervals.items c.args.references.items c.in_ok-family.family.parents.items _ c.requires.references refl
     (parents_seen c.args.timed.intervals.items _ c.args.references.items _ _ _ c.in_ok-family.family.parents.items c.deref-2.ensures.value c.deref.ensures.value refl refl c.in_ok-family.ensures.parents)
 
-pub returns : goal.returns
-returns c =
+pub returns-clause-related : goal.returns-clause-related
+returns-clause-related c =
     let intervals = c.args.timed.intervals.items in
     let references = c.args.references.items in
     let order = c.args.timed.order.items in

@@ -21,6 +21,7 @@ returns c = (
     c.in_ok-timed.timed.order.items,
     c.in_ok-timed.ensures.ticks,
     c.in_ok-timed.ensures.by_start,
-    c.in_ok-relations.ensures ∙ ap (λ intervals. relations_with c.args.as_told c.args.spans.now c.in_ok-timed.timed.origin intervals c.in_ok-timed.timed.order.items) c.in_ok-timed.ensures.ended_with,
+    c.in_ok-relations.ensures.related ∙ ap (λ intervals. relations_with c.args.as_told c.args.spans.now c.in_ok-timed.timed.origin intervals c.in_ok-timed.timed.order.items) c.in_ok-timed.ensures.ended_with,
   ),
+  c.in_ok-relations.ensures.moved ∙ c.in_ok-timed.ensures.moved,
 )
