@@ -1,4 +1,5 @@
 use Rattle.std.proofs.Common.{◌≡◌, ◌<◌, ℕ, List, length, Some, set, ap, subst, arith}
+use Rattle.std.proofs.lemmas.Bool.{false≢true}
 use Rattle.trace_spans.specs.declared.span.Span.{Span}
 use Rattle.trace_spans.specs.Groups.{AreGroups, place_in}
 use Rattle.trace_spans.specs.Traces.{ids_of, with_id}
@@ -19,4 +20,4 @@ returns-in-None c = λ spans are.
     let place = c.in_ok-place.place in
     let kept = subst (λ (id : List ℕ). AreGroups groups (with_id (ids_of spans) id) spans × (place_in (with_id (ids_of spans) id) id ≡ Some place)) c.as_str.ensures (c.in_ok-place.ensures spans are) in
     let lt : place < length groups.groups.items = below groups (with_id (ids_of spans) c.args.span.trace) spans c.args.span.trace place kept.0 kept.1 in
-    absurd (c.in-None.ensures.variant.1 (omega (arith, lt, groups.groups.ok.0)))
+    absurd (false≢true (c.in-None.ensures.variant.1 (omega (arith, lt, groups.groups.ok.0))))
