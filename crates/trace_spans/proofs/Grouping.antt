@@ -285,3 +285,8 @@ none_there (trace ∷ traces) n long e = let none : n ≡ 0 = is_zero n e in abs
 pub some_there : (traces : List Trace) (n : ℕ) → n ≡ length traces → (n == 0) ≡ false → unless_none traces ≡ Ok traces
 some_there [] n long e = absurd (false≢true (sym e ∙ zero_is n long))
 some_there (trace ∷ traces) n long e = refl
+
+-- of a list that is empty
+pub none_left : (spans : List Span) → length spans ≡ 0 → spans ≡ []
+none_left [] e = refl
+none_left (span ∷ spans) e = absurd (omega arith)

@@ -15,6 +15,7 @@ pub mod JaegerMembers
 pub mod Keys
 pub mod Kinds
 pub mod Lines
+pub mod Listing
 pub mod Marks
 pub mod Members
 pub mod MemberTexts

@@ -1,22 +1,45 @@
 //! The traces of a file as a table.
+ghost use Rattle.std.specs.Prelude.{◌≡◌, IfOk, map};
+ghost use Rattle.trace_spans.specs.Listing.{AreByStart, IsListed};
+ghost use Rattle.trace_spans.specs.Summaries.{summary_of};
+ghost use Rattle.trace_spans.specs.Traces.{traces_of_bytes};
+
 use crate::fault::Fault;
 use crate::rfc3339::Instant;
 use crate::summary::{Summary, summary_of};
+use crate::trace::Trace;
 use crate::traces::read_traces;
 use serde_json::{Map, Value};
 use std::alloc::{AllocError, Global};
 use std::fmt;
 
-/// The traces of a file in short, by their starts.
-pub fn list_traces(alloc: Global, bytes: &[u8]) -> Result<Vec<Summary>, Fault> {
+/// What traces are, in short.
+fn summaries_of(alloc: Global, traces: &[Trace]) -> Result<Vec<Summary>, AllocError>
+    ensures { IfOk result (λ summaries. summaries.items ≡ map summary_of traces.now) }
+{
     let mut summaries = Vec::new(alloc);
-    for trace in read_traces(alloc, bytes)?.as_slice() {
-        summaries
-            .push(summary_of(alloc, trace)?)
-            .map_err(AllocError::from)?;
+    for trace in traces {
+        summaries.push(summary_of(alloc, trace)?)?;
     }
-    summaries.sort_by_key(|summary: &Summary| summary.start)?;
     Ok(summaries)
+}
+
+/// Summaries by their starts, those without one first.
+fn by_start(mut summaries: Vec<Summary>) -> Result<Vec<Summary>, AllocError>
+    ensures { IfOk result (λ listed. AreByStart summaries.items listed.items) }
+{
+    summaries.sort_by_key(|summary| summary.start)?;
+    Ok(summaries)
+}
+
+/// The traces of a file in short, by their starts, those without one first.
+pub fn list_traces(alloc: Global, bytes: &[u8]) -> Result<Vec<Summary>, Fault>
+    ensures { IsListed (traces_of_bytes bytes.now) result }
+{
+    let traces = read_traces(alloc, bytes)?;
+    let summaries = summaries_of(alloc, traces.as_slice())?;
+    let listed = by_start(summaries)?;
+    Ok(listed)
 }
 
 /// Nanoseconds as milliseconds with three digits after the point.

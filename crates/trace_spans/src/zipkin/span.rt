@@ -143,7 +143,7 @@ fn parents_of(
 }
 
 /// The members of a span in a list in which these halves are of servers.
-#[tactic(auto, unfolding(crate::specs::Zipkin::zipkin_span))]
+#[tactic(auto, unfolding(crate::specs::Zipkin::zipkin_span, crate::specs::Zipkin::tags_in, crate::specs::Halves::is_shared))]
 fn read_members(alloc: Global, halves: &Halves, span: &Tree<'_, '_>) -> Result<Span, Fault>
     ensures { (known : List ToldHalf) → AreHalves halves.now.all known → IsRead result (zipkin_span known span.now) }
 {

@@ -22,7 +22,7 @@ pub add_text-add_list-requires : goal.add_text-add_list-requires
 add_text-add_list-requires t c =
     let deep = depth_of_array c.args.text.now c.in-Some.items (sym c.in-Some.ensures) in
     let smaller : 3 * items_depth c.in-Some.items + 2 < 3 * depth c.args.text.now = omega (arith, deep) in
-    first_of (search rules, omega (arith, smaller), (omega (arith, smaller), tt))
+    first_of (omega (arith, smaller), search (rules, smaller))
 
 pub add_text-returns-in-Some : goal.add_text-returns-in-Some
 add_text-returns-in-Some t c =
@@ -40,7 +40,7 @@ pub add_list-add_text-requires : goal.add_list-add_text-requires
 add_list-add_text-requires t c =
     let less = next_shallower c.args.items c.next.new.self c.in-Some.first c.in-Some.ensures.value in
     let smaller : 3 * depth c.in-Some.first < 3 * items_depth c.args.items + 2 = omega (arith, less.0) in
-    first_of (search rules, omega (arith, smaller), (omega (arith, smaller), tt))
+    first_of (omega (arith, smaller), search (rules, smaller))
 
 pub add_list-returns-in_err-add_text : goal.add_list-returns-in_err-add_text
 add_list-returns-in_err-add_text t c =
@@ -51,7 +51,7 @@ pub add_list-add_items-requires : goal.add_list-add_items-requires
 add_list-add_items-requires t c =
     let less = next_shallower c.args.items c.next.new.self c.in-Some.first c.in-Some.ensures.value in
     let smaller : 3 * items_depth c.next.new.self + 1 < 3 * items_depth c.args.items + 2 = omega (arith, less.1) in
-    first_of (search rules, omega (arith, smaller), (omega (arith, smaller), tt))
+    first_of (omega (arith, smaller), search (rules, smaller))
 
 pub add_list-returns : goal.add_list-returns
 add_list-returns t c =
@@ -63,7 +63,7 @@ pub add_items-add_text-requires : goal.add_items-add_text-requires
 add_items-add_text-requires t c =
     let less = next_shallower c.items.items c.next.new.self c.in-Some.item c.in-Some.ensures.value in
     let smaller : 3 * depth c.in-Some.item < 3 * items_depth c.args.items + 1 = omega (arith, less.0, c.items.invariant.1) in
-    first_of (search rules, omega (arith, smaller), (omega (arith, smaller), tt))
+    first_of (omega (arith, smaller), search (rules, smaller))
 
 pub add_items-returns-in_err-add_text : goal.add_items-returns-in_err-add_text
 add_items-returns-in_err-add_text t c =

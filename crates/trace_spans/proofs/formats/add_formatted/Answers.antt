@@ -38,7 +38,7 @@ returns-in_err-add_spans-2 c =
     let text = c.args.text.now in
     let past = of_second _ (zipkin_told text) (after_zipkin text) c.args.spans.now c.add_spans.new.spans c.if-branch.false c.in_ok-add_spans.ensures in
     let p = err_from_is_err_and c.from_residual-in_err-add_spans-2.result c.from_residual-in_err-add_spans-2.ensures.1 in
-    rw (p.1, p.2) (subst (λ (r : Result (Bool × List Span) Fault). IsFault c.in_err-add_spans-2.field-0 r) (sym past) (fault_of_first _ (otlp_told text) (after_otlp text) c.add_spans.new.spans c.in_err-add_spans-2.ensures))
+    rw (p.1, p.2) (subst (λ (r : Result (Bool × List Span) Fault). IsFault c.in_err-add_spans-2.field-0.0 r) (sym past) (fault_of_first _ (otlp_told text) (after_otlp text) c.add_spans.new.spans c.in_err-add_spans-2.ensures))
 
 pub returns-then-branch-2 : goal.returns-then-branch-2
 unfolding told_in_a_format
@@ -55,7 +55,7 @@ returns-in_err-add_spans-3 c =
     of_second _ (zipkin_told text) (after_zipkin text) c.args.spans.now c.add_spans.new.spans c.if-branch.false c.in_ok-add_spans.ensures
     ∙ of_second _ (otlp_told text) (after_otlp text) c.add_spans.new.spans c.add_spans-2.new.spans c.if-branch-2.false c.in_ok-add_spans-2.ensures in
     let p = err_from_is_err_and c.from_residual-in_err-add_spans-3.result c.from_residual-in_err-add_spans-3.ensures.1 in
-    rw (p.1, p.2) (subst (λ (r : Result (Bool × List Span) Fault). IsFault c.in_err-add_spans-3.field-0 r) (sym past) (fault_of_first _ (jaeger_told text) (other_signals_told text) c.add_spans-2.new.spans c.in_err-add_spans-3.ensures))
+    rw (p.1, p.2) (subst (λ (r : Result (Bool × List Span) Fault). IsFault c.in_err-add_spans-3.field-0.0 r) (sym past) (fault_of_first _ (jaeger_told text) (other_signals_told text) c.add_spans-2.new.spans c.in_err-add_spans-3.ensures))
 
 pub returns-then-branch-3 : goal.returns-then-branch-3
 unfolding told_in_a_format
@@ -73,4 +73,4 @@ returns c =
     of_second _ (zipkin_told text) (after_zipkin text) c.args.spans.now c.add_spans.new.spans c.if-branch.false c.in_ok-add_spans.ensures
     ∙ of_second _ (otlp_told text) (after_otlp text) c.add_spans.new.spans c.add_spans-2.new.spans c.if-branch-2.false c.in_ok-add_spans-2.ensures
     ∙ of_second _ (jaeger_told text) (other_signals_told text) c.add_spans-2.new.spans c.add_spans-3.new.spans c.if-branch-3.false c.in_ok-add_spans-3.ensures in
-    subst (λ (r : Result (Bool × List Span) Fault). IsReadAs (λ is. (is, c.add_spans-4.new.spans)) c.add_spans-4.result r) (sym past) c.add_spans-4.ensures
+    subst (λ (r : Result (Bool × List Span) Fault). IsReadAs (λ is. (is, c.add_spans-4.new._spans)) c.add_spans-4.result r) (sym past) c.add_spans-4.ensures

@@ -19,6 +19,6 @@ returns-in-Json c = λ line full h.
     ∙ last_cut line (told_after c.args.so_far) full (subst (λ (f : Fault). IsFault f (json_of line)) c.in-Json.is h)
     ∙ sym c.told.ensures)
 
-pub returns : goal.returns
-returns c = λ line full h.
-    last_unread c.args.fault c.args.some_before line (told_after c.args.so_far) full h (λ same. c.in_default-fault.not-Json)
+pub returns-in_default : goal.returns-in_default
+returns-in_default c = λ line full h.
+    last_unread c.args.fault c.args.some_before line (told_after c.args.so_far) full h (λ same. c.in_default.not-Json)

@@ -1,11 +1,21 @@
-use Rattle.std.proofs.Common.{Some, None, Result, lit<, sym, subst, ◌∙◌}
+use Rattle.std.proofs.Common.{Some, None, Result, false, lit<, sym, ap, subst, ◌∙◌}
 use Rattle.std.proofs.lemmas.Result.{err_from_is_err_and}
 use Rattle.std.proofs.lemmas.Str.Pattern.{split_once_first, split_parts}
 use Rattle.trace_spans.specs.declared.fault.Fault.{Fault}
 use Rattle.trace_spans.specs.declared.told.Told.{Told}
+use Rattle.trace_spans.specs.declared.lines.Reading.TheVariants.{Spans}
 use Rattle.trace_spans.specs.Reads.{IsRead}
-use Rattle.trace_spans.proofs.Turns.{blank_turn, cut, last_turn, left_utf8, read_turn, refused_turn}
+use Rattle.trace_spans.specs.Texts.{lines_of, texts_of_lines}
+use Rattle.trace_spans.proofs.Texts.{from_nothing}
+use Rattle.trace_spans.proofs.Turns.{blank_turn, cut, last_turn, left_utf8, read_turn, refused_turn, rest_of}
 use Rattle.trace_spans.proofs.lines.read_lines.Goals as goal
+
+pub loop-line-init : goal.loop-line-init
+loop-line-init c = (
+  sym (from_nothing (texts_of_lines false (lines_of c.args.text.now))) ∙ ap (λ spans. rest_of false (Spans spans) c.args.text.now) (sym c.new.ensures),
+  c.utf8.text,
+  c.utf8.text,
+)
 
 pub returns-in_err-reading : goal.returns-in_err-reading
 returns-in_err-reading c =

@@ -15,7 +15,7 @@ pub returns-in_err-add_list : goal.returns-in_err-add_list
 returns-in_err-add_list c =
     let p = err_from_is_err_and c.from_residual.result c.from_residual.ensures.1 in
     let told = told_list c.args.text.now c.in-Some.items (sym c.if-not-is_told.ensures) (sym c.in-Some.ensures) in
-    rw (p.1, p.2) (subst (λ (r : Option (Result (List Span) Fault)). IsFault c.in_err-add_list.field-0 (added r c.args.spans.now)) (sym told) (some_refused c.in_err-add_list.field-0 _ c.args.spans.now c.in_err-add_list.ensures))
+    rw (p.1, p.2) (subst (λ (r : Option (Result (List Span) Fault)). IsFault c.in_err-add_list.field-0.0 (added r c.args.spans.now)) (sym told) (some_refused c.in_err-add_list.field-0.0 _ c.args.spans.now c.in_err-add_list.ensures))
 
 pub returns : goal.returns
 returns c =
