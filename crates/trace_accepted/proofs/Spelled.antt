@@ -18,7 +18,8 @@ use Rattle.recording_back.specs.ReadBack.{IsBeside, IsLabel, recording_members, 
 use Rattle.recording_back.proofs.Utf8.{ascii_text}
 use Rattle.recording_text.specs.Labels.{PlainLabel}
 use Rattle.stage_graph.specs.Checks.{begins_well, is_name, is_name_byte}
-use Rattle.trace_relations.specs.Relations.{PlainRelations, moves_of}
+use Rattle.trace_relations.specs.declared.placing.Moved.{Moved}
+use Rattle.trace_relations.specs.Relations.{PlainRelations, moved_of}
 use Rattle.trace_relations.specs.Units.{unit_text}
 use Rattle.trace_relations.specs.declared.as_told.AsTold.{AsTold}
 use Rattle.trace_relations.specs.declared.unit.Unit.{Unit as TickUnit}
@@ -28,7 +29,7 @@ use Rattle.trace_spans.specs.declared.span.Span.{Span}
 use Rattle.trace_spans.specs.declared.trace.Trace.{Trace}
 use Rattle.trace_stages.specs.declared.stage.StageName.{StageName}
 use Rattle.trace_stages.specs.declared.stage.StageName.TheVariants.{Whole, Work}
-use Rattle.trace_import.specs.ClockLabels.{clock_labels, is_moved, told_clock, with_clock}
+use Rattle.trace_import.specs.ClockLabels.{clock_labels, told_clock, with_clock}
 use Rattle.trace_import.specs.declared.options.Mapping.{Mapping}
 use Rattle.trace_import.specs.Imported.{head_of}
 use Rattle.trace_import.specs.Specs.{id_label, labels_of}
@@ -118,16 +119,16 @@ clock_utf8 spans all place = by (slice_get spans place) refl
     by None e = IsUtf8-nil
     by (Some span) e = let has = each_at HasTexts spans place span all e in joined_text [] span.clock IsUtf8-nil (recursion_from_All IsUtf8 span.clock has.clock)
 
-clocks_told : (as_told : AsTold) (spans : List Span) → Each HasTexts spans → (places : List ℕ) (labels : List PlainLabel) → Each IsTextLabel labels → Each IsTextLabel (fold (with_clock as_told spans) labels places)
-clocks_told as_told spans all [] labels are = are
-clocks_told as_told spans all (place ∷ places) labels are =
-    clocks_told as_told spans all places (with_clock as_told spans labels place)
-    (inserted labels (told_clock (slice_get spans place)) (signed_decimal (moves_of as_told spans place)) are (clock_utf8 spans all place) (signed_text (moves_of as_told spans place)))
+clocks_told : (spans : List Span) → Each HasTexts spans → (moved : List Moved) (labels : List PlainLabel) → Each IsTextLabel labels → Each IsTextLabel (fold (with_clock spans) labels moved)
+clocks_told spans all [] labels are = are
+clocks_told spans all (clock ∷ moved) labels are =
+    clocks_told spans all moved (with_clock spans labels clock)
+    (inserted labels (told_clock (slice_get spans clock.clock)) (signed_decimal clock.by) are (clock_utf8 spans all clock.clock) (signed_text clock.by))
 
 pub head_beside : (mapping : Mapping) (trace : Trace) (relations : PlainRelations) → TellsTexts trace → IsBeside (head_of mapping trace relations)
 head_beside mapping trace relations tells =
     let spans = recursion_from_All HasTexts trace.spans tells.spans in
-    let clocks = clocks_told mapping.as_told trace.spans spans (filter (is_moved mapping.as_told trace.spans) (range_with_len 0 (length trace.spans))) [] tt in
+    let clocks = clocks_told trace.spans spans (moved_of mapping.as_told trace.spans) [] tt in
     record {
       labels = All-from_recursion (IsLabel recording_members) (head_of mapping trace relations).0 (
         record { name = IsUtf8-are_ascii _ refl; text = tells.id; unread = refl },

@@ -14,7 +14,7 @@ use Rattle.trace_stages.specs.Names.{names}
 use Rattle.trace_stages.specs.Naming.{plain_stages}
 use Rattle.trace_stages.specs.StagesOf.{AreStages}
 use Rattle.trace_stages.specs.declared.stage.Stages.{Stages}
-use Rattle.trace_import.specs.Imported.{most_stages}
+use Rattle.trace_import.specs.Limits.{most_stages}
 use Rattle.trace_import.specs.Specs.{imported_specs}
 
 -- the graph of stages, with the places of their sources

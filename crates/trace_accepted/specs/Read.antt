@@ -8,7 +8,8 @@ use Rattle.trace_spans.specs.declared.trace.Trace.{Trace}
 use Rattle.trace_stages.specs.StagesOf.{AreStages}
 use Rattle.trace_stages.specs.declared.stage.Stages.{Stages}
 use Rattle.trace_import.specs.declared.options.Mapping.{Mapping}
-use Rattle.trace_import.specs.Imported.{count_of, longest, most_stages, text_of}
+use Rattle.trace_import.specs.Imported.{count_of, text_of}
+use Rattle.trace_import.specs.Limits.{longest, most_stages}
 use Rattle.trace_import.specs.Texts.{TellsTexts}
 use Rattle.trace_accepted.specs.Accepted.{graph_of, specs_of}
 
