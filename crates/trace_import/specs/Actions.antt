@@ -22,9 +22,12 @@ abbrev pub exception_name : List Span → Exception → List ℕ
 exception_name spans SpanFailed = codes "SpanFailed"
 exception_name spans (Of place) = thrown_at (slice_get spans place)
 
--- every exception that is read has the name of one
+-- a name that is none of an exception is written as `SpanFailed`
+abbrev pub written_name : List ℕ → List ℕ
+written_name name = if is_exception_name name then name else codes "SpanFailed"
+
 abbrev pub throw_of : List ℕ → Expression
-throw_of name = if is_exception_name name then throw name else literal value.Null
+throw_of name = throw (written_name name)
 
 -- null, an exception, an exception if the source failed, or the number of the first inner stage
 abbrev pub imported_action : List Span → Action → Expression

@@ -1,5 +1,6 @@
 //! The actions of stages.
-ghost use Rattle.std.specs.Prelude.{◌≡◌, IfOk};
+ghost use Rattle.std.specs.Prelude.{◌≡◌, IfOk, codes};
+ghost use Rattle.act_expr.specs.Expression.{throw};
 ghost use Rattle.trace_import.specs.Actions.{exception_name, imported_action, name_told, throw_of};
 ghost use Rattle.trace_import.specs.KeptActions.{AreActions};
 
@@ -39,6 +40,18 @@ fn exception_name<'a>(spans: &'a [Span], exception: Exception) -> &'a str
 pub(crate) struct Actions {
     null: Expr,
     first: Expr,
+    failed: Expr,
+}
+
+/// The throw of the exception of a span that tells none.
+fn span_failed(alloc: Global) -> Result<Expr, AllocError>
+    ensures { IfOk result (λ expression. expression ≡ throw (codes "SpanFailed")) }
+{
+    match ExName::new(SPAN_FAILED) {
+        Some(name) => Expr::new(alloc, Form::throw(alloc, name)?),
+        // (it is a name of an exception)
+        None => Err(AllocError),
+    }
 }
 
 impl Actions {
@@ -48,6 +61,7 @@ impl Actions {
         Ok(Actions {
             null: Expr::new(alloc, Form::Literal(Value::Null))?,
             first: Expr::new(alloc, Form::Literal(Value::Num(0)))?,
+            failed: span_failed(alloc)?,
         })
     }
 
@@ -58,7 +72,7 @@ impl Actions {
     {
         match ExName::new(exception_name(spans, exception)) {
             Some(name) => Expr::new(alloc, Form::throw(alloc, name)?),
-            None => self.null.clone(),
+            None => self.failed.clone(),
         }
     }
 
