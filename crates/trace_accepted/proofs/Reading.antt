@@ -3,7 +3,6 @@ use Rattle.std.proofs.Common.{◌≡◌, ℕ, List, [], ◌∷◌, Ok, refl, ap,
 use Rattle.stage_graph.specs.Plain.{PlainGraph}
 use Rattle.stage_graph.specs.declared.stage.Spec.{Spec}
 use Rattle.recording.specs.RecordingOf.{as_read, graph_of as graph_of_recording, named, recorded}
-use Rattle.recording.specs.declared.recording.Recording.{Recording}
 use Rattle.recording_back.specs.ReadBack.{specs_in}
 use Rattle.recording_back.proofs.StageBack.{read_back}
 use Rattle.act_expr.specs.declared.outcome.Mode.TheVariants.{Computed}
@@ -17,6 +16,7 @@ use Rattle.trace_accepted.specs.Accepted.{graph_of, specs_of}
 use Rattle.trace_accepted.specs.Read.{EachImportIsRead}
 use Rattle.trace_accepted.proofs.Loading.{import_fine, import_loaded}
 use Rattle.trace_accepted.proofs.Spelled.{head_beside}
+use Rattle.trace_accepted.proofs.Types.{Recording}
 use Rattle.trace_accepted.proofs.Writable.{all_written}
 
 without_labels : (spans : List Span) (names : List (List ℕ)) (stages : List PlainStage) → specs_in (labelled_stages spans names stages) ≡ imported_specs spans names stages

@@ -1,4 +1,5 @@
 -- Types that definitions speak of, and that their crate keeps to itself.
+use Rattle.recording.specs.RecordingOf.{graph_of}
 use Rattle.trace_stages.specs.Called.{called_by}
 use Rattle.trace_stages.specs.Events.{ends_for}
 use Rattle.trace_stages.specs.Fates.{fate_at}
@@ -25,3 +26,10 @@ Fate = ResultOf fate_at
 -- how a stage ends
 abbrev pub Outcome : Type 0
 Outcome = ResultOf had_outcome
+
+abbrev ArgumentOf : {A B : Type 0} → (A → B) → Type 0
+ArgumentOf {A} {B} f = A
+
+-- what is read of a recording
+abbrev pub Recording : Type 0
+Recording = ArgumentOf graph_of
