@@ -6,13 +6,11 @@ use Rattle.std.proofs.lemmas.Bool.{false≢true}
 use Rattle.std.proofs.lemmas.Option.{none-some, same_Some}
 use Rattle.std.proofs.lemmas.Slice.Eq.{bytes_eq-Decides}
 use Rattle.act_expr.specs.ExceptionName.{is_exception_name}
-use Rattle.act_expr.specs.Expression.{throw}
 use Rattle.trace_spans.specs.declared.span.Span.{Span}
 use Rattle.trace_stages.specs.Fates.{first_place, is_name}
-use Rattle.trace_stages.specs.declared.stage.Exception.{Exception}
 use Rattle.trace_stages.specs.declared.stage.Exception.TheVariants.{SpanFailed, Of}
-use Rattle.trace_import.specs.Actions.{exception_name, name_told, throw_of, thrown_at}
-use Rattle.import_laws.specs.Imports.{EachExceptionHasItsName, NameExceptions}
+use Rattle.trace_import.specs.Actions.{exception_name, name_told, thrown_at, written_name}
+use Rattle.import_laws.specs.Imports.{EachExceptionHasItsName}
 
 same_text : (one other : List ℕ) → bytes_eq one other ≡ true → one ≡ other
 same_text one other same = (bytes_eq-Decides one other).0 same
@@ -45,22 +43,5 @@ told_name spans place span name here told false is = by_first (first_place spans
         ap (λ j. thrown_at (slice_get spans j)) e ∙ first.2
 
 pub each_has_its_name : EachExceptionHasItsName
-each_has_its_name spans place span name here told = told_name spans place span name here told (bytes_eq name (codes "SpanFailed")) refl
-
--- ---- where spans tell names of exceptions, each exception has one
-
-module _ (spans : List Span) (names : NameExceptions spans) where
-  told_valid : (place : ℕ) (span : Span) (told : Option (List ℕ)) → slice_get spans place ≡ Some span → span.exception ≡ told → is_exception_name (name_told told) ≡ true
-  told_valid place span None here none = refl
-  told_valid place span (Some name) here some = names place span name here some
-
-  at_valid : (place : ℕ) (found : Option Span) → slice_get spans place ≡ found → is_exception_name (thrown_at found) ≡ true
-  at_valid place None none = refl
-  at_valid place (Some span) some = told_valid place span span.exception some refl
-
-  name_valid : (exception : Exception) → is_exception_name (exception_name spans exception) ≡ true
-  name_valid SpanFailed = refl
-  name_valid (Of place) = at_valid place (slice_get spans place) refl
-
-  pub thrown : (exception : Exception) → throw_of (exception_name spans exception) ≡ throw (exception_name spans exception)
-  thrown exception = rw (name_valid exception) refl
+each_has_its_name spans place span name here told valid =
+    ap written_name (told_name spans place span name here told (bytes_eq name (codes "SpanFailed")) refl) ∙ ap (λ b. cond b name (codes "SpanFailed")) valid

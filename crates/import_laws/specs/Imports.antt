@@ -17,9 +17,10 @@ use Rattle.trace_stages.specs.Fates.{exception_told}
 use Rattle.trace_stages.specs.Moments.{AreMoments, At}
 use Rattle.trace_stages.specs.Naming.{plain_stages}
 use Rattle.trace_stages.specs.StagesOf.{known_of, stages_by}
+use Rattle.trace_stages.specs.declared.stage.Exception.{Exception}
 use Rattle.trace_stages.specs.declared.stage.Stages.{Stages}
 use Rattle.trace_stages.specs.declared.walk.stage_id.StageId.{StageId}
-use Rattle.trace_import.specs.Actions.{exception_name}
+use Rattle.trace_import.specs.Actions.{exception_name, written_name}
 use Rattle.trace_import.specs.Imported.{IsMadeFrom, IsRecordingOf}
 use Rattle.trace_import.specs.declared.options.Mapping.{Mapping}
 use Rattle.trace_faithful.specs.Circles.{trace_stages}
@@ -35,15 +36,15 @@ IsGraph (Err fault) = ⊥
 abbrev pub EachImportIsAccepted : Type 0
 EachImportIsAccepted = (mapping : Mapping) (trace : Trace) (text : List ℕ) → IsRecordingOf mapping trace text → (answer : Result PlainGraph Fault) → IsNamed answer (named text) → IsGraph answer
 
--- what spans tell as exceptions are names of exceptions, as all are that a file is read to tell
-abbrev pub NameExceptions : List Span → Type 0
-NameExceptions spans = (place : ℕ) (span : Span) (name : List ℕ) → slice_get spans place ≡ Some span → span.exception ≡ Some name → is_exception_name name ≡ true
+-- the exceptions of stages, as a recording has them
+abbrev pub written_exception : List Span → Exception → List ℕ
+written_exception spans exception = written_name (exception_name spans exception)
 
 -- each stage of the graph completes as its span did
 abbrev pub AreFaithful : Mapping → Trace → PlainRelations → List At → PlainGraph → Type 0
 AreFaithful mapping trace relations moments graph =
     (position : ℕ) (stage : StageId) → slice_get (trace_stages trace.spans relations mapping.as_told moments) position ≡ Some stage
-    → CompletesAs (exception_name trace.spans) trace.spans (known_of trace.spans relations mapping.as_told moments) stage (at (java_step Computed) graph.places position).done
+    → CompletesAs (written_exception trace.spans) trace.spans (known_of trace.spans relations mapping.as_told moments) stage (at (java_step Computed) graph.places position).done
 
 -- the graph that is read from a text, of a trace's stages in the order of the text
 pub record IsFaithful (mapping : Mapping) (trace : Trace) (text : List ℕ) : Type 0 where
@@ -60,10 +61,10 @@ pub record IsFaithful (mapping : Mapping) (trace : Trace) (text : List ℕ) : Ty
 
 -- so it is with each recording that a trace makes
 abbrev pub EachImportIsFaithful : Type 0
-EachImportIsFaithful = (mapping : Mapping) (trace : Trace) (text : List ℕ) → NameExceptions trace.spans → IsRecordingOf mapping trace text → IsFaithful mapping trace text
+EachImportIsFaithful = (mapping : Mapping) (trace : Trace) (text : List ℕ) → IsRecordingOf mapping trace text → IsFaithful mapping trace text
 
 -- the exception that a span tells is written by the name that it tells
 abbrev pub EachExceptionHasItsName : Type 0
 EachExceptionHasItsName =
-    (spans : List Span) (place : ℕ) (span : Span) (name : List ℕ) → slice_get spans place ≡ Some span → span.exception ≡ Some name
-    → exception_name spans (exception_told spans place name) ≡ name
+    (spans : List Span) (place : ℕ) (span : Span) (name : List ℕ) → slice_get spans place ≡ Some span → span.exception ≡ Some name → is_exception_name name ≡ true
+    → written_exception spans (exception_told spans place name) ≡ name
