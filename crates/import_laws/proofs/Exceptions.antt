@@ -5,7 +5,6 @@ use Rattle.std.specs.List.{position_from}
 use Rattle.std.proofs.lemmas.Bool.{false≢true}
 use Rattle.std.proofs.lemmas.Option.{none-some, same_Some}
 use Rattle.std.proofs.lemmas.Slice.Eq.{bytes_eq-Decides}
-use Rattle.act_expr.specs.ExceptionName.{is_exception_name}
 use Rattle.trace_spans.specs.declared.span.Span.{Span}
 use Rattle.trace_stages.specs.Fates.{first_place, is_name}
 use Rattle.trace_stages.specs.declared.stage.Exception.TheVariants.{SpanFailed, Of}

@@ -1,8 +1,8 @@
 -- What an import writes is UTF-8, and nothing reads its labels.
 use Rattle.std.proofs.Common.{◌≡◌, ℕ, ℤ, pos, negsuc, zero, suc, ◌<◌, List, [], ◌∷◌, ◌++◌, All, true, codes, decimal, fold, length, IsUtf8, Option, Some, None, refl, subst, arith}
-use Rattle.std.specs.Prelude.{◌&&◌, filter, nat_le, slice_get}
+use Rattle.std.specs.Prelude.{◌&&◌, nat_le, slice_get}
 use Rattle.std.specs.Fmt.{signed_decimal}
-use Rattle.std.specs.List.{AllByRecursion as Each, list_all, range_with_len}
+use Rattle.std.specs.List.{AllByRecursion as Each, list_all}
 use Rattle.std.specs.BTreeMap.{insert_entry}
 use Rattle.std.specs.Cmp.Lexicographic.{slice_cmp}
 use Rattle.std.specs.Ordering.{match_ordering, nat_cmp}
@@ -21,7 +21,6 @@ use Rattle.stage_graph.specs.Checks.{begins_well, is_name, is_name_byte}
 use Rattle.trace_relations.specs.declared.placing.Moved.{Moved}
 use Rattle.trace_relations.specs.Relations.{PlainRelations, moved_of}
 use Rattle.trace_relations.specs.Units.{unit_text}
-use Rattle.trace_relations.specs.declared.as_told.AsTold.{AsTold}
 use Rattle.trace_relations.specs.declared.unit.Unit.{Unit as TickUnit}
 use Rattle.trace_relations.specs.declared.unit.Unit.TheVariants.{Nanosecond, Microsecond, Millisecond}
 use Rattle.trace_spans.specs.Clocks.{joined_on}

@@ -1,10 +1,10 @@
 -- Texts that gain stages.
-use Rattle.std.proofs.Common.{◌≡◌, ◌∙◌, ◌+◌, ◌<◌, ℕ, List, [], ◌∷◌, ◌++◌, length, map, take, drop, get_or, refl, sym, ap, subst, append_assoc, arith}
+use Rattle.std.proofs.Common.{◌≡◌, ◌∙◌, ◌+◌, ◌<◌, ℕ, List, [], ◌∷◌, ◌++◌, length, map, take, drop, get_or, sym, ap, subst, append_assoc, arith}
 use Rattle.std.proofs.lemmas.List.{map-append, take-append-drop, take_more}
 use Rattle.recording_text.specs.Labels.{Begun, Labelled, PlainHead, begun, labelled_recording}
 use Rattle.recording_text.proofs.Begun.{begun_within}
 use Rattle.trace_spans.specs.declared.span.Span.{Span}
-use Rattle.trace_stages.specs.Naming.{PlainStage, plain_stage, plain_stages}
+use Rattle.trace_stages.specs.Naming.{plain_stage, plain_stages}
 use Rattle.trace_stages.specs.declared.stage.ImportedStage.{ImportedStage}
 use Rattle.trace_import.specs.Limits.{longest}
 use Rattle.trace_import.specs.Specs.{labelled_stage, labelled_stages}

@@ -1,5 +1,5 @@
 -- The name of a stage, put together.
-use Rattle.std.proofs.Common.{◌≡◌, List, ℕ, ◌++◌, refl, sym, append-nil}
+use Rattle.std.proofs.Common.{◌≡◌, List, ℕ, ◌++◌, refl, append-nil}
 use Rattle.trace_stages.specs.declared.stage.StageName.{StageName}
 use Rattle.trace_stages.specs.declared.stage.StageName.TheVariants.{Start, Whole, Join, Work, Tried, Limit, Answer}
 use Rattle.trace_import.specs.StageNames.{ending_of, name_at, place_of, stage_name}

@@ -10,7 +10,7 @@ use Rattle.trace_spans.specs.declared.trace.Trace.{Trace}
 use Rattle.trace_import.specs.Imported.{IsNotMade, IsRecordingOf}
 use Rattle.trace_import.specs.declared.each.Outcome.{Outcome}
 use Rattle.trace_import.specs.declared.fault.ImportFault.{ImportFault}
-use Rattle.trace_import.specs.declared.fault.ImportFault.TheVariants.{Refused, Unticked, TooManyStages, TooLong, Write, Memory}
+use Rattle.trace_import.specs.declared.fault.ImportFault.TheVariants.{Refused, Unticked, Write, Memory}
 use Rattle.trace_import.specs.declared.note.Note.{Note}
 use Rattle.trace_import.specs.declared.options.Mapping.{Mapping}
 

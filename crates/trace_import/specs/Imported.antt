@@ -3,7 +3,7 @@ use Rattle.std.specs.Prelude.{◌≡◌, ℕ, ◌<◌, ◌≤◌, List, [], ◌�
 use Rattle.std.specs.Fmt.{signed_decimal}
 use Rattle.std.specs.Io.KnownBytes.{Appends, Keeps}
 use Rattle.std.specs.declared.alloc.Global.{Global}
-use Rattle.recording_text.specs.Labels.{PlainGroup, PlainHead, PlainLabel, labelled_recording}
+use Rattle.recording_text.specs.Labels.{PlainHead, labelled_recording}
 use Rattle.text_io.specs.Sink.{AppendsPrefix}
 use Rattle.trace_relations.specs.Ancestry.{most_spans}
 use Rattle.trace_relations.specs.Reads.{IsFault as IsRelationsFault}
@@ -12,7 +12,6 @@ use Rattle.trace_relations.specs.Units.{unit_text}
 use Rattle.trace_relations.specs.declared.fault.RelationsFault.{RelationsFault}
 use Rattle.trace_spans.specs.Reads.{IsFault}
 use Rattle.trace_spans.specs.Spans.{spans_of}
-use Rattle.trace_spans.specs.declared.span.Span.{Span}
 use Rattle.trace_spans.specs.declared.trace.Trace.{Trace}
 use Rattle.trace_stages.specs.Names.{names}
 use Rattle.trace_stages.specs.Naming.{plain_stages}

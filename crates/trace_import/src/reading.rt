@@ -1,5 +1,4 @@
 //! What is made of a trace.
-ghost use Rattle.std.specs.Prelude.{◌≡◌};
 ghost use Rattle.trace_import.specs.Imported.{IsReadingOf};
 
 use crate::fault::ImportFault;

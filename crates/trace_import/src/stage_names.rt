@@ -1,5 +1,5 @@
 //! The texts that name stages.
-ghost use Rattle.std.specs.Prelude.{◌≡◌, ◌++◌, IfOk, OnOk, codes, string_bytes};
+ghost use Rattle.std.specs.Prelude.{◌≡◌, ◌++◌, IfOk, OnOk, string_bytes};
 ghost use Rattle.trace_import.specs.StageNames.{ending_of, name_at, numbered, place_of, stage_name};
 
 use stage_graph::Name;

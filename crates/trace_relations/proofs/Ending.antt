@@ -1,5 +1,5 @@
 -- Ends that are cut leave starts as they are; ticks are of each span.
-use Rattle.std.proofs.Common.{◌≡◌, ℕ, suc, zero, ◌+◌, ◌<◌, ◌≤◌, List, [], ◌∷◌, Bool, true, false, cond, length, min, set, Option, Some, None, refl, sym, ap, ◌∙◌, subst, arith, ℤ}
+use Rattle.std.proofs.Common.{◌≡◌, ℕ, suc, zero, ◌+◌, List, [], ◌∷◌, Bool, true, false, cond, length, set, Option, Some, None, refl, sym, ap, ◌∙◌, subst, arith, ℤ}
 use Rattle.std.specs.Prelude.{IsPermutation, Result, Ok, Err}
 use Rattle.std.specs.List.{zip}
 use Rattle.std.specs.Result.{IsErrAnd}
@@ -20,7 +20,7 @@ use Rattle.trace_relations.specs.Parents.{all_references}
 use Rattle.trace_relations.specs.Reads.{IsFault}
 use Rattle.trace_relations.specs.Relations.{IsTimed, ended, moves_of, ticks_of, told_times}
 use Rattle.trace_relations.specs.Ticks.{earliest_time, interval_of, intervals_from, intervals_of, is_too_late, then_on, too_late}
-use Rattle.trace_relations.specs.Times.{times_from, times_moved, times_of}
+use Rattle.trace_relations.specs.Times.{times_from}
 
 -- ---- starts stay
 

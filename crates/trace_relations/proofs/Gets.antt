@@ -1,5 +1,5 @@
 -- What stands at a place of a list, after a write and after a push.
-use Rattle.std.proofs.Common.{◌≡◌, ℕ, suc, zero, inl, inr, ◌<◌, List, [], ◌∷◌, ◌++◌, Bool, true, false, cond, eqb, length, set, Some, refl, sym, ap, ◌∙◌, arith}
+use Rattle.std.proofs.Common.{◌≡◌, ℕ, suc, zero, inl, inr, ◌<◌, List, [], ◌∷◌, ◌++◌, cond, eqb, length, set, Some, refl, sym, ap, ◌∙◌, arith}
 use Rattle.std.specs.Prelude.{◌⊎◌, slice_get, unwrap_or}
 use Rattle.std.proofs.lemmas.Bool.{cases_eq, cond-false, cond-true, eq-eqb, ne_eqb}
 use Rattle.std.proofs.lemmas.Grind.{get_or-set_at}

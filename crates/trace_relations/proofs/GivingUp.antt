@@ -1,9 +1,9 @@
 -- Calls that were given up, by what is known of callers.
-use Rattle.std.proofs.Common.{◌≡◌, ℕ, suc, zero, ◌+◌, ◌<◌, ◌≤◌, inl, inr, List, [], ◌∷◌, ◌++◌, Bool, true, false, cond, drop, eqb, get_or, length, map, replicate, set, take, Option, Some, None, refl, sym, ap, ◌∙◌, subst, arith}
-use Rattle.std.specs.Prelude.{◌⊎◌, ◌&&◌, ◌||◌, MatchBool, filter, is_none, nat_eq, not, option_and_then, slice_get, unwrap_or}
+use Rattle.std.proofs.Common.{◌≡◌, ℕ, suc, zero, ◌+◌, ◌<◌, ◌≤◌, inl, inr, List, [], ◌∷◌, ◌++◌, Bool, true, false, cond, drop, get_or, length, map, replicate, set, take, Option, Some, None, refl, sym, ap, ◌∙◌, arith}
+use Rattle.std.specs.Prelude.{◌&&◌, ◌||◌, MatchBool, filter, is_none, nat_eq, not, option_and_then, slice_get, unwrap_or}
 use Rattle.std.specs.List.{last_or, list_any, range_with_len, starts_with}
 use Rattle.std.specs.Option.{option_eq}
-use Rattle.std.specs.Str.Pattern.{FindsText, HasMatch, HasTextAt, LacksTextAt}
+use Rattle.std.specs.Str.Pattern.{FindsText, HasMatch, LacksTextAt}
 use Rattle.std.proofs.lemmas.Bool.{and_parts, cases_eq, cases_lt, eq-eqb, eqb-true, false≢true, false_from_ne_true, ne_eqb, or_cases, or_left, or_right}
 use Rattle.std.proofs.lemmas.List.{append-nil, get_or-replicate, get_or-set_other, get_or-set_same, length-replicate, length-set, take-append-drop, take_at}
 use Rattle.std.proofs.lemmas.List.Elements.{filter-append}

@@ -1,5 +1,5 @@
 -- What is left as it is told.
-use Rattle.std.proofs.Common.{◌≡◌, ℕ, suc, zero, List, [], ◌∷◌, Bool, true, false, cond, length, map, replicate, Option, None, refl, sym, ap, ◌∙◌, pos, ℤ}
+use Rattle.std.proofs.Common.{◌≡◌, ℕ, List, [], ◌∷◌, Bool, true, false, cond, length, map, replicate, Option, None, refl, sym, ap, ◌∙◌, pos, ℤ}
 use Rattle.trace_spans.specs.declared.span.Span.{Span}
 use Rattle.trace_relations.specs.declared.as_told.AsTold.{AsTold}
 use Rattle.trace_relations.specs.declared.hosts.Host.{Host}

@@ -1,6 +1,6 @@
 -- Parents are spans of the trace.
-use Rattle.std.proofs.Common.{◌≡◌, ℕ, suc, zero, ◌+◌, ◌<◌, ◌≤◌, inl, inr, List, [], ◌∷◌, ◌++◌, Bool, true, false, cond, get_or, length, map, Option, Some, None, refl, sym, ap, ◌∙◌, subst, arith, ℤ}
-use Rattle.std.specs.Prelude.{◌⊎◌, ◌==◌, All, nat_eq, option_and_then, option_map, slice_get, unwrap_or}
+use Rattle.std.proofs.Common.{◌≡◌, ℕ, suc, zero, ◌+◌, ◌<◌, List, [], ◌∷◌, ◌++◌, Bool, true, false, cond, get_or, length, map, Option, Some, None, refl, sym, ap, ◌∙◌, subst, arith, ℤ}
+use Rattle.std.specs.Prelude.{◌==◌, All, nat_eq, option_and_then, option_map, slice_get, unwrap_or}
 use Rattle.std.specs.List.{list_any, position_from, range_with_len}
 use Rattle.std.proofs.lemmas.List.Elements.{All-cons, All-get_or, All-nil, All-push}
 use Rattle.std.proofs.lemmas.Option.{none-some, same_Some, slice_get-get_or, slice_get-map, slice_get_within}

@@ -1,6 +1,6 @@
 -- Calls that were tried again, one after another.
 use Rattle.std.proofs.Common.{◌≡◌, ℕ, suc, zero, ◌+◌, ◌<◌, ◌≤◌, inl, inr, List, [], ◌∷◌, ◌++◌, Bool, true, false, cond, eqb, get_or, length, replicate, set, take, Option, Some, None, refl, sym, ap, ◌∙◌, subst, arith}
-use Rattle.std.specs.Prelude.{◌⊎◌, ◌&&◌, All, filter, find, fold, is_some, not, slice_get, unwrap_or}
+use Rattle.std.specs.Prelude.{◌&&◌, All, filter, find, fold, is_some, not, slice_get, unwrap_or}
 use Rattle.std.specs.List.{list_any, range_with_len}
 use Rattle.std.proofs.lemmas.Bool.{and_parts, cases_lt, false≢true}
 use Rattle.std.proofs.lemmas.List.{get_or_past, length-replicate, length-set, take_all}

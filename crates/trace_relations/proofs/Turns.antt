@@ -1,5 +1,5 @@
 -- Places of spans in the order of their starts.
-use Rattle.std.proofs.Common.{◌≡◌, ℕ, suc, zero, ◌+◌, ◌<◌, ◌≤◌, inl, inr, List, [], ◌∷◌, Bool, true, false, cond, get_or, length, map, set, Option, Some, None, refl, sym, ap, ◌∙◌, subst, arith}
+use Rattle.std.proofs.Common.{◌≡◌, ℕ, suc, ◌+◌, ◌<◌, ◌≤◌, inl, inr, List, [], ◌∷◌, Bool, true, false, cond, get_or, length, map, Option, Some, None, refl, sym, ap, ◌∙◌, subst, arith}
 use Rattle.std.specs.Prelude.{◌≢◌, ◌==◌, ◌||◌, All, AllPairs, IsPermutation, IsSorted, nat_eq, slice_get, sum_by, unwrap_or}
 use Rattle.std.specs.declared.cmp.Ordering.{Ordering}
 use Rattle.std.specs.declared.cmp.Ordering.TheVariants.{Less, Equal, Greater}
@@ -14,8 +14,7 @@ use Rattle.std.proofs.lemmas.List.Sorted.{All-permutation, IsNonDecreasingBy-fro
 use Rattle.std.proofs.lemmas.List.Sums.{get_or-le-sum_by, sum_by-cons}
 use Rattle.trace_relations.specs.declared.moment.Interval.{Interval}
 use Rattle.trace_relations.specs.Ancestry.{start_at}
-use Rattle.trace_relations.specs.ByStart.{AreByStart, AreInTurn, AreSorted, all_starts, pair_cmp, starts_from}
-use Rattle.trace_relations.specs.Moments.{interval_at}
+use Rattle.trace_relations.specs.ByStart.{AreByStart, AreInTurn, all_starts, pair_cmp, starts_from}
 
 -- ---- each start stands beside its place
 

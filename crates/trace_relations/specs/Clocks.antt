@@ -1,5 +1,5 @@
 -- C. Clocks: those that a trace contradicts are moved, so that what was done for a caller lies inside the call.
-use Rattle.std.specs.Prelude.{ℕ, suc, zero, ℤ, pos, ◌+ℤ◌, ◌-ℤ◌, ◌+◌, ◌&&◌, ◌||◌, List, [], ◌∷◌, Bool, true, false, not, length, nat_eq, nat_le, int_lt, int_le, is_some, is_none, if◌then◌else◌, Option, Some, None, option_map, unwrap_or, slice_get, filter, find, fold, option_and_then, bytes_eq}
+use Rattle.std.specs.Prelude.{ℕ, suc, zero, ℤ, pos, ◌+ℤ◌, ◌-ℤ◌, ◌+◌, ◌&&◌, List, [], ◌∷◌, Bool, true, false, not, nat_eq, nat_le, int_le, is_some, is_none, if◌then◌else◌, Option, Some, None, option_map, unwrap_or, slice_get, filter, find, fold, option_and_then, bytes_eq}
 use Rattle.std.specs.Cmp.Lexicographic.{pointwise}
 use Rattle.std.specs.Int.{int_div_euclid, int_max, int_min}
 use Rattle.std.specs.List.{position_from}

@@ -1,5 +1,5 @@
 -- What tells groups of calls apart: their callers, and what tells calls from each other.
-use Rattle.std.specs.Prelude.{◌≡◌, ℕ, ◌<◌, ◌^◌, List, ◌∷◌, Bool, true, false, if◌then◌else◌, Option, Some, None, option_and_then, slice_get, unwrap_or}
+use Rattle.std.specs.Prelude.{◌≡◌, ℕ, ◌<◌, ◌^◌, List, ◌∷◌, Bool, true, if◌then◌else◌, Option, Some, None, option_and_then, slice_get, unwrap_or}
 use Rattle.std.specs.Fmt.{decimal}
 use Rattle.trace_spans.specs.declared.span.Span.{Span}
 use Rattle.trace_relations.specs.Attempts.{CallsOf, has_failed}

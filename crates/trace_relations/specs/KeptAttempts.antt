@@ -1,5 +1,5 @@
 -- Attempts, as they are kept.
-use Rattle.std.specs.Prelude.{◌≡◌, ℕ, ◌<◌, List, All, Option, None, length, slice_get, unwrap_or}
+use Rattle.std.specs.Prelude.{◌≡◌, ℕ, ◌<◌, List, All, None, length, slice_get, unwrap_or}
 use Rattle.trace_relations.specs.declared.attempts.Attempts.{Attempts as Kept}
 use Rattle.trace_relations.specs.declared.attempts.Calls.{Calls}
 use Rattle.trace_relations.specs.Attempts.{Attempts, CallsOf, caller_of}

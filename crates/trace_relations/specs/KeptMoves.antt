@@ -1,5 +1,5 @@
 -- By how much clocks are moved, and what pairs say of them, as they are kept.
-use Rattle.std.specs.Prelude.{◌≡◌, ℕ, ◌+◌, ◌*◌, ◌^◌, ◌<◌, ◌≤ℤ◌, ℤ, pos, neg_ℤ, ◌&&◌, ◌||◌, List, [], ◌∷◌, All, Bool, true, false, not, length, map, nat_eq, if◌then◌else◌, Option, Some, None, IfSome, MatchBool, MatchOption, Vec, slice_get, slice_set, unwrap_or, is_none, is_some, filter, fold, count_by, bytes_eq, option_and_then, option_to_list}
+use Rattle.std.specs.Prelude.{◌≡◌, ℕ, ◌+◌, ◌*◌, ◌^◌, ◌<◌, ◌≤ℤ◌, ℤ, pos, neg_ℤ, ◌&&◌, ◌||◌, List, [], ◌∷◌, All, Bool, true, not, length, nat_eq, if◌then◌else◌, Option, Some, None, IfSome, MatchBool, MatchOption, Vec, slice_get, slice_set, unwrap_or, is_none, is_some, filter, fold, count_by, bytes_eq, option_and_then, option_to_list}
 use Rattle.std.specs.BinaryHeap.{IsHeap}
 use Rattle.std.specs.HashMap.{HashMap, get_by_text}
 use Rattle.std.specs.Ordering.{int_eq, nat_cmp}

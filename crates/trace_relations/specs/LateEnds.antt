@@ -1,5 +1,5 @@
 -- T. Ends that are a little late: what outlives its caller by a tenth of its own length at most has ended with it.
-use Rattle.std.specs.Prelude.{ℕ, ◌-◌, ◌/◌, ◌&&◌, List, [], ◌∷◌, Bool, false, not, nat_le, nat_lt, if◌then◌else◌, Option, Some, None, option_and_then, slice_get, slice_set, fold}
+use Rattle.std.specs.Prelude.{ℕ, ◌-◌, ◌/◌, ◌&&◌, List, Bool, false, not, nat_le, nat_lt, if◌then◌else◌, Option, Some, None, option_and_then, slice_get, slice_set, fold}
 use Rattle.trace_spans.specs.declared.span.Span.{Span}
 use Rattle.trace_relations.specs.declared.moment.Interval.{Interval}
 use Rattle.trace_relations.specs.Calls.{is_message}

@@ -11,7 +11,7 @@ use Rattle.trace_relations.specs.declared.relations.Relations.{Relations}
 use Rattle.trace_relations.specs.declared.relations.Timed.{Timed}
 use Rattle.trace_relations.specs.declared.times.Times.{Times}
 use Rattle.trace_relations.specs.declared.unit.Unit.{Unit}
-use Rattle.trace_relations.specs.Ancestry.{known, most_spans, without_circles}
+use Rattle.trace_relations.specs.Ancestry.{most_spans, without_circles}
 use Rattle.trace_relations.specs.Attempts.{Attempts, CallsOf, attempts_of, caller_of, tried_once}
 use Rattle.trace_relations.specs.ByStart.{AreByStart}
 use Rattle.trace_relations.specs.GivenUp.{Called, all_given_up}

@@ -1,5 +1,5 @@
 -- The times of spans by the clocks of the roots, in nanoseconds since 1970.
-use Rattle.std.specs.Prelude.{ℕ, ℤ, pos, ◌+ℤ◌, ◌+◌, List, [], ◌∷◌, Option, option_map}
+use Rattle.std.specs.Prelude.{ℕ, ℤ, pos, ◌+ℤ◌, ◌+◌, List, [], ◌∷◌, option_map}
 use Rattle.trace_spans.specs.declared.span.Span.{Span}
 use Rattle.trace_relations.specs.declared.times.Times.{Times}
 

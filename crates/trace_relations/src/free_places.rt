@@ -1,5 +1,5 @@
 //! Which of places in a row are free.
-ghost use Rattle.std.specs.Prelude.{◌≡◌, ℕ, ◌+◌, ◌≤◌, Bool, true, false, MatchOption, OnOk, slice_get, unwrap_or};
+ghost use Rattle.std.specs.Prelude.{◌≡◌, ℕ, ◌+◌, Bool, true, false, MatchOption, OnOk, slice_get, unwrap_or};
 ghost use Rattle.trace_relations.specs.FreePlaces.{AreFree, IsFirstFree, IsFirstFrom, NoneIsFree, with_free};
 
 use crate::set_at::set_at;

@@ -4,7 +4,7 @@ use Rattle.std.specs.Option.{option_or}
 use Rattle.std.proofs.lemmas.Bool.{false≢true}
 use Rattle.std.specs.Prelude.{if◌then◌else◌, max}
 use Rattle.std.proofs.lemmas.List.{append-nil}
-use Rattle.serde_json.specs.Data.{Data, null, boolean, number, string, array, object, Items, no_items, item, depth, items_depth}
+use Rattle.serde_json.specs.Data.{Data, null, boolean, number, string, array, object, Items, item, depth, items_depth}
 use Rattle.serde_json.specs.Find.{as_array}
 use Rattle.trace_spans.specs.declared.fault.Fault.{Fault}
 use Rattle.trace_spans.specs.declared.fault.Fault.TheVariants.{TooLong, Json, NotATrace, Shape, SeveralTraces, NoTrace, Memory}
@@ -12,7 +12,7 @@ use Rattle.trace_spans.specs.declared.span.Span.{Span}
 use Rattle.trace_spans.specs.Formats.{added}
 use Rattle.trace_spans.specs.Members.{then_on}
 use Rattle.trace_spans.specs.Reads.{IsFault}
-use Rattle.trace_spans.specs.Spans.{not_a_trace, spans_of_items, spans_of_list, spans_of_text, told_in_a_format, told_or}
+use Rattle.trace_spans.specs.Spans.{not_a_trace, spans_of_list, spans_of_text, told_in_a_format, told_or}
 use Rattle.trace_spans.proofs.Reading.{after_both, fault_of_added, fault_of_part}
 
 abbrev pub list_or_none : Option Items → Result (List Span) Fault

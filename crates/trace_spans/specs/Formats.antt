@@ -1,5 +1,5 @@
 -- What formats add to the spans before a text.
-use Rattle.std.specs.Prelude.{ℕ, List, ◌++◌, Bool, true, false, Option, Some, None, Result, Ok, Err}
+use Rattle.std.specs.Prelude.{List, ◌++◌, Bool, true, false, Option, Some, None, Result, Ok, Err}
 use Rattle.trace_spans.specs.declared.fault.Fault.{Fault}
 use Rattle.trace_spans.specs.declared.span.Span.{Span}
 

@@ -1,5 +1,5 @@
 -- What is read of texts one after another.
-use Rattle.std.specs.Prelude.{◌≡◌, ℕ, ◌++◌, List, ◌∷◌, Bool, Result, Ok, Err}
+use Rattle.std.specs.Prelude.{◌≡◌, ℕ, ◌++◌, List, ◌∷◌, Result, Ok, Err}
 use Rattle.serde_json.specs.Data.{Data}
 use Rattle.trace_spans.specs.declared.fault.Fault.{Fault}
 use Rattle.trace_spans.specs.declared.lines.Reading.{Reading}

@@ -1,5 +1,5 @@
 -- What a trace is, in short.
-use Rattle.std.specs.Prelude.{ℕ, ◌-◌, List, [], ◌∷◌, Bool, true, false, not, min, max, length, nat_lt, count_by, fold, if◌then◌else◌, Option, Some, None}
+use Rattle.std.specs.Prelude.{ℕ, ◌-◌, List, [], ◌∷◌, Bool, true, false, min, max, length, nat_lt, count_by, fold, if◌then◌else◌, Option, Some, None}
 use Rattle.trace_spans.specs.declared.span.Span.{Span}
 use Rattle.trace_spans.specs.declared.summary.Summary.{Summary}
 use Rattle.trace_spans.specs.declared.trace.Trace.{Trace}

@@ -1,5 +1,5 @@
 -- Zipkin's second form: a list of spans, of which client and server may share one. Its times are in microseconds.
-use Rattle.std.specs.Prelude.{ℕ, ◌&&◌, ◌++◌, List, [], ◌∷◌, Bool, true, false, not, codes, if◌then◌else◌, is_some, Option, Some, None, option_and_then, Result, Ok, Err}
+use Rattle.std.specs.Prelude.{ℕ, ◌&&◌, ◌++◌, List, [], ◌∷◌, Bool, true, false, not, codes, if◌then◌else◌, Option, Some, None, option_and_then, Result, Ok, Err}
 use Rattle.std.specs.Option.{option_or}
 use Rattle.std.specs.Str.{bytes_eq}
 use Rattle.serde_json.specs.Data.{Data, Items, no_items, item, Members}
@@ -17,7 +17,7 @@ use Rattle.trace_spans.specs.Halves.{ToldHalf, halves_of, has_half, is_shared}
 use Rattle.trace_spans.specs.Identifiers.{compared, compared_in, span_id_in}
 use Rattle.trace_spans.specs.Keys.{half_key}
 use Rattle.trace_spans.specs.Kinds.{kind_named}
-use Rattle.trace_spans.specs.Members.{then_on, has, item_in, member_of, text_in, unless_null}
+use Rattle.trace_spans.specs.Members.{then_on, has, item_in, member_of, text_in}
 use Rattle.trace_spans.specs.Micros.{end_in, start_in}
 use Rattle.trace_spans.specs.Tags.{no_tags, tags_among}
 use Rattle.trace_spans.specs.Targets.{target_of}

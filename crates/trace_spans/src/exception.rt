@@ -1,9 +1,9 @@
 //! The names of exceptions, and where spans tell them.
 ghost use Rattle.std.specs.Prelude.{◌≡◌, [], IfOk, map, option_and_then, option_map, string_bytes, take, unwrap_or};
 ghost use Rattle.std.specs.Str.{chars, encode_utf8_all};
-ghost use Rattle.trace_spans.specs.Exceptions.{exception_in, exception_in_event, exception_in_log, exception_in_tag, exception_name, first_tag, is_name_character, kept, last_exception, tag_in, tag_text};
+ghost use Rattle.trace_spans.specs.Exceptions.{exception_in, exception_in_event, exception_in_log, exception_in_tag, exception_name, is_name_character, kept, last_exception, tag_in, tag_text};
 ghost use Rattle.trace_spans.specs.Members.{then_on, items_in, member_of};
-ghost use Rattle.trace_spans.specs.Reads.{IsRead, IsReadAs};
+ghost use Rattle.trace_spans.specs.Reads.{IsRead};
 
 use crate::fault::Fault;
 use crate::member::Member;

@@ -1,5 +1,4 @@
 //! Formats of traces.
-ghost use Rattle.std.specs.Prelude.{◌≡◌};
 ghost use Rattle.trace_spans.specs.Formats.{added};
 ghost use Rattle.trace_spans.specs.Reads.{IsReadAs};
 

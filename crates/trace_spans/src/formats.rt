@@ -1,5 +1,5 @@
 //! The formats that are read, and the spans that a text tells in one of them.
-ghost use Rattle.std.specs.Prelude.{◌≡◌, ◌++◌, Ok};
+ghost use Rattle.std.specs.Prelude.{◌++◌, Ok};
 ghost use Rattle.trace_spans.specs.Formats.{added};
 ghost use Rattle.trace_spans.specs.Members.{then_on};
 ghost use Rattle.trace_spans.specs.Reads.{IsReadAs};

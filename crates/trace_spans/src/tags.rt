@@ -1,5 +1,5 @@
 //! The tags that are read of each span, found in one walk.
-ghost use Rattle.std.specs.Prelude.{◌≡◌, IfOk, option_map, option_and_then};
+ghost use Rattle.std.specs.Prelude.{◌≡◌, option_map, option_and_then};
 ghost use Rattle.serde_json.specs.Find.{as_str};
 ghost use Rattle.trace_spans.specs.Members.{member_of};
 ghost use Rattle.trace_spans.specs.Reads.{IsRead, IsReadAs};

@@ -1,5 +1,5 @@
 //! Traces.
-ghost use Rattle.std.specs.Prelude.{◌≡◌, false, option_copied};
+ghost use Rattle.std.specs.Prelude.{false, option_copied};
 ghost use Rattle.trace_spans.specs.Members.{then_on};
 ghost use Rattle.trace_spans.specs.Reads.{IsRead};
 ghost use Rattle.trace_spans.specs.Spans.{spans_of, told_by_bytes, told_by_texts};

@@ -1,14 +1,12 @@
 -- The sources of stages of spans, without what else they do.
-use Rattle.std.proofs.Common.{◌≡◌, ℕ, true, false, Option, Some, None, refl, sym, ◌∙◌}
+use Rattle.std.proofs.Common.{◌≡◌, ℕ, true, false, Option, Some, None, refl}
 use Rattle.std.specs.Prelude.{is_some}
 use Rattle.std.proofs.lemmas.Bool.{false≢true, true≢false}
 use Rattle.trace_stages.specs.Known.{has_ended}
-use Rattle.trace_stages.specs.Order.{source_of}
 use Rattle.trace_stages.specs.Scene.{PlainScene, entry_at}
 use Rattle.trace_stages.specs.Works.{at_end, begin_from, whole_with, whole_work}
 use Rattle.trace_stages.specs.declared.stage.Action.{Action}
 use Rattle.trace_stages.specs.declared.walk.stage_id.StageId.{StageId}
-use Rattle.trace_stages.specs.declared.walk.stage_id.StageId.TheVariants.{Start}
 
 begun_so : (scene : PlainScene) (place runs : ℕ) (action : Action) (source : Option StageId) → (begin_from scene place runs action source).source ≡ source
 begun_so scene place runs action None = refl

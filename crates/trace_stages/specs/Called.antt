@@ -1,5 +1,5 @@
 -- What was called when spans gave up.
-use Rattle.std.specs.Prelude.{◌≡◌, ℕ, ◌<◌, ◌==◌, ◌&&◌, List, [], ◌∷◌, ◌++◌, Bool, is_none, is_some, length, nat_eq, not, if◌then◌else◌, Option, Some, None, Vec, slice_get, filter, map}
+use Rattle.std.specs.Prelude.{◌≡◌, ℕ, ◌<◌, ◌==◌, ◌&&◌, List, [], ◌++◌, Bool, is_none, is_some, length, nat_eq, not, if◌then◌else◌, Option, Some, None, Vec, slice_get, filter, map}
 use Rattle.std.specs.Option.{option_eq}
 use Rattle.std.specs.declared.alloc.Global.{Global}
 use Rattle.trace_relations.specs.Ancestry.{parent_at, start_at}

@@ -1,5 +1,5 @@
 -- With which exceptions spans fail.
-use Rattle.std.specs.Prelude.{ℕ, ◌==◌, ◌||◌, List, [], not, if◌then◌else◌, Option, Some, None, fold}
+use Rattle.std.specs.Prelude.{ℕ, ◌==◌, ◌||◌, List, not, if◌then◌else◌, Option, Some, None, fold}
 use Rattle.trace_stages.specs.declared.failures.LastStep.{LastStep}
 use Rattle.trace_stages.specs.declared.fates.Fate.{Fate}
 use Rattle.trace_stages.specs.declared.fates.Fate.TheVariants.{Succeeded, Failed, Threw}

@@ -1,5 +1,5 @@
 -- Stages of recordings, with their names.
-use Rattle.std.specs.Prelude.{ℕ, ◌+◌, List, [], ◌∷◌, length, map, min, if◌then◌else◌, Option, Some, None, option_map}
+use Rattle.std.specs.Prelude.{ℕ, ◌+◌, List, [], ◌∷◌, length, map, min, if◌then◌else◌, Option, Some, None}
 use Rattle.trace_stages.specs.declared.stage.Action.{Action}
 use Rattle.trace_stages.specs.declared.stage.Action.TheVariants.{Null, PicksFirst}
 use Rattle.trace_stages.specs.declared.stage.ImportedStage.{ImportedStage}

@@ -1,5 +1,5 @@
 -- The walk through a span by its events.
-use Rattle.std.specs.Prelude.{ℕ, ◌||◌, List, [], ◌∷◌, ◌++◌, Bool, max, min, nat_eq, Option, Some, fold}
+use Rattle.std.specs.Prelude.{ℕ, ◌||◌, List, [], ◌∷◌, ◌++◌, Bool, max, min, nat_eq, Some, fold}
 use Rattle.std.specs.List.{list_any}
 use Rattle.trace_stages.specs.declared.walk.called.Called.{Called}
 use Rattle.trace_stages.specs.declared.walk.event.Event.{Event}

@@ -1,7 +1,6 @@
 //! Jaeger JSON.
-ghost use Rattle.std.specs.Prelude.{◌≡◌, ◌++◌, Ok, None};
+ghost use Rattle.std.specs.Prelude.{◌++◌, Ok, None};
 ghost use Rattle.serde_json.specs.Data.{no_items, item};
-ghost use Rattle.trace_spans.specs.Formats.{added};
 ghost use Rattle.trace_spans.specs.Jaeger.{jaeger_spans, jaeger_told, spans_of_items};
 ghost use Rattle.trace_spans.specs.Members.{has, then_on};
 ghost use Rattle.trace_spans.specs.Reads.{IsReadAs};

@@ -1,5 +1,5 @@
 //! The spans of traces.
-ghost use Rattle.std.specs.Prelude.{◌≡◌, ◌++◌, Ok, option_map};
+ghost use Rattle.std.specs.Prelude.{◌++◌, Ok, option_map};
 ghost use Rattle.trace_spans.specs.Jaeger.{spans_of_items, spans_of_trace};
 ghost use Rattle.trace_spans.specs.Members.{then_on};
 ghost use Rattle.trace_spans.specs.Reads.{IsReadAs};

@@ -1,5 +1,5 @@
 //! Resources, and the spans of their scopes.
-ghost use Rattle.std.specs.Prelude.{◌≡◌, ◌++◌, Ok, option_map};
+ghost use Rattle.std.specs.Prelude.{◌++◌, Ok};
 ghost use Rattle.trace_spans.specs.Members.{then_on};
 ghost use Rattle.trace_spans.specs.Otlp.{attribute_by, clock_in, spans_of_resource, spans_of_scope, spans_of_scope_list};
 ghost use Rattle.trace_spans.specs.Reads.{IsRead, IsReadAs};

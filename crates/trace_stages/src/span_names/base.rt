@@ -1,5 +1,5 @@
 //! The names of spans, but for their numbers.
-ghost use Rattle.std.specs.Prelude.{◌≡◌, IfOk, map, string_bytes};
+ghost use Rattle.std.specs.Prelude.{◌≡◌, IfOk, map};
 ghost use Rattle.trace_stages.specs.Names.{base_name};
 
 use crate::span_names::words::words_or;

@@ -1,5 +1,5 @@
 //! The name of each span's stage.
-ghost use Rattle.std.specs.Prelude.{◌≡◌, ◌<◌, ◌-◌, ◌^◌, IfOk, length};
+ghost use Rattle.std.specs.Prelude.{◌≡◌, ◌<◌, ◌-◌, IfOk};
 ghost use Rattle.trace_stages.specs.Names.{names, with_number};
 
 use crate::span_names::base::base_names;

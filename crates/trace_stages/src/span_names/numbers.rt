@@ -3,7 +3,7 @@ ghost use Rattle.std.specs.Prelude.{◌≡◌, ℕ, ◌+◌, ◌<◌, ◌-◌, �
 ghost use Rattle.std.specs.HashMap.{get_by_text};
 ghost use Rattle.std.specs.Option.{option_or};
 ghost use Rattle.trace_stages.specs.Names.{count_before};
-ghost use Rattle.trace_stages.specs.Numbers.{AreCounts, AreNumbers, number_of};
+ghost use Rattle.trace_stages.specs.Numbers.{AreCounts, AreNumbers};
 
 use std::alloc::{AllocError, Global};
 use std::collections::HashMap;

@@ -1,5 +1,5 @@
 //! What each span has by what happens inside it.
-ghost use Rattle.std.specs.Prelude.{◌≡◌, IfOk};
+ghost use Rattle.std.specs.Prelude.{IfOk};
 ghost use Rattle.trace_relations.specs.Relations.{plain};
 ghost use Rattle.trace_stages.specs.Holdings.{AreHeld, held_by};
 ghost use Rattle.trace_stages.specs.KeptWalk.{Holds};

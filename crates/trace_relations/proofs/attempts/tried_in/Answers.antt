@@ -1,4 +1,4 @@
-use Rattle.std.proofs.Common.{◌≡◌, ◌∙◌, ap, cond, false, get_or, refl, true, arith, sym}
+use Rattle.std.proofs.Common.{◌∙◌, get_or, refl, arith}
 use Rattle.trace_relations.specs.KeptAttempts.{calls_with, plain_attempts}
 use Rattle.trace_relations.proofs.Trying.{all_tried, call_among, none_tried, tried_next}
 use Rattle.trace_relations.proofs.attempts.tried_in.Goals as goal

@@ -1,4 +1,3 @@
-use Rattle.std.proofs.Common.{◌≡◌, ℕ}
 use Rattle.trace_relations.proofs.Trying.{tried_is, tried_kept}
 use Rattle.trace_relations.proofs.attempts.try_again.Goals as goal
 

@@ -1,4 +1,4 @@
-use Rattle.std.proofs.Common.{◌∙◌, rules, sym}
+use Rattle.std.proofs.Common.{◌∙◌, sym}
 use Rattle.trace_relations.specs.KeptCalled.{called_with}
 use Rattle.trace_relations.proofs.GivingUp.{none_given, not_given, one_given, own_child}
 use Rattle.trace_relations.proofs.given_up.given_up_by.Goals as goal

@@ -1,4 +1,4 @@
-use Rattle.std.proofs.Common.{List, ◌++◌, ◌+◌, ◌*◌, ◌<◌, Result, Ok, refl, sym, ap, subst, ◌∙◌, arith, rules}
+use Rattle.std.proofs.Common.{List, ◌++◌, ◌+◌, ◌*◌, ◌<◌, Result, Ok, refl, sym, ap, subst, arith, rules}
 use Rattle.std.proofs.lemmas.Result.{err_from_is_err_and}
 use Rattle.serde_json.specs.Data.{depth, items_depth}
 use Rattle.trace_spans.specs.declared.fault.Fault.{Fault}

@@ -1,4 +1,4 @@
-use Rattle.std.proofs.Common.{arith, rules}
+use Rattle.std.proofs.Common.{rules}
 use Rattle.trace_relations.proofs.FreeRows.{count_below, none_is_first, one_is_first, one_taken}
 use Rattle.trace_relations.proofs.free_places.FreePlaces.take_from.Goals as goal
 

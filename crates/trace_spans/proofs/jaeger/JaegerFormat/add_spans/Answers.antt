@@ -1,12 +1,9 @@
-use Rattle.std.proofs.Common.{◌≡◌, List, Bool, Option, Some, None, Result, Ok, true, cond, sym, ap, subst, ◌∙◌}
+use Rattle.std.proofs.Common.{List, Option, Result, sym, ap, subst, ◌∙◌}
 use Rattle.std.proofs.lemmas.Result.{err_from_is_err_and}
-use Rattle.serde_json.specs.Data.{no_items, item}
 use Rattle.trace_spans.specs.declared.fault.Fault.{Fault}
 use Rattle.trace_spans.specs.declared.member.Member.TheVariants as member
 use Rattle.trace_spans.specs.declared.span.Span.{Span}
 use Rattle.trace_spans.specs.Formats.{added}
-use Rattle.trace_spans.specs.Jaeger.{jaeger_spans, jaeger_told, spans_of_items, spans_of_trace, trace_or_span}
-use Rattle.trace_spans.specs.Members.{has}
 use Rattle.trace_spans.specs.Reads.{IsFault}
 use Rattle.trace_spans.proofs.Formatted.{some_added, some_refused}
 use Rattle.trace_spans.proofs.JaegerTold.{alone_told, answer_told, trace_told}

@@ -5,7 +5,6 @@ use Rattle.serde_json.specs.Data.{Data}
 use Rattle.trace_spans.specs.declared.fault.Fault.{Fault}
 use Rattle.trace_spans.specs.declared.member.Member.TheVariants as member
 use Rattle.trace_spans.specs.declared.span.Span.{Span}
-use Rattle.trace_spans.specs.Formats.{added}
 use Rattle.trace_spans.specs.Otlp.{otlp_told, told_alone, told_by, told_within}
 use Rattle.trace_spans.specs.Reads.{IsFault, IsReadAs}
 use Rattle.trace_spans.proofs.Formatted.{fault_of_first, of_first, of_second}

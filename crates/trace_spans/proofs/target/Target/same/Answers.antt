@@ -1,4 +1,4 @@
-use Rattle.std.proofs.Common.{◌≡◌, length, refl, sym, ap, ◌∙◌, arith}
+use Rattle.std.proofs.Common.{refl, sym, ◌∙◌, arith}
 use Rattle.std.proofs.lemmas.Bool.{false≢true}
 use Rattle.trace_spans.proofs.Same.{all_same, apart_at, more_same}
 use Rattle.trace_spans.proofs.target.Target.same.Goals as goal

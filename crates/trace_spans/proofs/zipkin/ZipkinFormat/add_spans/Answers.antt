@@ -1,4 +1,4 @@
-use Rattle.std.proofs.Common.{List, Bool, Option, Result, Ok, Err, false, refl, sym, ap, subst, ◌∙◌}
+use Rattle.std.proofs.Common.{List, Option, Result, sym, ap, subst, ◌∙◌}
 use Rattle.std.proofs.lemmas.Result.{err_from_is_err_and}
 use Rattle.trace_spans.specs.declared.fault.Fault.{Fault}
 use Rattle.trace_spans.specs.declared.span.Span.{Span}

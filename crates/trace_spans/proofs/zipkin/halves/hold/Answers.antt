@@ -1,7 +1,4 @@
-use Rattle.std.proofs.Common.{List, subst, sym, ◌∙◌, ap}
 use Rattle.std.proofs.lemmas.List.{append-nil}
-use Rattle.trace_spans.specs.Halves.{ToldHalf}
-use Rattle.trace_spans.specs.HalfMarks.{AreHalves, told_of}
 use Rattle.trace_spans.proofs.HalvesHeld.{inserted}
 use Rattle.trace_spans.proofs.zipkin.halves.hold.Goals as goal
 
