@@ -8,8 +8,6 @@ use Rattle.std.proofs.lemmas.Bool.{true≢false}
 use Rattle.std.proofs.lemmas.List.{length-map}
 use Rattle.std.proofs.lemmas.Option.{none-some, same_Some, slice_get_within}
 use Rattle.std.proofs.lemmas.Slice.Eq.{bytes_eq-Decides}
-use Rattle.act_expr.specs.ExceptionName.{is_exception_name}
-use Rattle.act_expr.specs.Expression.{conditional, failed, literal, throw}
 use Rattle.act_expr.specs.declared.outcome.Mode.{Mode}
 use Rattle.act_expr.specs.declared.outcome.Value.TheVariants as value
 use Rattle.stage_graph.specs.Checks.{action_fault, are_known, is_name}
@@ -21,7 +19,7 @@ use Rattle.trace_stages.specs.Naming.{PlainStage}
 use Rattle.trace_stages.specs.declared.stage.Action.{Action}
 use Rattle.trace_stages.specs.declared.stage.StageName.{StageName}
 use Rattle.trace_stages.specs.declared.stage.Action.TheVariants.{Null, PicksFirst, Throws, ThrowsIfFailed}
-use Rattle.trace_import.specs.Actions.{exception_name, imported_action}
+use Rattle.trace_import.specs.Actions.{imported_action}
 use Rattle.trace_import.specs.Specs.{imported_spec, imported_specs}
 use Rattle.trace_import.specs.StageNames.{stage_name}
 use Rattle.trace_accepted.proofs.Members.{AreDistinct, IsIn, map_in}
@@ -90,20 +88,12 @@ none_before find place (spec ∷ specs) fine =
     next_place : (p k : ℕ) → p + 1 + k ≡ p + suc k
     next_place p k = omega arith
 
-small_throw : (b : Bool) (name : List ℕ) → action_fault (Some (cond b (throw name) (literal value.Null))) ≡ None
-small_throw true name = refl
-small_throw false name = refl
-
-small_if : (b : Bool) (name : List ℕ) → action_fault (Some (conditional failed (cond b (throw name) (literal value.Null)) (literal value.Null))) ≡ None
-small_if true name = refl
-small_if false name = refl
-
 small : (spans : List Span) (action : Option Action) → action_fault (option_map (imported_action spans) action) ≡ None
 small spans None = refl
 small spans (Some Null) = refl
 small spans (Some PicksFirst) = refl
-small spans (Some (Throws exception)) = small_throw (is_exception_name (exception_name spans exception)) (exception_name spans exception)
-small spans (Some (ThrowsIfFailed exception)) = small_if (is_exception_name (exception_name spans exception)) (exception_name spans exception)
+small spans (Some (Throws exception)) = refl
+small spans (Some (ThrowsIfFailed exception)) = refl
 
 known_all : (specs : List Spec) (found : List (List ℕ)) → Each (λ name. IsIn name (map (λ s. s.name) specs)) found → are_known (place_of specs) found ≡ true
 known_all specs [] h = refl

@@ -1,12 +1,11 @@
 -- The stages that an import writes can be read back.
-use Rattle.std.proofs.Common.{◌≡◌, ℕ, ◌<◌, ◌≤◌, ◌^◌, List, [], ◌∷◌, All, Bool, true, false, cond, map, IfSome, IsTrue, IsUtf8, Option, Some, None, option_map, refl, sym, subst, arith}
+use Rattle.std.proofs.Common.{◌≡◌, ℕ, ◌<◌, ◌≤◌, ◌^◌, List, [], ◌∷◌, All, Bool, true, false, codes, if◌then◌else◌, map, IfSome, IsTrue, IsUtf8, Option, Some, None, option_map, refl, sym, subst, arith}
 use Rattle.std.specs.List.{AllByRecursion as Each}
 use Rattle.std.specs.Option.{option_to_list}
 use Rattle.std.proofs.lemmas.Bool.Decides.{nat_tests}
 use Rattle.std.proofs.lemmas.List.Elements.{All-from_recursion}
 use Rattle.act_expr.specs.ExceptionName.{is_exception_name}
-use Rattle.act_expr.specs.Expression.{depth, literal, throw}
-use Rattle.act_expr.specs.declared.outcome.Value.TheVariants as value
+use Rattle.act_expr.specs.Expression.{depth}
 use Rattle.recording.specs.Written.{IsWellFormed}
 use Rattle.recording.specs.WrittenStages.{IsOp}
 use Rattle.recording_back.specs.ReadBack.{IsLabelled, IsWritable}
@@ -18,7 +17,7 @@ use Rattle.trace_stages.specs.declared.stage.Action.TheVariants.{Null, PicksFirs
 use Rattle.trace_stages.specs.declared.stage.Op.{Op as ImportedOp}
 use Rattle.trace_stages.specs.declared.stage.Op.TheVariants as ops
 use Rattle.trace_stages.specs.declared.stage.StageName.{StageName}
-use Rattle.trace_import.specs.Actions.{exception_name, imported_action}
+use Rattle.trace_import.specs.Actions.{exception_name, imported_action, throw_of}
 use Rattle.trace_import.specs.Specs.{imported_op, imported_spec, labelled_stage, labelled_stages}
 use Rattle.trace_import.specs.StageNames.{stage_name}
 use Rattle.trace_import.specs.Texts.{HasTexts}
@@ -38,31 +37,27 @@ op_written ops.ExceptionallyCompose = tt
 op_written ops.AllOf = tt
 op_written ops.AnyOf = tt
 
-thrown_written : (b : Bool) (name : List ℕ) → is_exception_name name ≡ b → IsWellFormed (cond b (throw name) (literal value.Null))
-thrown_written true name e = e
-thrown_written false name e = tt
+-- what is written is the name of an exception
+named : (b : Bool) (name : List ℕ) → is_exception_name name ≡ b → is_exception_name (if b then name else codes "SpanFailed") ≡ true
+named true name e = e
+named false name e = refl
+
+thrown_written : (name : List ℕ) → IsWellFormed (throw_of name)
+thrown_written name = named (is_exception_name name) name refl
 
 action_written : (spans : List Span) (action : Option Action) → IfSome (option_map (imported_action spans) action) IsWellFormed
 action_written spans None = tt
 action_written spans (Some Null) = tt
 action_written spans (Some PicksFirst) = omega arith
-action_written spans (Some (Throws exception)) = thrown_written (is_exception_name (exception_name spans exception)) (exception_name spans exception) refl
-action_written spans (Some (ThrowsIfFailed exception)) = (tt, thrown_written (is_exception_name (exception_name spans exception)) (exception_name spans exception) refl, tt)
-
-thrown_depth : (b : Bool) (name : List ℕ) → depth (cond b (throw name) (literal value.Null)) ≤ 1
-thrown_depth true name = omega arith
-thrown_depth false name = omega arith
+action_written spans (Some (Throws exception)) = thrown_written (exception_name spans exception)
+action_written spans (Some (ThrowsIfFailed exception)) = (tt, thrown_written (exception_name spans exception), tt)
 
 action_shallow : (spans : List Span) (action : Option Action) → IfSome (option_map (imported_action spans) action) (λ e. depth e ≤ 100)
 action_shallow spans None = tt
 action_shallow spans (Some Null) = omega arith
 action_shallow spans (Some PicksFirst) = omega arith
-action_shallow spans (Some (Throws exception)) =
-    let low = thrown_depth (is_exception_name (exception_name spans exception)) (exception_name spans exception) in
-    omega arith
-action_shallow spans (Some (ThrowsIfFailed exception)) =
-    let low = thrown_depth (is_exception_name (exception_name spans exception)) (exception_name spans exception) in
-    omega arith
+action_shallow spans (Some (Throws exception)) = omega arith
+action_shallow spans (Some (ThrowsIfFailed exception)) = omega arith
 
 tick_low : (n : ℕ) → IsTrue (is_tick n) → n < 2 ^ 64
 tick_low n h = grind (arith, nat_tests)

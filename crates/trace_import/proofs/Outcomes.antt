@@ -7,7 +7,7 @@ use Rattle.trace_relations.specs.declared.fault.RelationsFault.TheVariants as wi
 use Rattle.trace_spans.specs.Traces.{traces_of_bytes}
 use Rattle.trace_spans.specs.declared.trace.Trace.{Trace}
 use Rattle.trace_import.specs.Each.{AreImported, AreOutcomesOf, IsCutShort, IsImportedOne, IsOutcomeOf}
-use Rattle.trace_import.specs.Faults.{ends_all, failed_writes}
+use Rattle.trace_import.specs.Faults.{ends_all}
 use Rattle.trace_import.specs.Imported.{IsNotMade}
 use Rattle.trace_import.specs.declared.each.Outcome.{Outcome}
 use Rattle.trace_import.specs.declared.fault.ImportFault.{ImportFault}
@@ -42,15 +42,6 @@ ends mapping trace held TooManyStages why all = absurd (false≢true all)
 ends mapping trace held TooLong why all = absurd (false≢true all)
 ends mapping trace held Write why all = absurd why
 ends mapping trace held Memory why all = Keeps-refl held
-
--- where no recording is made no write failed
-pub none_failed : {A : Type 0} (mapping : Mapping) (trace : Trace) (fault : ImportFault) → IsNotMade mapping trace fault → failed_writes {A} (Err fault) ≡ 0
-none_failed {A} mapping trace (Refused fault) why = refl
-none_failed {A} mapping trace (Unticked fault) why = refl
-none_failed {A} mapping trace TooManyStages why = refl
-none_failed {A} mapping trace TooLong why = refl
-none_failed {A} mapping trace Write why = absurd why
-none_failed {A} mapping trace Memory why = refl
 
 -- the lines of the first traces
 pub cut_short : (bytes : List ℕ) (mapping : Mapping) (old new : Option (List ℕ)) (traces first rest : List Trace) (outcomes : List Outcome) (written : List ℕ)
