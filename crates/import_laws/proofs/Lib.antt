@@ -1,2 +1,0 @@
-pub mod Exceptions
-pub mod Joining

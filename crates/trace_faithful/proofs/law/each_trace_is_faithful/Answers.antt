@@ -1,5 +1,0 @@
-use Rattle.trace_faithful.proofs.Meeting.{each_is_faithful}
-use Rattle.trace_faithful.proofs.law.each_trace_is_faithful.Goals as goal
-
-pub returns : goal.returns
-returns c = each_is_faithful
