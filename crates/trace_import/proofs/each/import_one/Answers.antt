@@ -21,10 +21,10 @@ pub returns-clause-written : goal.returns-clause-written
 returns-clause-written g c =
     let P : Option (List ℕ) → Result (Vec Note Global) ImportFault → Type 0 = λ sink made. (written : List ℕ) × ((c.in_ok-id.id ≡ c.args.trace.id) × CameTo c.args.mapping c.args.trace made written) × Appends (g.S.Sink.held c.args.sink.now) sink written in
     elim c.match-recording_of.branch [
-      in-Ok+in_ok-on_one_line-in-Ok+in_ok-write-in-Ok w ↦
-        let line : IsLineOf c.args.mapping c.args.trace w.in_ok-on_one_line-in-Ok.field-0.items = (w.in-Ok.recorded.text.items, w.in-Ok.ensures, w.in_ok-on_one_line-in-Ok.ensures ∙ ap on_one_line w.deref.ensures.value) in
-        let appends = subst (Appends (g.S.Sink.held c.args.sink.now) (g.S.Sink.held w.write.new.self)) w.deref-in-Ok.ensures.value w.in_ok-write-in-Ok.ensures.ok in
-        subst (P (g.S.Sink.held c.match-recording_of.sink)) (sym w.made-is) (subst (λ (held : Option (List ℕ)). P held (Ok w.in-Ok.recorded.notes)) (ap g.S.Sink.held (sym w.sink-is)) (w.in_ok-on_one_line-in-Ok.field-0.items, (c.in_ok-id.ensures ∙ c.as_str.ensures, line), appends))
-    | in-Err-2 w ↦
-        subst (P (g.S.Sink.held c.match-recording_of.sink)) (sym w.made-is) (subst (λ (held : Option (List ℕ)). P held (Err w.in-Err.fault)) (ap g.S.Sink.held (sym w.sink-is)) ([], (c.in_ok-id.ensures ∙ c.as_str.ensures, (w.in-Err.ensures, refl)), Appends-nil (g.S.Sink.held c.args.sink.now)))
+      | in-Ok+in_ok-on_one_line-in-Ok+in_ok-write-in-Ok w ↦
+          let line : IsLineOf c.args.mapping c.args.trace w.in_ok-on_one_line-in-Ok.field-0.items = (w.in-Ok.recorded.text.items, w.in-Ok.ensures, w.in_ok-on_one_line-in-Ok.ensures ∙ ap on_one_line w.deref.ensures.value) in
+          let appends = subst (Appends (g.S.Sink.held c.args.sink.now) (g.S.Sink.held w.write.new.self)) w.deref-in-Ok.ensures.value w.in_ok-write-in-Ok.ensures.ok in
+          subst (P (g.S.Sink.held c.match-recording_of.sink)) (sym w.made-is) (subst (λ (held : Option (List ℕ)). P held (Ok w.in-Ok.recorded.notes)) (ap g.S.Sink.held (sym w.sink-is)) (w.in_ok-on_one_line-in-Ok.field-0.items, (c.in_ok-id.ensures ∙ c.as_str.ensures, line), appends))
+      | in-Err-2 w ↦
+          subst (P (g.S.Sink.held c.match-recording_of.sink)) (sym w.made-is) (subst (λ (held : Option (List ℕ)). P held (Err w.in-Err.fault)) (ap g.S.Sink.held (sym w.sink-is)) ([], (c.in_ok-id.ensures ∙ c.as_str.ensures, (w.in-Err.ensures, refl)), Appends-nil (g.S.Sink.held c.args.sink.now)))
     ]
