@@ -292,9 +292,9 @@ fn run_sweep<R: StateRepresentation, W: Runner>(
 
 /// Runs the job `import`.
 fn run_import(alloc: Global, scale: Scale, seed: u32, digest: &mut Digest) -> Result<()> {
-    imported(alloc, TraceForm::Otlp, scale.of(36_000), seed, digest)?;
-    imported(alloc, TraceForm::Jaeger, scale.of(24_000), seed, digest)?;
-    imported(alloc, TraceForm::Otlp, scale.of(24_000), seed ^ 1, digest)
+    imported(alloc, TraceForm::Otlp, scale.of(22_000), seed, digest)?;
+    imported(alloc, TraceForm::Jaeger, scale.of(16_000), seed, digest)?;
+    imported(alloc, TraceForm::Otlp, scale.of(16_000), seed ^ 1, digest)
 }
 
 /// Runs the job `small`.
