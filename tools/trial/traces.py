@@ -297,7 +297,7 @@ def traces(top, program):
     for seed, said in enumerate(in_zipkin):
         yield f"trace {seed} in Zipkin's form: its recording tells what its spans do, and is that of OTLP/JSON", said, set()
     page = read(top, "docs/TRACES.md")
-    for name, unit in (("pay.jaeger.trace", "us"), ("order.otlp.trace", "us"), ("late-order.otlp.trace", "ms")):
+    for name, unit in (("search.zipkin.trace", "us"), ("pay.jaeger.trace", "us"), ("order.otlp.trace", "us"), ("late-order.otlp.trace", "ms")):
         came = run(program, Case(name, ["import", "--unit", unit, "-"], None, stdin=read(top, f"examples/{name}")))
         yield f"docs/TRACES.md shows the recording of {name}", unshown(came.out, page), set()
     told = run(program, Case("explain", ["explain", "-", "shop.POST-order"], None, stdin=came.out))
