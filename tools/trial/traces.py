@@ -210,6 +210,10 @@ def made_in_zipkin(seed):
     return text, unit, spans, as_otlp(spans, False)
 
 
+def zipkin_trace_of(seed):
+    return made_in_zipkin(seed)[0]
+
+
 def meant(unit, spans):
     """What the spans tell, each by its id: the ticks from which and to which it went (none to, where it is open), and with what it failed."""
     ticks = NANOSECONDS[unit]
