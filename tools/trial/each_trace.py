@@ -34,6 +34,10 @@ def otlp_file():
     return by_lines(*({"resourceSpans": [it]} for it in mixed([*traces, timeless])))
 
 
+def cut_file():
+    return otlp_file() + '{"resourceSpans":[{"resource":'
+
+
 def jaeger_file():
     """Three traces in one answer, and one that lasts for too long."""
     traces = [in_trace(as_jaeger(spans), trace)["data"][0] for trace, spans in (("a1", REQUEST), ("a2", KINDS_AGAIN), ("a4", SHARED))]
@@ -50,6 +54,7 @@ def zipkin_file():
 FILES = {
     "OTLP/JSON": (otlp_file, []),
     "OTLP/JSON in nanoseconds": (otlp_file, ["--unit", "ns"]),
+    "OTLP/JSON whose last line is cut": (cut_file, []),
     "Jaeger JSON": (jaeger_file, []),
     "Zipkin": (zipkin_file, ["--calls", "as-told"]),
 }

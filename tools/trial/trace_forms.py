@@ -108,6 +108,11 @@ def in_base64(it):
             it[name] = base64.b64encode(bytes.fromhex(it[name])).decode()
 
 
+def rooted(is_span, member, value):
+    """An id that is none in place of the parent that a span doesn't have."""
+    return lambda it: it.setdefault(member, value) if is_span(it) else None
+
+
 def in_capitals(it):
     """Ids of other spans and of the trace in capitals, with zeros before them."""
     for name in ("traceId", "parentSpanId", "traceID"):
@@ -187,6 +192,7 @@ def otlp_forms():
         "null": changed(text, nulls_for(is_otlp_span, "parentSpanId", "links", "attributes", "events", "status")),
         "members that nothing reads": changed(text, with_more),
     }
+    texts |= {f"a root's parent {it!r}": changed(text, rooted(is_otlp_span, "parentSpanId", it)) for it in NO_IDS}
     for name, other in texts.items():
         yield Form(f"OTLP/JSON: {name}", other, text)
     long = text.replace(TRACE, LONG_TRACE)
@@ -255,7 +261,9 @@ def exception_by_type(it):
         it["logs"] = [{"fields": [{"key": "exception.type", "value": "earlier.Kind"}]}, log, {"fields": [{"key": "event", "value": "done"}]}]
 
 
+# Durations that are none, and ids that are none.
 NEGATIVE = (-1, "-7", 2**64 - 7, str(2**64 - 7), -(2**63), 2**63, "0")
+NO_IDS = ("", "0", "0" * 16, base64.b64encode(bytes(8)).decode())
 
 
 def jaeger_forms():
@@ -295,6 +303,9 @@ def jaeger_forms():
         yield Form(f"Jaeger JSON: {name}", other, text)
     for name, references in (("no references", "none"), ("empty references", []), ("references null", None)):
         yield Form(f"Jaeger JSON: parents beside {name}", changed(unlinked, by_parent(references)), unlinked)
+    for it in NO_IDS:
+        by_parents = changed(changed(unlinked, by_parent("none")), rooted(is_jaeger_span, "parentSpanID", it))
+        yield Form(f"Jaeger JSON: a root's parent {it!r}", by_parents, unlinked)
     no_durations = changed(unlinked, lambda it: it.pop("duration") if it.get("operationName") in ("send", "draw") else None)
     yield Form("Jaeger JSON: no duration", no_durations, plain(OPEN))
 
@@ -361,6 +372,7 @@ def zipkin_forms():
         "members that nothing reads": changed(text, lambda it: with_more(it) if is_zipkin_span(it) else None),
     }
     texts |= {f"a duration {json.dumps(it)}": changed(text, lasting(it)) for it in NEGATIVE}
+    texts |= {f"a root's parent {it!r}": changed(text, rooted(is_zipkin_span, "parentId", it)) for it in NO_IDS}
     for name, other in texts.items():
         yield Form(f"Zipkin: {name}", other, otlp)
     yield Form("Zipkin: each kind", as_zipkin(KINDS_AGAIN), plain(KINDS_AGAIN))
@@ -482,6 +494,15 @@ def forms(program, only):
     with concurrent.futures.ThreadPoolExecutor(LANES) as lanes:
         for name, said in zip(chosen, lanes.map(lambda it: complaint(program, it), chosen.values())):
             yield name, said, set()
+
+
+# One row of the list, whichever the format.
+ROW = f'{TRACE} "GET /basket" 2023-11-14T22:13:20.000000000Z 0.900 ms, spans 12, failed 3\n'
+
+
+def listed_forms():
+    for name, text in (("OTLP/JSON", plain(LINKED)), ("Jaeger JSON", as_jaeger(LINKED)), ("Zipkin", as_zipkin(REQUEST))):
+        yield Case(f"import --list of {name}", ["import", "--list"], ROW, stdin=text)
 
 
 # Texts that are no trace, or have no span.
