@@ -15,6 +15,9 @@ LATE = {"failed": True, "exception": "java.net.SocketTimeoutException"}
 PRICES = {"url.full": "http://prices/all"}
 CUT = "whatif: the last line is cut, and was left out"
 OTLP_KINDS = {1: "SPAN_KIND_INTERNAL", 2: "SPAN_KIND_SERVER", 3: "SPAN_KIND_CLIENT", 4: "SPAN_KIND_PRODUCER", 5: "SPAN_KIND_CONSUMER"}
+# Durations that are none, and ids that are none.
+NEGATIVE = (-1, "-7", 2**64 - 7, str(2**64 - 7), -(2**63), 2**63, "0")
+NO_IDS = ("", "0", "0" * 16, base64.b64encode(bytes(8)).decode())
 
 
 @dataclass(frozen=True)
@@ -87,19 +90,7 @@ def halves(items):
     return items[:middle], items[middle:]
 
 
-# OTLP/JSON.
-
-
-def is_otlp_span(it):
-    return "startTimeUnixNano" in it
-
-
-def by_names(it):
-    """Kinds and codes by their names."""
-    if is_otlp_span(it):
-        it["kind"] = OTLP_KINDS[it["kind"]]
-    if "code" in it:
-        it["code"] = "STATUS_CODE_ERROR"
+# Of each format.
 
 
 def in_base64(it):
@@ -118,12 +109,6 @@ def in_capitals(it):
     for name in ("traceId", "parentSpanId", "traceID"):
         if name in it:
             it[name] = f"00{it[name].upper()}"
-
-
-def in_numbers(it):
-    for name in ("startTimeUnixNano", "endTimeUnixNano"):
-        if name in it:
-            it[name] = int(it[name])
 
 
 def in_texts(it):
@@ -149,6 +134,27 @@ def with_more(it):
     it.update({"flags": 1, **members, "droppedLinksCount": 0, "scope": {"name": "spans"}, "x": [{"spanId": 7}]})
 
 
+# OTLP/JSON.
+
+
+def is_otlp_span(it):
+    return "startTimeUnixNano" in it
+
+
+def by_names(it):
+    """Kinds and codes by their names."""
+    if is_otlp_span(it):
+        it["kind"] = OTLP_KINDS[it["kind"]]
+    if "code" in it:
+        it["code"] = "STATUS_CODE_ERROR"
+
+
+def in_numbers(it):
+    for name in ("startTimeUnixNano", "endTimeUnixNano"):
+        if name in it:
+            it[name] = int(it[name])
+
+
 def to_libraries(text):
     return text.replace('"scopeSpans"', '"instrumentationLibrarySpans"')
 
@@ -159,13 +165,13 @@ def beside(resources):
     return {"resourceSpans": [first | {"instrumentationLibrarySpans": second["scopeSpans"]}, *others]}
 
 
-def otlp_forms():
-    text = plain(LINKED)
+def otlp_lists(text):
+    """The export `text` with its resources elsewhere, or in several texts."""
     export = json.loads(text)
     resources = export["resourceSpans"]
     early, late = ({"resourceSpans": it} for it in halves(resources))
     signals = {"resourceMetrics": [{"scopeMetrics": []}]}, {"resourceLogs": [{"scopeLogs": []}]}
-    texts = {
+    return {
         "batches": json.dumps({"batches": resources}),
         "a result": json.dumps({"result": export}),
         "a trace": json.dumps({"trace": export}),
@@ -185,6 +191,12 @@ def otlp_forms():
         "metrics and logs on lines": by_lines(signals[0], early, *signals, late, signals[1]),
         "metrics and logs in a list": json.dumps([signals[1], early, [signals[0]], late]),
         "spans and metrics in a text": json.dumps(signals[0] | export),
+    }
+
+
+def otlp_forms():
+    text = plain(LINKED)
+    texts = otlp_lists(text) | {
         "kinds and codes by their names": changed(text, by_names),
         "ids in base64": changed(text, in_base64),
         "ids in capitals": changed(text, in_capitals),
@@ -261,21 +273,13 @@ def exception_by_type(it):
         it["logs"] = [{"fields": [{"key": "exception.type", "value": "earlier.Kind"}]}, log, {"fields": [{"key": "event", "value": "done"}]}]
 
 
-# Durations that are none, and ids that are none.
-NEGATIVE = (-1, "-7", 2**64 - 7, str(2**64 - 7), -(2**63), 2**63, "0")
-NO_IDS = ("", "0", "0" * 16, base64.b64encode(bytes(8)).decode())
-
-
-def jaeger_forms():
-    text, unlinked = as_jaeger(LINKED), as_jaeger(REQUEST)
+def jaeger_lists(text):
+    """The answer `text` with its traces, spans and processes elsewhere, or in several texts."""
     answer = json.loads(text)
     trace = answer["data"][0]
-    spans, processes = trace["spans"], trace["processes"]
-    early, late = (trace | {"spans": it} for it in halves(spans))
-    alone = [with_process(processes, it) for it in spans]
-    yield Form("Jaeger JSON", text, plain(LINKED))
-    yield Form("Jaeger JSON: each kind", as_jaeger(KINDS_AGAIN), plain(KINDS_AGAIN))
-    texts = {
+    early, late = (trace | {"spans": it} for it in halves(trace["spans"]))
+    alone = [with_process(trace["processes"], it) for it in trace["spans"]]
+    return {
         "a trace alone": json.dumps(trace),
         "traces alone, by lines": by_lines(early, late),
         "a list of traces": json.dumps([early, late]),
@@ -286,6 +290,14 @@ def jaeger_forms():
         "a list of spans": json.dumps(alone),
         "processes in spans": json.dumps({"data": [{"spans": alone}]}),
         "processes in spans beside others": json.dumps({"data": [{"spans": [it | {"processID": "web"} for it in alone], "processes": {"web": {"serviceName": "other"}}}]}),
+    }
+
+
+def jaeger_forms():
+    text, unlinked = as_jaeger(LINKED), as_jaeger(REQUEST)
+    yield Form("Jaeger JSON", text, plain(LINKED))
+    yield Form("Jaeger JSON: each kind", as_jaeger(KINDS_AGAIN), plain(KINDS_AGAIN))
+    texts = jaeger_lists(text) | {
         "references without a trace": changed(text, without_traces),
         "references into another trace": changed(text, with_strange_references),
         "ids in base64": changed(text, in_base64),
@@ -442,9 +454,10 @@ def mixed_forms():
 
 def cut_forms():
     """Files that are still written: of each format, a last line that is cut at several places."""
+    jaeger = json.loads(as_jaeger(REQUEST))["data"][0]
     files = {
         "OTLP/JSON": [{"resourceSpans": [it]} for it in json.loads(plain(REQUEST))["resourceSpans"]],
-        "Jaeger JSON": [with_process(json.loads(as_jaeger(REQUEST))["data"][0]["processes"], it) for it in json.loads(as_jaeger(REQUEST))["data"][0]["spans"]],
+        "Jaeger JSON": [with_process(jaeger["processes"], it) for it in jaeger["spans"]],
         "Zipkin": [[it] for it in json.loads(as_zipkin(REQUEST))],
     }
     for name, texts in files.items():
