@@ -1,5 +1,5 @@
-"""Traces that are imported: what is refused, what is told of it, and 300 traces made at random whose recordings have to
-tell what the spans told."""
+"""Traces that are imported: what is refused, what is told of it, and 300 traces made at random, and 100 in Zipkin's form, whose
+recordings have to tell what the spans told."""
 import collections
 import concurrent.futures
 import json
@@ -15,6 +15,9 @@ MOST_STAGES = 65_536
 TRACE = "4bf92f3577b34da6"
 EXCEPTIONS = ["java.io.IOException", "java.sql.SQLException", "com.shop.StockServiceDown", "Refused", "java.lang.IllegalStateException"]
 NANOSECONDS = {"ns": 1, "us": 1_000, "ms": 1_000_000}
+KINDS = {2: "SERVER", 3: "CLIENT", 4: "PRODUCER", 5: "CONSUMER"}
+TARGETS = ["url.full", "http.url", "url.path", "http.target", "db.query.text", "db.statement", "rpc.method", "server.address", "net.peer.name", "peer.service", "messaging.destination.name"]
+MADE, MADE_IN_ZIPKIN = 300, 100
 
 
 def attribute(name, value):
@@ -72,6 +75,8 @@ def spans_of(rng, count, unit, has_open):
                 "kind": rng.choice((1, 2, 3, 3, 4, 5)),
                 "failed": has_failed,
                 "exception": rng.choice(EXCEPTIONS) if has_failed and rng.random() < 0.7 else None,
+                "target": {},
+                "shared": False,
             }
         )
     for _ in range(rng.choice((0, 0, 0, 1, 2))):
@@ -87,6 +92,7 @@ def otlp_span(spans, it):
     told |= {"parentSpanId": spans[it["parent"]]["id"]} if it["parent"] is not None else {}
     told |= {"startTimeUnixNano": str(it["start"]), "endTimeUnixNano": str(it["end"])}
     told |= {"links": [{"traceId": TRACE, "spanId": spans[link]["id"]} for link in it["links"]]} if it["links"] else {}
+    told |= {"attributes": [attribute(*part) for part in it["target"].items()]} if it["target"] else {}
     told |= {"status": {"code": 2}} if it["failed"] else {}
     return told | ({"events": [{"name": "exception", "attributes": [attribute("exception.type", it["exception"])]}]} if it["exception"] else {})
 
@@ -100,12 +106,60 @@ def as_otlp(spans, by_line):
     return json.dumps({"resourceSpans": resources})
 
 
+def tagged(it):
+    """The tags of a span of Jaeger's: its kind, what it is to, and whether it failed."""
+    tags = it["target"] | ({"span.kind": KINDS[it["kind"]].lower()} if it["kind"] in KINDS else {}) | ({"error": True} if it["failed"] else {})
+    return [{"key": key, "value": value} for key, value in tags.items()]
+
+
 def jaeger_span(spans, it):
     references = [{"refType": "CHILD_OF", "traceID": TRACE, "spanID": spans[it["parent"]]["id"]}] if it["parent"] is not None else []
     references += [{"refType": "FOLLOWS_FROM", "traceID": TRACE, "spanID": spans[link]["id"]} for link in it["links"]]
     told = {"traceID": TRACE, "spanID": it["id"], "operationName": it["name"], "references": references, "processID": it["service"]}
-    told |= {"startTime": it["start"], "duration": it["end"] - it["start"], "tags": [{"key": "error", "value": True}] if it["failed"] else []}
+    told |= {"startTime": it["start"], "duration": it["end"] - it["start"], "tags": tagged(it)}
     return told | ({"logs": [{"fields": [{"key": "error.kind", "value": it["exception"]}]}]} if it["exception"] else {})
+
+
+def as_jaeger(spans):
+    processes = {it: {"serviceName": it} for it in {it["service"] for it in spans}}
+    return json.dumps({"data": [{"traceID": TRACE, "spans": [jaeger_span(spans, it) for it in spans], "processes": processes}]})
+
+
+def zipkin_tags(it):
+    """What it is to, and of a failure an `error` that isn't `false`, and the exception by one of two names."""
+    exception = {("error.type", "exception.type")[it["kind"] % 2]: it["exception"]} if it["exception"] else {}
+    return it["target"] | exception | {"error": ("", "500", "true")[it["kind"] % 3] if it["failed"] else "false"}
+
+
+def client_of(spans, it):
+    """The span that has the id by which it is told: the client, of a server's half."""
+    return spans[it["parent"]] if it["shared"] else it
+
+
+def zipkin_span(spans, it):
+    """A server's half has the parent of its client too. What is open has no duration."""
+    client = client_of(spans, it)
+    told = {"traceId": TRACE, "id": client["id"], "name": it["name"], "localEndpoint": {"serviceName": it["service"]}, "tags": zipkin_tags(it)}
+    told |= {"parentId": client_of(spans, spans[client["parent"]])["id"]} if client["parent"] is not None else {}
+    told |= {"kind": KINDS[it["kind"]]} if it["kind"] in KINDS else {}
+    told |= {"timestamp": it["start"]} | ({"duration": it["end"] - it["start"]} if it["end"] else {})
+    return told | ({"shared": True} if it["shared"] else {})
+
+
+def as_zipkin(spans):
+    return json.dumps([zipkin_span(spans, it) for it in spans])
+
+
+def in_microseconds(spans):
+    """Puts whole microseconds in place of their times; none is negative, and no start is unknown."""
+    for it in spans:
+        start = (it["start"] or it["end"]) // 1_000 + 1
+        it["start"], it["end"] = start, it["end"] and max(it["end"] // 1_000 + 1, start)
+
+
+def in_nanoseconds(spans):
+    for it in spans:
+        it["start"], it["end"] = it["start"] * 1_000, it["end"] * 1_000
 
 
 def made(seed):
@@ -117,18 +171,47 @@ def made(seed):
     spans = spans_of(rng, count, NANOSECONDS[unit], form != "jaeger")
     if form != "jaeger":
         return as_otlp(spans, form == "lines"), unit, spans
-    for it in spans:
-        # whole microseconds, and no negative duration
-        it["start"], it["end"] = it["start"] // 1_000 + 1, max(it["end"] // 1_000, it["start"] // 1_000) + 1
-    processes = {it: {"serviceName": it} for it in {it["service"] for it in spans}}
-    text = json.dumps({"data": [{"traceID": TRACE, "spans": [jaeger_span(spans, it) for it in spans], "processes": processes}]})
-    for it in spans:
-        it["start"], it["end"] = it["start"] * 1_000, it["end"] * 1_000
+    in_microseconds(spans)
+    text = as_jaeger(spans)
+    in_nanoseconds(spans)
     return text, unit, spans
 
 
 def trace_of(seed):
     return made(seed)[0]
+
+
+def share(rng, spans):
+    """Some spans become servers' halves of their parents. What is below one of the two is below the server's half where it is
+    of the server's service, else below the client's: their one id tells no more."""
+    ids, taken = collections.Counter(it["id"] for it in spans), set()
+    for place, half in enumerate(spans):
+        both = {place, half["parent"]}
+        if len(both - {None}) < 2 or both & taken or any(ids[spans[it]["id"]] > 1 for it in both) or rng.random() < 0.5:
+            continue
+        taken |= both
+        half["shared"] = True
+        for it in spans:
+            if it["parent"] in both and it is not half:
+                it["parent"] = place if it["service"] == half["service"] else half["parent"]
+
+
+def made_in_zipkin(seed):
+    """A trace without links, in Zipkin's form, the unit's name, its spans in nanoseconds, and the same in OTLP/JSON."""
+    rng = random.Random(f"traces of Zipkin {seed}")
+    unit = rng.choice(("us", "us", "ns", "ms"))
+    spans = spans_of(rng, rng.choice((1, 2, 3, 5, 8, 20, 60, 200)), NANOSECONDS[unit], True)
+    for it in spans:
+        it["links"], it["target"] = [], {rng.choice(TARGETS): rng.choice("ab")} if rng.random() < 0.5 else {}
+    share(rng, spans)
+    in_microseconds(spans)
+    text = as_zipkin(spans)
+    in_nanoseconds(spans)
+    return text, unit, spans, as_otlp(spans, False)
+
+
+def zipkin_trace_of(seed):
+    return made_in_zipkin(seed)[0]
 
 
 def meant(unit, spans):
@@ -137,7 +220,7 @@ def meant(unit, spans):
     first = min(time for it in spans for time in (it["start"], it["end"]) if time)
     seen, told = set(), []
     for it in spans:
-        known = (it["id"], it["service"], it["name"], it["start"], it["end"])
+        known = (it["id"], it["shared"], it["service"], it["name"], it["start"], it["end"])
         if known in seen:
             continue
         seen.add(known)
@@ -152,9 +235,25 @@ STATE = re.compile(r"(\S+) \S+ rank \d+ (?:(pending)|(value|bare|wrapped):(\S+) 
 TIMES = re.compile(r"(\S+) start (\S+) queued \d+ runs \d+")
 
 
-def complaint(program, seed):
+def with_their_ids(recording, spans):
+    """The recording, in which the server's halves have the ids of their clients."""
+    ids = {it["id"]: client_of(spans, it)["id"] for it in spans}
+    return re.sub(rb'("(?:span|x-work-of)":)"(\w+)"', lambda it: b'%s"%s"' % (it[1], ids[it[2].decode()].encode()), recording)
+
+
+def zipkin_complaint(program, seed):
+    """What the recording of a trace in Zipkin's form tells otherwise than its spans, or than that of the same in OTLP/JSON; or nothing."""
+    text, unit, spans, plain = made_in_zipkin(seed)
+    came, wanted = (run(program, Case("import", ["import", "--unit", unit], None, stdin=it)) for it in (text, plain))
+    if (came.status, came.out, came.err) != (wanted.status, with_their_ids(wanted.out, spans), wanted.err):
+        return f"in OTLP/JSON it is {shown(wanted.out)} {shown(wanted.err)}, in Zipkin's form {shown(came.out)} {shown(came.err)}"
+    for it in spans:
+        it["id"] = client_of(spans, it)["id"]
+    return complaint(program, text, unit, spans)
+
+
+def complaint(program, text, unit, spans):
     """What the recording of a trace tells otherwise than its spans, or nothing."""
-    text, unit, spans = made(seed)
     came = run(program, Case("import", ["import", "--unit", unit, "--clocks", "as-told"], None, stdin=text))
     if came.status != 0:
         return f"refused: {shown(came.out)} {shown(came.err)}"
@@ -195,11 +294,14 @@ def differences(stages, states, starts, wanted):
 def traces(top, program):
     """The name of each case, its complaint or nothing, and no refusal."""
     with concurrent.futures.ThreadPoolExecutor(LANES) as lanes:
-        told = list(lanes.map(lambda seed: complaint(program, seed), range(300)))
+        told = list(lanes.map(lambda seed: complaint(program, *made(seed)), range(MADE)))
+        in_zipkin = list(lanes.map(lambda seed: zipkin_complaint(program, seed), range(MADE_IN_ZIPKIN)))
     for seed, said in enumerate(told):
         yield f"trace {seed}: its recording tells what its spans do", said, set()
+    for seed, said in enumerate(in_zipkin):
+        yield f"trace {seed} in Zipkin's form: its recording tells what its spans do, and is that of OTLP/JSON", said, set()
     page = read(top, "docs/TRACES.md")
-    for name, unit in (("pay.jaeger.trace", "us"), ("order.otlp.trace", "us"), ("late-order.otlp.trace", "ms")):
+    for name, unit in (("search.zipkin.trace", "us"), ("pay.jaeger.trace", "us"), ("order.otlp.trace", "us"), ("late-order.otlp.trace", "ms")):
         came = run(program, Case(name, ["import", "--unit", unit, "-"], None, stdin=read(top, f"examples/{name}")))
         yield f"docs/TRACES.md shows the recording of {name}", unshown(came.out, page), set()
     told = run(program, Case("explain", ["explain", "-", "shop.POST-order"], None, stdin=came.out))
