@@ -65,13 +65,17 @@ references_of trace (item reference references) =
     then_on (references_of trace references) (λ others.
     Ok (with_reference (is_own trace referred) (bytes_eq kind (codes "CHILD_OF")) id others))))))
 
--- without a list of references `parentSpanID` is the parent
-abbrev pub references_or_parent : List ℕ → Data → Items → Result References Fault
-references_or_parent trace span no_items = then_on (compared_in member.JaegerParent span) (λ id. Ok (record { parents = one_unless_empty id; links = [] }))
-references_or_parent trace span (item reference references) = references_of trace (item reference references)
+-- the references into the trace; where there are none `parentSpanID` is the parent
+abbrev pub or_parent : List (List ℕ) → List (List ℕ) → List ℕ → References
+or_parent [] [] id = record { parents = one_unless_empty id; links = [] }
+or_parent parents links id = record { parents = parents; links = links }
 
 unfoldable pub references_in : List ℕ → Data → Result References Fault
-references_in trace span = then_on (items_in member.References span) (references_or_parent trace span)
+references_in trace span =
+    then_on (items_in member.References span) (λ references.
+    then_on (references_of trace references) (λ those.
+    then_on (compared_in member.JaegerParent span) (λ id.
+    Ok (or_parent those.parents those.links id))))
 
 -- the clock of the process that the span names among these
 unfoldable pub named_clock : Option Data → Data → Result (List (List ℕ)) Fault

@@ -182,10 +182,3 @@ pub(crate) fn found_number(
         None => Err(Fault::of_shape(asked)),
     }
 }
-
-/// A whole number, if the object has such a member.
-pub(crate) fn number_or_none(object: &Tree<'_, '_>, asked: Member) -> Result<Option<u64>, Fault>
-    ensures { IsRead result (number_in asked object.now) }
-{
-    found_number(object, &member(object, asked), asked)
-}

@@ -12,32 +12,48 @@ use std::alloc::{AllocError, Global};
 /// The most bytes of a text that is told.
 const MOST_TOLD: usize = 64;
 
-/// The member of an object, or of an object among its members and their items.
-fn look_up<'t, 'a>(object: &Tree<'t, 'a>, asked: Member) -> Option<Tree<'t, 'a>> {
-    if let Some(own) = member(object, asked) {
-        return Some(own);
-    }
-    let mut members = object.members()?;
-    'members: while let Some((_, value)) = members.next() {
-        if let Some(inner) = member(&value, asked) {
-            return Some(inner);
-        }
-        if let Some(found) = first_of_items(&value, asked) {
-            return Some(found);
-        }
-    }
-    None
+/// The members of a name that were met.
+#[derive(Drop)]
+enum Met<'t, 'a> {
+    None,
+    One(Tree<'t, 'a>),
+    Several,
 }
 
-/// The member of the first item of an array that has it.
-fn first_of_items<'t, 'a>(list: &Tree<'t, 'a>, asked: Member) -> Option<Tree<'t, 'a>> {
-    let mut items = list.as_array()?;
-    'items: while let Some(item) = items.next() {
-        if let Some(found) = member(&item, asked) {
-            return Some(found);
+impl<'t, 'a> Met<'t, 'a> {
+    /// These members, and one more if there is one.
+    fn and(self, more: Option<Tree<'t, 'a>>) -> Met<'t, 'a> {
+        match (self, more) {
+            (met, None) => met,
+            (Met::None, Some(one)) => Met::One(one),
+            _ => Met::Several,
         }
     }
-    None
+}
+
+/// The members that were met, and those of a name that the items of a list have.
+fn with_items<'t, 'a>(met: Met<'t, 'a>, list: &Tree<'t, 'a>, asked: Member) -> Met<'t, 'a> {
+    let Some(mut items) = list.as_array() else {
+        return met;
+    };
+    let mut met = met;
+    'items: while let Some(item) = items.next() {
+        met = met.and(member(&item, asked));
+    }
+    met
+}
+
+/// The one member of a name that an object has, or an object among its members or their items; none where there are several.
+fn look_up<'t, 'a>(object: &Tree<'t, 'a>, asked: Member) -> Option<Tree<'t, 'a>> {
+    let mut met = Met::None.and(member(object, asked));
+    let mut members = object.members()?;
+    'members: while let Some((_, value)) = members.next() {
+        met = with_items(met.and(member(&value, asked)), &value, asked);
+    }
+    match met {
+        Met::One(one) => Some(one),
+        Met::None | Met::Several => None,
+    }
 }
 
 /// A text in quotes; of a long one what it begins with.

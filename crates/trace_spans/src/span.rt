@@ -78,14 +78,6 @@ impl Spans {
         Ok(())
     }
 
-    /// Adds spans at the end; where memory is out the spans stay as they are.
-    pub fn append(&mut self, others: Spans) -> Result<(), AllocError>
-        ensures { OnOk result (self.new ≡ self.old ++ others) }
-    {
-        let mut more = others.items;
-        self.items.append(&mut more)
-    }
-
     /// The spans, in order.
     pub fn as_slice(&self) -> &[Span]
         ensures { result.now ≡ self.now }

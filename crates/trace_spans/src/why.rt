@@ -74,7 +74,8 @@ fn write_place<W: fmt::Write>(
     if let Some((id, name)) = &place.span {
         let id = id.as_str();
         let name = name.as_str();
-        write!(f, " of the span {id} {name:?}")?;
+        let apart = if id.is_empty() { "" } else { " " };
+        write!(f, " of the span{apart}{id} {name:?}")?;
     }
     match &place.value {
         Some(value) => {
@@ -142,6 +143,9 @@ impl fmt::Display for WhyStrange<'_> {
         let line = InLine(strange.line);
         write!(f, "{line}")?;
         match &strange.members {
+            Some(members) if members.as_slice().is_empty() => {
+                f.write_str("an object without members is no trace")?;
+            }
             Some(members) => {
                 f.write_str("an object with the members")?;
                 for member in members.as_slice() {

@@ -1,11 +1,9 @@
 //! The references of spans.
-ghost use Rattle.std.specs.Prelude.{◌≡◌, [], Ok};
+ghost use Rattle.std.specs.Prelude.{◌≡◌, IfOk};
 ghost use Rattle.serde_json.specs.Data.{no_items, item};
 ghost use Rattle.trace_spans.specs.declared.member.Member.TheVariants as member;
-ghost use Rattle.trace_spans.specs.Identifiers.{compared_in, one_unless_empty};
-ghost use Rattle.trace_spans.specs.Jaeger.{is_own, references_in, references_of};
+ghost use Rattle.trace_spans.specs.Jaeger.{is_own, or_parent, references_in, references_of};
 ghost use Rattle.trace_spans.specs.JaegerMembers.{jaeger_members_of};
-ghost use Rattle.trace_spans.specs.Members.{then_on};
 ghost use Rattle.trace_spans.specs.Reads.{IsRead, IsReadAs};
 ghost use Rattle.trace_spans.specs.References.{with_more};
 
@@ -16,7 +14,7 @@ use crate::member::Member;
 use crate::object::{found_items, item_object, text_or_empty};
 use crate::text::{Text, TextList};
 use json_trees::{Items, Tree};
-use std::alloc::Global;
+use std::alloc::{AllocError, Global};
 
 /// The references of a span into its trace.
 #[derive(Drop)]
@@ -55,45 +53,37 @@ fn add_reference(
     Ok(())
 }
 
-/// The references that a list has into a trace: the first, and those after it.
+/// The references that a list has into a trace.
 fn listed_references(
     alloc: Global,
     trace: &Text,
-    first: &Tree<'_, '_>,
-    mut others: Items<'_, '_>,
+    mut list: Items<'_, '_>,
 ) -> Result<References, Fault>
-    ensures { IsRead result (references_of trace.now (item first.now others.entry)) }
+    ensures { IsRead result (references_of trace.now list.entry) }
 {
     let mut references = References {
         parents: TextList::new(alloc),
         links: TextList::new(alloc),
     };
-    add_reference(alloc, trace, first, &mut references)?;
-    while let Some(reference) = others.next() {
+    while let Some(reference) = list.next() {
         add_reference(alloc, trace, &reference, &mut references)?;
     }
     Ok(references)
 }
 
-/// The parent that `parentSpanID` names, if it names one.
-fn named_parent(
-    alloc: Global,
-    span: &Tree<'_, '_>,
-    members: &JaegerMembers<'_, '_>,
-) -> Result<References, Fault>
-    requires { members.now ≡ jaeger_members_of span.now }
-    ensures { IsRead result (then_on (compared_in member.JaegerParent span.now) (λ id. Ok (record { parents = one_unless_empty id; links = [] }))) }
+/// References, or the parent if there are none.
+fn or_parent(references: References, parent: Text) -> Result<References, AllocError>
+    ensures { IfOk result (λ those. those ≡ or_parent references.parents references.links parent) }
 {
-    let mut parents = TextList::new(alloc);
-    let parent = found_compared_id(alloc, span, &members.parent, Member::JaegerParent)?;
-    if !parent.as_str().is_empty() {
-        parents.push(parent)?;
+    let mut those = references;
+    let has_none = those.parents.as_slice().is_empty() && those.links.as_slice().is_empty();
+    if has_none && !parent.as_str().is_empty() {
+        those.parents.push(parent)?;
     }
-    let links = TextList::new(alloc);
-    Ok(References { parents, links })
+    Ok(those)
 }
 
-/// The references of a span into its trace; without a list of them `parentSpanID` is the parent.
+/// The references of a span into its trace; where there are none `parentSpanID` is the parent.
 #[tactic(auto, unfolding(crate::specs::Jaeger::references_in))]
 pub(crate) fn references_of(
     alloc: Global,
@@ -104,9 +94,8 @@ pub(crate) fn references_of(
     requires { members.now ≡ jaeger_members_of span.now }
     ensures { IsRead result (references_in trace.now span.now) }
 {
-    let mut list = found_items(span, &members.references, Member::References)?;
-    match list.next() {
-        Some(first) => listed_references(alloc, trace, &first, list),
-        None => named_parent(alloc, span, members),
-    }
+    let list = found_items(span, &members.references, Member::References)?;
+    let references = listed_references(alloc, trace, list)?;
+    let parent = found_compared_id(alloc, span, &members.parent, Member::JaegerParent)?;
+    Ok(or_parent(references, parent)?)
 }
