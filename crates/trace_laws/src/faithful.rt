@@ -8,7 +8,7 @@ pub fn each_span_has_its_stages()
     ensures { EachSpanHasItsStages }
 {}
 
-/// What a stage of a trace waits for is a stage.
+/// What a stage of a trace waits for is a stage, where there are no more than 65,536.
 pub fn each_source_is_a_stage()
     ensures { EachSourceIsAStage }
 {}
