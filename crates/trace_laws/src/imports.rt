@@ -6,12 +6,13 @@ pub fn each_import_is_accepted()
     ensures { EachImportIsAccepted }
 {}
 
-/// The stages of an import complete when the spans of its trace did, and fail as they did.
+/// In the graph that is read from an import each stage completes as `each_trace_is_faithful` says; what that law leaves open
+/// of answers and joins is open here too.
 pub fn each_import_is_faithful()
     ensures { EachImportIsFaithful }
 {}
 
-/// The exception that a span tells has its name in the recording.
+/// The exception that a span tells is written by the name that the span tells, if that is one of an exception.
 pub fn each_exception_has_its_name()
     ensures { EachExceptionHasItsName }
 {}
