@@ -34,11 +34,11 @@ const MOST_SPANS: usize = 65_536;
 pub struct Relations {
     /// The clocks that are moved.
     pub moved: Vec<Moved>,
-    /// The earliest time of the trace.
+    /// The earliest time of the trace, in nanoseconds since 1970, by the clocks of its roots.
     pub origin: i128,
     /// From which tick to which each span goes.
     pub intervals: Vec<Interval>,
-    /// The ends that were taken to be those of callers.
+    /// The ends that were taken to be those of callers: to be told, and pinned by no clause.
     pub late: Vec<LateEnd>,
     pub references: Vec<References>,
     /// The places in the order of starts.

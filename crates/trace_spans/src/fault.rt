@@ -21,7 +21,7 @@ pub enum Fault {
     NotATrace(Strange),
     /// The member has a wrong form, or a span has no id.
     Shape(Misshapen),
-    /// It has several traces, and none of them was asked for: the first 16.
+    /// It has several traces, of which none was asked for, or that begin with what was asked for: the first 16.
     SeveralTraces(TextList),
     /// It has no span, or none of the trace that was asked for.
     NoTrace,

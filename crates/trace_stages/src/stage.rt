@@ -56,6 +56,7 @@ pub enum Action {
 pub struct ImportedStage {
     pub name: StageName,
     pub op: Op,
+    /// The tick at which it is created, and its queueing and run in ticks.
     pub created: u64,
     pub sources: Vec<StageName>,
     /// The stage that goes on where the source failed.
