@@ -8,7 +8,7 @@ import re
 from .calls import calls
 from .edited_traces import as_otlp
 from .run import LANES, Case, run, shown
-from .trace_forms import KINDS_AGAIN, REQUEST, SHARED, by_lines, zipkin_text
+from .trace_forms import CUT, KINDS_AGAIN, REQUEST, SHARED, by_lines, zipkin_text
 from .traces import TRACE, as_jaeger, made_in_zipkin, otlp, span
 
 TRACE_IDS = re.compile(r'"trace(?:Id|ID)": ?"(\w+)"')
@@ -61,10 +61,10 @@ FILES = {
 
 
 def told_of(trace, alone):
-    """The lines of standard error about a trace, by what is told when it is imported alone."""
+    """The lines of standard error about a trace and not its file, by what is told when it is imported alone."""
     lines = alone.err.decode().splitlines()
     if alone.status == 0:
-        return [f"whatif: trace {trace}: {it.removeprefix('whatif: ')}" for it in lines]
+        return [f"whatif: trace {trace}: {it.removeprefix('whatif: ')}" for it in lines if it != CUT]
     (why,) = lines
     return [f"whatif: trace {trace}: {alone.out.decode().strip()}: {why.removeprefix('whatif: standard input: ')}"]
 
@@ -88,7 +88,8 @@ def complaint(program, text, words):
     lines = each.out.splitlines()
     if len(taken) != len(traces) - 1 or len(lines) != len(taken) or not each.out.endswith(b"\n"):
         return f"of {len(traces)} traces {len(taken)} are imported alone, and {len(lines)} are written: {shown(each.out)}"
-    wanted = [told for it in traces for told in told_of(it, alone[it])]
+    of_file = [CUT] if any(CUT in it.err.decode().splitlines() for it in alone.values()) else []
+    wanted = [*of_file, *(told for it in traces for told in told_of(it, alone[it]))]
     if each.status != 1 or each.err.decode().splitlines() != wanted:
         return f"wanted status 1 and {shown(chr(10).join(wanted))} on standard error, came {each.status} and {shown(each.err)}"
     said = [f"trace {it}: {said}" for it, line in zip(taken, lines) if (said := difference(program, line, alone[it]))]

@@ -273,6 +273,8 @@ IS_TRACE = "it looks like a trace: whatif import makes a recording of it"
 TRACES = [
     ("OTLP", OTLP, "71 Shape stages", IS_TRACE), ("OTLP by lines", f"{OTLP}\n{OTLP}\n", "70 JSON", IS_TRACE), ("Jaeger's", '{"data":[]}', "71 Shape stages", IS_TRACE),
     ("Zipkin's", ZIPKIN, "71 Shape recording", IS_TRACE), ("Zipkin's, in lists", f"[{ZIPKIN}]", "71 Shape recording", IS_TRACE),
+    ("Tempo's", '{"batches":[]}', "71 Shape stages", IS_TRACE), ("Tempo's second", f'{{"trace":{OTLP}}}', "71 Shape stages", IS_TRACE),
+    ("a span of Jaeger's", '{"traceID":"7a","spanID":"7b"}', "71 Shape stages", IS_TRACE), ("OTLP in a list", f"[{OTLP}]", "71 Shape recording", IS_TRACE),
 ]
 TRACE_CASES = [
     case for what, text, out, said in TRACES for case in (

@@ -348,7 +348,8 @@ def trace_cases():
     yield Case("import of two files", ["import", "a", "b"], "", 2, err="'b'")
     yield Case("import --unit s", ["import", "--unit", "s"], "", 2, err="possible values: us, ns, ms")
     yield Case("import --trace with a beginning", ["import", "--trace", "4B"], re.compile(rf'(?s)\{{"form":2,"trace":"{TRACE}".*'.encode()), stdin=TWO)
-    yield Case("import --trace with a beginning of two", ["import", "--trace", "4b"], f"refused 82 SeveralTraces {TRACE} 4b7\n", 1, stdin=otlp(span(), span(trace="4b7")))
+    beginning = rf'it has several traces whose ids begin with "04B": choose one of them by --trace and its id, or a longer beginning of it\n{TRACE} "a" [^\n]*\n4b7 "a" [^\n]*\n\Z'
+    yield Case("import --trace with a beginning of two", ["import", "--trace", "04B"], f"refused 82 SeveralTraces {TRACE} 4b7\n", 1, err=beginning, stdin=otlp(span(), span(trace="4b7"), span(trace="7")))
     yield from list_cases()
     yield from each_cases()
     yield from guess_cases()
@@ -399,15 +400,21 @@ def client(start, end, number="2", **members):
     return span("call", start * 1_000, end * 1_000, number, parentSpanId="1", kind=3, **members)
 
 
-def elsewhere(*spans):
+def elsewhere(*spans, service="stock"):
     """Spans of another service than the first ones."""
-    resource = {"attributes": [attribute("service.name", "stock")]}
+    resource = {"attributes": [attribute("service.name", service)]}
     return {"resource": resource, "scopeSpans": [{"spans": list(spans)}]}
 
 
-def two_services(mine, theirs):
+def two_services(mine, theirs, service="stock"):
     trace = json.loads(otlp(*mine))
-    trace["resourceSpans"].append(elsewhere(*theirs))
+    trace["resourceSpans"].append(elsewhere(*theirs, service=service))
+    return json.dumps(trace)
+
+
+def three_services(mine, theirs, others):
+    trace = json.loads(two_services(mine, theirs))
+    trace["resourceSpans"].append(elsewhere(*others, service="db"))
     return json.dumps(trace)
 
 
@@ -415,9 +422,14 @@ def guess_cases():
     """What is told of each guess, and of what was left out."""
     late = FAILED | {"attributes": [attribute("error.type", "java.util.concurrent.TimeoutException")]}
     root = span(start=1_000_000, end=9_000_000)
-    apart = two_services([root, client(2_000, 3_000)], [span("serve", 4_000_000, 4_500_000, "3", parentSpanId="2")])
+    calling, serving = [root, client(2_000, 3_000)], [span("serve", 4_000_000, 4_500_000, "3", parentSpanId="2")]
+    apart = two_services(calling, serving)
+    below = three_services(calling, serving, [span("query", 4_100_000, 4_400_000, "4", parentSpanId="3")])
     guesses = {
         "a clock that is moved": (apart, r"the clock of stock is moved by -1\.75 ms: 1 of its calls would lie outside of their callers"),
+        "a clock whose name has what can't be seen": (two_services(calling, serving, "st\nock\33"), r'the clock of "st\\u000aock\\u001b" is moved by -1\.75 ms: 1 of its calls'),
+        "a clock without a name": (two_services(calling, serving, ""), r"a clock without a name is moved by -1\.75 ms: 1 of its calls"),
+        "a clock that is moved with another": (below, r"the clock of db is moved by -1\.75 ms$"),
         "an end that is a little late": (otlp(root, client(2_000, 9_001)), r"shop\.call ended 1 us after its caller: taken to have ended with it"),
         "a second attempt": (otlp(root, client(2_000, 3_000, **FAILED), client(4_000, 5_000, "3")), r"shop\.call\.2 is taken for a second attempt of shop\.call"),
         "a call that was given up": (otlp(root | late, client(2_000, 12_000)), r"shop\.a was given up at 8000 while shop\.call ran on: shop\.a\.limit and shop\.a\.answer stand for it"),
@@ -430,6 +442,9 @@ def guess_cases():
     for name, (text, told) in guesses.items():
         yield Case(f"import tells {name}", ["import"], re.compile(rb'(?s)\{"form":2,.*'), err=rf"(?m)^whatif: {told}", stdin=text)
         yield Case(f"import --quiet tells nothing of {name}", ["import", "--quiet"], None, err=r"\A\Z", stdin=text)
+    linked = span("b", 2_000_000, 3_000_000, "2", parentSpanId="77", links=[{"traceId": TRACE, "spanId": "1"}])
+    for name, text in {"a link for a missing parent": otlp(root, linked), "a span that is its own parent": otlp(root | {"parentSpanId": "1"})}.items():
+        yield Case(f"import tells of no missing parent: {name}", ["import"], None, err=r"(?s)\A(?!.*taken for a root)", stdin=text)
     for words in (["--clocks", "as-told"], ["--calls", "as-told"]):
         told = [it for name, it in guesses.items() if name.split()[1] in {"--clocks": ("clock", "end"), "--calls": ("second", "call")}[words[0]] and "outlives" not in name]
         for text, _ in told:
@@ -452,8 +467,9 @@ def refusals():
     yield refused("two traces, quietly", f"82 SeveralTraces {TRACE} 7", TWO, r"\A\Z", ["--quiet"])
     yield refused("no span", "81 NoTrace", '{"resourceSpans":[]}', "it has no span$")
     yield refused("no span of a trace", "81 NoTrace", TWO, 'no span of the trace "8"', ["--trace", "8"])
-    yield refused("no times", "83 NoTime 1", otlp(span(start=0, end=0)), r'the span 1 \("a"\) has neither a start nor an end')
-    yield refused("a late span", "84 TooLate 2", FAR, "a coarser unit helps, as --unit ms")
+    yield refused("no times", "83 NoTime 1", otlp(span(start=0, end=0)), r'the span 1 \("a"\) has neither a start nor an end: it has to have one of the two')
+    yield refused("no times of a span whose name has a line end", "83 NoTime 1", otlp(span("a\n\33", 0, 0)), r'the span 1 \("a\\u000a\\u001b"\) has neither')
+    yield refused("a late span", "84 TooLate 2", FAR, "a coarser unit may help, as --unit ms")
     yield Case("import: a late span in a coarser unit", ["import", "--unit", "ms"], None, 0, stdin=FAR)
     yield refused("too many spans", "85 TooManyStages", lambda: otlp(*(span(number=f"{it + 1:x}") for it in range(MOST_STAGES + 1))), "65536", seconds=60)
     yield Case("import of a file that is too long", ["import", "long"], "refused 72 TooLong\n", 1, err="it has more than 268435456 bytes", files={"long": Sparse(MOST_OF_FILE + 1)}, seconds=60)

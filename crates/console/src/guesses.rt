@@ -1,7 +1,11 @@
 //! What is told of an import: each guess, and what was left out.
+use crate::shown::Shown;
 use crate::voice::Voice;
 use std::fmt;
 use trace_import::{Attempt, GivenUp, LateCall, MovedClock, Note, NoteKind, Outliving, Unit};
+
+/// What is told where the last line of a file is cut.
+pub(crate) const CUT_LINE: &str = "the last line is cut, and was left out";
 
 /// What the places behind the point of a millisecond are worth, in nanoseconds.
 const DECIMALS: [u128; 6] = [100_000, 10_000, 1_000, 100, 10, 1];
@@ -46,13 +50,30 @@ impl fmt::Display for Nth {
     }
 }
 
+/// A clock, by its text, which is empty where the trace tells nothing of it.
+#[derive(Clone, Copy)]
+struct ClockOf<'a>(&'a str);
+
+impl fmt::Display for ClockOf<'_> {
+    fn fmt<W: fmt::Write>(&self, f: &mut fmt::Formatter<W>) -> fmt::Result {
+        let ClockOf(text) = *self;
+        if text.is_empty() {
+            return f.write_str("a clock without a name");
+        }
+        let shown = Shown(text);
+        write!(f, "the clock of {shown}")
+    }
+}
+
 fn tell_moved(voice: Voice<'_>, moved: &MovedClock) {
-    let clock = moved.clock.as_str();
+    let clock = ClockOf(moved.clock.as_str());
     let by = Milliseconds(moved.by);
-    let calls = moved.calls;
-    voice.say(format_args!(
-        "the clock of {clock} is moved by {by}: {calls} of its calls would lie outside of their callers"
-    ));
+    match moved.calls {
+        0 => voice.say(format_args!("{clock} is moved by {by}")),
+        calls => voice.say(format_args!(
+            "{clock} is moved by {by}: {calls} of its calls would lie outside of their callers"
+        )),
+    }
 }
 
 fn tell_late(voice: Voice<'_>, unit: Unit, late: &LateCall) {
@@ -102,26 +123,39 @@ fn things_of(kind: NoteKind) -> &'static str {
     }
 }
 
+fn tell_note(voice: Voice<'_>, unit: Unit, note: &Note) {
+    match note {
+        Note::Moved(moved) => tell_moved(voice, moved),
+        Note::EndedLate(late) => tell_late(voice, unit, late),
+        Note::TriedAgain(attempt) => tell_attempt(voice, attempt),
+        Note::GivenUp(given_up) => tell_given_up(voice, given_up),
+        Note::Outlives(outliving) => tell_outliving(voice, outliving),
+        Note::NoParent(1) => voice.say(
+            "1 span names parents that are not in the trace: it is taken for a root",
+        ),
+        Note::NoParent(spans) => voice.say(format_args!(
+            "{spans} spans name parents that are not in the trace: they are taken for roots"
+        )),
+        Note::CutLine => voice.say(CUT_LINE),
+        Note::More(kind, more) => {
+            let things = things_of(*kind);
+            voice.say(format_args!("{things}: {more} more"));
+        }
+    }
+}
+
 /// Tells of an import.
 pub(crate) fn tell_notes(voice: Voice<'_>, unit: Unit, notes: &[Note]) {
     for note in notes {
-        match note {
-            Note::Moved(moved) => tell_moved(voice, moved),
-            Note::EndedLate(late) => tell_late(voice, unit, late),
-            Note::TriedAgain(attempt) => tell_attempt(voice, attempt),
-            Note::GivenUp(given_up) => tell_given_up(voice, given_up),
-            Note::Outlives(outliving) => tell_outliving(voice, outliving),
-            Note::NoParent(1) => voice.say(
-                "1 span names parents that are not in the trace: it is taken for a root",
-            ),
-            Note::NoParent(spans) => voice.say(format_args!(
-                "{spans} spans name parents that are not in the trace: they are taken for roots"
-            )),
-            Note::CutLine => voice.say("the last line is cut, and was left out"),
-            Note::More(kind, more) => {
-                let things = things_of(*kind);
-                voice.say(format_args!("{things}: {more} more"));
-            }
+        tell_note(voice, unit, note);
+    }
+}
+
+/// Tells of the import of one trace of several, and nothing that is of the file.
+pub(crate) fn tell_of_trace(voice: Voice<'_>, unit: Unit, notes: &[Note]) {
+    for note in notes {
+        if !matches!(note, Note::CutLine) {
+            tell_note(voice, unit, note);
         }
     }
 }

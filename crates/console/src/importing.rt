@@ -4,13 +4,13 @@ use crate::fault::Fault;
 use crate::guesses::tell_notes;
 use crate::not_made::NotMade;
 use crate::voice::Voice;
-use diagnosis::{beginning_of, json_fault};
+use diagnosis::{Quoted, beginning_of, json_fault};
 use std::alloc::{AllocError, Global};
 use std::fmt::Write;
 use std::str;
 use trace_import::{ImportFault, Mapping, Note, Options};
 use trace_relations::RelationsFault;
-use trace_spans::{Fault as TraceFault, Summary, Why, list_traces};
+use trace_spans::{Fault as TraceFault, Summary, Text, Why, compared, list_traces};
 
 /// The end of an import: what was guessed is told, or why a trace makes no recording.
 pub fn imported(
@@ -102,9 +102,12 @@ fn why_refused(
     match fault {
         TraceFault::Json => why_no_json(alloc, voice, trace),
         TraceFault::NotATrace(_) => why_no_trace(alloc, voice, trace, fault),
-        TraceFault::SeveralTraces(_) => why_several(alloc, voice, trace, fault),
+        TraceFault::SeveralTraces(_) => why_several(alloc, voice, trace, options.trace, fault),
         TraceFault::NoTrace => match options.trace {
-            Some(id) => told(voice, format_args!("it has no span of the trace \"{id}\"")),
+            Some(id) => {
+                let id = Quoted(id);
+                told(voice, format_args!("it has no span of the trace {id}"))
+            }
             None => told(voice, Why(fault)),
         },
         TraceFault::Memory => Ok(None),
@@ -149,18 +152,49 @@ fn bad_line(alloc: Global, trace: &[u8]) -> Result<Option<usize>, AllocError> {
     Ok(None)
 }
 
-/// That a file has several traces, and which.
+/// That a file has several traces, or several of which the id begins as it was asked for.
+fn said_of_several(
+    alloc: Global,
+    wanted: Option<&str>,
+    fault: &TraceFault,
+) -> Result<String, AllocError> {
+    match wanted {
+        Some(wanted) => {
+            let wanted = Quoted(wanted);
+            format!(in alloc;
+                "it has several traces whose ids begin with {wanted}: choose one of them by --trace and its id, or a longer beginning of it"
+            )
+        }
+        None => {
+            let why = Why(fault);
+            format!(in alloc; "{why}")
+        }
+    }
+}
+
+/// How the ids begin that were asked for, as ids are compared; that of any is empty.
+fn beginning_asked(alloc: Global, wanted: Option<&str>) -> Result<Text, AllocError> {
+    match wanted {
+        Some(wanted) => compared(alloc, wanted),
+        None => Text::new(alloc, ""),
+    }
+}
+
+/// That a file has several traces that may be meant, and which.
 fn why_several(
     alloc: Global,
     voice: Voice<'_>,
     trace: &[u8],
+    wanted: Option<&str>,
     fault: &TraceFault,
 ) -> Result<Option<String>, AllocError> {
-    let why = Why(fault);
-    let mut text: String = format!(in alloc; "{why}")?;
+    let mut text = said_of_several(alloc, wanted, fault)?;
+    let beginning = beginning_asked(alloc, wanted)?;
     if let Ok(rows) = list_traces(alloc, trace) {
         for row in rows.as_slice() {
-            write!(text, "\n{row}")?;
+            if row.id.as_str().starts_with(beginning.as_str()) {
+                write!(text, "\n{row}")?;
+            }
         }
     }
     told(voice, text.as_str())

@@ -1,12 +1,12 @@
 //! What is told of the traces of a file, each of which was to make a recording.
 use crate::fault::Fault;
-use crate::guesses::tell_notes;
+use crate::guesses::{CUT_LINE, tell_of_trace};
 use crate::importing::not_imported;
 use crate::not_made::NotMade;
 use crate::voice::Voice;
 use std::alloc::Global;
 use std::process::ExitCode;
-use trace_import::{ImportFault, Mapping, Options, Outcome};
+use trace_import::{ImportFault, Mapping, Note, Options, Outcome};
 
 /// The end of an import of each trace of a file: of each it is told what was guessed, or why it makes no recording; the
 /// status is 1 where one makes none.
@@ -27,13 +27,27 @@ pub fn imported_each(
     }
 }
 
-/// Tells what each trace came to.
+/// Whether something that is told of a trace is that the last line of its file is cut.
+fn tells_of_cut(outcome: &Outcome) -> bool {
+    match &outcome.made {
+        Ok(notes) => notes
+            .as_slice()
+            .iter()
+            .any(|note| matches!(note, Note::CutLine)),
+        Err(_) => false,
+    }
+}
+
+/// Tells what each trace came to, and before that once what is of the file.
 fn tell_outcomes(voice: Voice<'_>, mapping: Mapping, outcomes: &[Outcome]) -> ExitCode {
+    if outcomes.iter().any(tells_of_cut) {
+        voice.say(CUT_LINE);
+    }
     let mut code = ExitCode::SUCCESS;
     for outcome in outcomes {
         let voice = voice.of_trace(outcome.trace.as_str());
         match &outcome.made {
-            Ok(notes) => tell_notes(voice, mapping.unit, notes),
+            Ok(notes) => tell_of_trace(voice, mapping.unit, notes),
             Err(fault) => {
                 tell_fault(voice, mapping, fault);
                 code = ExitCode::from(1);

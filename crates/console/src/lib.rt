@@ -19,6 +19,7 @@ mod reasons;
 mod remembering;
 mod scripts_opening;
 mod scripts_telling;
+mod shown;
 mod step_telling;
 mod voice;
 

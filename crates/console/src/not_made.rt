@@ -1,4 +1,5 @@
 //! Why a trace that is read makes no recording.
+use diagnosis::Quoted;
 use std::fmt;
 use trace_import::{ImportFault, Unit};
 use trace_relations::RelationsFault;
@@ -16,8 +17,8 @@ impl NotMade<'_> {
     /// What would do where a tick is too late.
     fn remedy(&self) -> &'static str {
         match self.unit {
-            Unit::Nanosecond => "a coarser unit helps, as --unit us or --unit ms",
-            Unit::Microsecond => "a coarser unit helps, as --unit ms",
+            Unit::Nanosecond => "a coarser unit may help, as --unit us or --unit ms",
+            Unit::Microsecond => "a coarser unit may help, as --unit ms",
             Unit::Millisecond => "one of the two has a wrong time",
         }
     }
@@ -32,21 +33,21 @@ impl fmt::Display for NotMade<'_> {
             }
             ImportFault::Unticked(RelationsFault::NoTime(span)) => {
                 let id = span.id.as_str();
-                let name = span.name.as_str();
+                let name = Quoted(span.name.as_str());
                 write!(
                     f,
-                    "the span {id} (\"{name}\") has neither a start nor an end"
+                    "the span {id} ({name}) has neither a start nor an end: it has to have one of the two"
                 )
             }
             ImportFault::Unticked(RelationsFault::TooLate(late)) => {
                 let id = late.span.id.as_str();
-                let name = late.span.name.as_str();
+                let name = Quoted(late.span.name.as_str());
                 let first_id = late.first.id.as_str();
-                let first_name = late.first.name.as_str();
+                let first_name = Quoted(late.first.name.as_str());
                 let remedy = self.remedy();
                 write!(
                     f,
-                    "the span {id} (\"{name}\") starts or ends more than 1099511627776 ticks after the first one, {first_id} (\"{first_name}\"): {remedy}"
+                    "the span {id} ({name}) starts or ends more than 1099511627776 ticks after the first one, {first_id} ({first_name}): {remedy}"
                 )
             }
             ImportFault::Unticked(RelationsFault::TooManyStages) => f.write_str(

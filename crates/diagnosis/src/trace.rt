@@ -6,9 +6,50 @@ use std::fmt;
 #[derive(Clone, Copy)]
 pub struct TraceLike;
 
+/// The members of which each makes an object a trace.
+const OF_TRACES: [&str; 5] = [
+    "resourceSpans",
+    "data",
+    "batches",
+    "scopeSpans",
+    "instrumentationLibrarySpans",
+];
+
+/// The members in which an answer has a trace.
+const AROUND_TRACES: [&str; 2] = ["result", "trace"];
+
+fn has(value: &Value, member: &str) -> bool {
+    value.get(member).is_some()
+}
+
+/// Whether an object has a trace in the member.
+fn is_around(value: &Value, member: &str) -> bool {
+    value
+        .get(member)
+        .is_some_and(|inner| has(inner, "resourceSpans"))
+}
+
+/// Whether an object has the members of a trace or a span of Jaeger's.
+fn is_of_jaeger(value: &Value) -> bool {
+    has(value, "traceID") && (has(value, "spans") || has(value, "spanID"))
+}
+
+/// Whether an object is a trace and no recording.
+fn is_trace(value: &Value) -> bool {
+    let has_spans = OF_TRACES.iter().any(|member| has(value, member))
+        || AROUND_TRACES.iter().any(|member| is_around(value, member))
+        || is_of_jaeger(value);
+    has_spans && !has(value, "stages")
+}
+
 /// Whether an object has the members of a span of Zipkin's.
 fn is_zipkin_span(value: &Value) -> bool {
-    value.get("traceId").is_some() && value.get("id").is_some()
+    has(value, "traceId") && has(value, "id")
+}
+
+/// Whether a value is what a list of traces has for elements.
+fn is_element(value: &Value) -> bool {
+    is_trace(value) || is_zipkin_span(value)
 }
 
 /// The first element of an array.
@@ -16,18 +57,17 @@ fn first_of(value: &Value) -> Option<&Value> {
     value.as_array()?.as_slice().first()
 }
 
-/// Whether a value is a list of Zipkin's spans, or a list of such lists.
-fn is_zipkin(value: &Value) -> bool {
+/// Whether a value is a list of traces or of Zipkin's spans, or a list of such lists.
+fn is_list(value: &Value) -> bool {
     match first_of(value) {
-        Some(first) => is_zipkin_span(first) || first_of(first).is_some_and(is_zipkin_span),
+        Some(first) => is_element(first) || first_of(first).is_some_and(is_element),
         None => false,
     }
 }
 
 /// Whether a value looks like a trace and not like a recording.
 pub fn trace_like(value: &Value) -> Option<TraceLike> {
-    let has_spans = value.get("resourceSpans").is_some() || value.get("data").is_some();
-    if has_spans && value.get("stages").is_none() || is_zipkin(value) {
+    if is_trace(value) || is_list(value) {
         Some(TraceLike)
     } else {
         None

@@ -5,7 +5,7 @@ use crate::reading::Reading;
 use crate::stage_names::name_at;
 use std::alloc::{AllocError, Global};
 use trace_relations::{Interval, Moved, Relations};
-use trace_spans::{Kind, Span, Text, TextList};
+use trace_spans::{Kind, Span, Text, TextList, key_of};
 
 /// How many of a kind are told.
 const MOST_OF_KIND: usize = 16;
@@ -225,15 +225,31 @@ fn calls_given_up(trace: Trace<'_>) -> Result<Notes, AllocError> {
     Ok(notes)
 }
 
-/// How many spans name parents of which none is in the trace.
-fn without_parents(trace: Trace<'_>) -> usize {
+/// Whether a span names a parent, and not only itself.
+fn names_another(alloc: Global, span: &Span) -> Result<bool, AllocError> {
+    let own = key_of(alloc, span)?;
+    Ok(
+        span.parents
+            .as_slice()
+            .iter()
+            .any(|parent| !parent.same(&own)),
+    )
+}
+
+/// Whether a span has no parent, neither one that it names nor a link.
+fn is_root(trace: Trace<'_>, place: usize) -> bool {
+    trace.caller(place).is_none() && place_in(&trace.relations.parents, place).is_none()
+}
+
+/// How many spans name parents of which none is in the trace, and have no link for a parent.
+fn without_parents(trace: Trace<'_>) -> Result<usize, AllocError> {
     let mut count: usize = 0;
     for (place, span) in trace.spans.iter().enumerate() {
-        if !span.parents.as_slice().is_empty() && trace.caller(place).is_none() {
+        if is_root(trace, place) && names_another(trace.alloc, span)? {
             count = count.saturating_add(1);
         }
     }
-    count
+    Ok(count)
 }
 
 /// Whether a call, which sends and takes no message, outlives its caller, which ended and did not fail.
@@ -287,7 +303,7 @@ pub(crate) fn notes_of(
     late_calls(trace)?.append_to(&mut notes)?;
     further_attempts(trace)?.append_to(&mut notes)?;
     calls_given_up(trace)?.append_to(&mut notes)?;
-    let orphans = without_parents(trace);
+    let orphans = without_parents(trace)?;
     if orphans > 0 {
         notes.push(Note::NoParent(orphans))?;
     }
