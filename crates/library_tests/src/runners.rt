@@ -144,30 +144,27 @@ impl Gate for Doors {
     }
 }
 
-/// A piece enters before it is computed, and leaves after it: computed at the wrong time, it would find itself outside.
-fn each_piece_is_computed_inside<H: Abort + Threads + Sync>(
-    rt: &H,
-    alloc: Global,
-) -> Result<(), PoolFault> {
-    let doors = Doors::new(alloc)?;
-    let runner = Scoped::new(rt, 3, &doors);
-    let found = runner.run(alloc, &[0, 1, 2, 3], &|piece| doors.turn_of(piece))?;
-    assert!(rt; found.as_slice() == [1, 1, 1, 1].as_slice());
-    for piece in 0..4 {
-        assert!(rt; doors.turn_of(piece) == 2);
-    }
-    Ok(())
-}
-
 /// What holds of runners.
 fn hold<H: Abort + Threads + Clock + Sync>(rt: &H, alloc: Global) -> Result<(), PoolFault> {
     trees_and_runners_of_each(rt, alloc)?;
     two_workers_meet(rt, alloc)?;
-    each_piece_passes_the_gate(rt, alloc)?;
-    each_piece_is_computed_inside(rt, alloc)
+    each_piece_passes_the_gate(rt, alloc)
 }
 
 #[test]
 fn runners(rt: HostRuntime) -> Result<(), PoolFault> {
     hold(&rt, rt.alloc())
+}
+
+/// A piece enters before it is computed, and leaves after it: computed at the wrong time, it would find itself outside.
+#[test]
+fn each_piece_is_computed_inside(rt: HostRuntime) -> Result<(), PoolFault> {
+    let doors = Doors::new(rt.alloc())?;
+    let runner = Scoped::new(&rt, 3, &doors);
+    let found = runner.run(rt.alloc(), &[0, 1, 2, 3], &|piece| doors.turn_of(piece))?;
+    assert!(rt; found.as_slice() == [1, 1, 1, 1].as_slice());
+    for piece in 0..4 {
+        assert!(rt; doors.turn_of(piece) == 2);
+    }
+    Ok(())
 }
