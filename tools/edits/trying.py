@@ -15,7 +15,6 @@ from edits.edit import BadEdit
 from edits.goals import open_goals
 from edits.texts import functions, text_of
 
-
 # how a check tells that it knows no function of this path, and that it has ended with a function's proof
 UNKNOWN = re.compile(r"has no function `([^`]*)`")
 ENDED = re.compile(r"checked (?:\S+::)?(?P<name>[^\s:]+), \d+ of \d+$")
