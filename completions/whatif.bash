@@ -47,7 +47,7 @@ _whatif_words() {
       draw) echo --stage --what --format --quiet --strict -h --help ;;
       many) echo --workers --quiet --strict --format -h --help ;;
       check) echo --strict -h --help ;;
-      import) echo --trace --unit --quiet -h --help ;;
+      import) echo --list --each --trace --unit --clocks --calls --format --quiet -h --help ;;
       export) echo --quiet --strict -h --help ;;
       help) echo - ;;
       *) echo --quiet --strict --format -h --help ;;

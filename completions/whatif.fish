@@ -54,9 +54,13 @@ complete -c whatif -n "__fish_seen_subcommand_from report explain sweep draw che
 complete -c whatif -n "__fish_seen_subcommand_from draw" -l stage -x -d 'Draw the path of this stage'
 complete -c whatif -n "__fish_seen_subcommand_from draw" -l what -x -a 'all path' -d 'Which stages have a row'
 complete -c whatif -n "__fish_seen_subcommand_from draw" -l format -x -a 'svg trace' -d 'An SVG file, or trace events'
-complete -c whatif -n "__fish_seen_subcommand_from report explain sweep serve many" -l format -x -a 'text json' -d 'Text for people, or JSON for programs'
+complete -c whatif -n "__fish_seen_subcommand_from report explain sweep serve many import" -l format -x -a 'text json' -d 'Text for people, or JSON for programs'
 complete -c whatif -n "__fish_seen_subcommand_from many" -F
 complete -c whatif -n "__fish_seen_subcommand_from many" -l workers -x -a '(seq 16)' -d 'How many threads compute for each script'
+complete -c whatif -n "__fish_seen_subcommand_from import" -l list -d 'Print which traces the file has'
+complete -c whatif -n "__fish_seen_subcommand_from import" -l each -d 'Write the recording of every trace, each on one line'
 complete -c whatif -n "__fish_seen_subcommand_from import" -l trace -x -d 'Which trace, where the file has several'
 complete -c whatif -n "__fish_seen_subcommand_from import" -l unit -x -a 'us ns ms' -d 'The unit of ticks'
+complete -c whatif -n "__fish_seen_subcommand_from import" -l clocks -x -a 'inferred as-told' -d 'Whether clocks that a trace contradicts are moved'
+complete -c whatif -n "__fish_seen_subcommand_from import" -l calls -x -a 'inferred as-told' -d 'Whether calls may have been tried again or given up'
 complete -c whatif -n "__fish_seen_subcommand_from help; and __whatif_has_places 0" -a "$commands"

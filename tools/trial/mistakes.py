@@ -270,17 +270,16 @@ TWICE_CASES = [
 OTLP = '{"resourceSpans":[]}'
 ZIPKIN = '[{"traceId":"7a","id":"7b","name":"get","timestamp":1,"duration":2}]'
 IS_TRACE = "it looks like a trace: whatif import makes a recording of it"
-IS_ZIPKIN = "it looks like a trace in Zipkin's JSON: whatif import makes a recording of one in OTLP/JSON or Jaeger's JSON, so export it in one of these"
 TRACES = [
     ("OTLP", OTLP, "71 Shape stages", IS_TRACE), ("OTLP by lines", f"{OTLP}\n{OTLP}\n", "70 JSON", IS_TRACE), ("Jaeger's", '{"data":[]}', "71 Shape stages", IS_TRACE),
-    ("Zipkin's", ZIPKIN, "71 Shape recording", IS_ZIPKIN), ("Zipkin's, in lists", f"[{ZIPKIN}]", "71 Shape recording", IS_ZIPKIN),
+    ("Zipkin's", ZIPKIN, "71 Shape recording", IS_TRACE), ("Zipkin's, in lists", f"[{ZIPKIN}]", "71 Shape recording", IS_TRACE),
 ]
 TRACE_CASES = [
     case for what, text, out, said in TRACES for case in (
         *(Case(f"mistake: a trace, {what}, of {words[0]}", [words[0], "t.json", *words[1:]], f"refused {out}\n", 1, err=begins(f"whatif: t.json: {said}"), files={"t.json": text, "s": ""})
           for words in (["report"], ["explain", "a"], ["sweep", "a"], ["draw"], ["serve"], ["export", "s"])),
         Case(f"mistake: a trace, {what}, of check", ["check", "t.json"], f"t.json: {said}\n", 1, err=r"\A\Z", files={"t.json": text}))
-] + [Case("mistake: a trace, Zipkin's, of import", ["import", "t.json"], "refused 80 NotATrace\n", 1, err=told(f"whatif: t.json: {IS_ZIPKIN}"), files={"t.json": ZIPKIN})]
+]
 
 UNREAD = CHECKOUT.replace('"queued": 371', '"queue": 371')
 MANY_UNREAD = recording(*(stage("manual", name=f"m{it}", note=1) for it in range(50)))

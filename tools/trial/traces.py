@@ -155,7 +155,7 @@ TIMES = re.compile(r"(\S+) start (\S+) queued \d+ runs \d+")
 def complaint(program, seed):
     """What the recording of a trace tells otherwise than its spans, or nothing."""
     text, unit, spans = made(seed)
-    came = run(program, Case("import", ["import", "--unit", unit], None, stdin=text))
+    came = run(program, Case("import", ["import", "--unit", unit, "--clocks", "as-told"], None, stdin=text))
     if came.status != 0:
         return f"refused: {shown(came.out)} {shown(came.err)}"
     files = {"r.json": came.out}
@@ -199,13 +199,19 @@ def traces(top, program):
     for seed, said in enumerate(told):
         yield f"trace {seed}: its recording tells what its spans do", said, set()
     page = read(top, "docs/TRACES.md")
-    for name in ("pay.jaeger.trace", "order.otlp.trace"):
-        came = run(program, Case(name, ["import", "-"], None, stdin=read(top, f"examples/{name}")))
-        block = f"```\n{came.out.decode()}```\n"
-        yield f"docs/TRACES.md shows the recording of {name}", "" if block in page else f"it doesn't show {shown(came.out)}", set()
-    told = run(program, Case("explain", ["explain", "-", "shop.GET-order"], None, stdin=came.out))
-    is_shown = f"```\n{told.out.decode()}```\n" in read(top, "README.md")
-    yield "README shows why the traced request was late", "" if is_shown else f"it doesn't show {shown(told.out)}", set()
+    for name, unit in (("pay.jaeger.trace", "us"), ("order.otlp.trace", "us"), ("late-order.otlp.trace", "ms")):
+        came = run(program, Case(name, ["import", "--unit", unit, "-"], None, stdin=read(top, f"examples/{name}")))
+        yield f"docs/TRACES.md shows the recording of {name}", unshown(came.out, page), set()
+    told = run(program, Case("explain", ["explain", "-", "shop.POST-order"], None, stdin=came.out))
+    yield "README shows why the traced order was late", unshown(told.out, read(top, "README.md")), set()
+    script = read(top, "examples/late-order.script")
+    told = run(program, Case("serve", ["serve", "r.json"], None, stdin=script, files={"r.json": came.out}))
+    yield "docs/TRACES.md shows what makes the traced order sooner", unshown(told.out, page), set()
+
+
+def unshown(out, page):
+    """The complaint where a page doesn't show in a block what was printed, or nothing."""
+    return "" if f"```\n{out.decode()}```\n" in page else f"it doesn't show {shown(out)}"
 
 
 # What is refused, and what is told of it.
@@ -239,12 +245,98 @@ def trace_cases():
         yield Case(f"import on a {stdout} standard output", ["import"], "", 3, stdin=otlp(span()), stdout=stdout)
     yield Case("import of two files", ["import", "a", "b"], "", 2, err="'b'")
     yield Case("import --unit s", ["import", "--unit", "s"], "", 2, err="possible values: us, ns, ms")
+    yield Case("import --trace with a beginning", ["import", "--trace", "4B"], re.compile(rf'(?s)\{{"form":2,"trace":"{TRACE}".*'.encode()), stdin=TWO)
+    yield Case("import --trace with a beginning of two", ["import", "--trace", "4b"], f"refused 82 SeveralTraces {TRACE} 4b7\n", 1, stdin=otlp(span(), span(trace="4b7")))
+    yield from list_cases()
+    yield from each_cases()
+    yield from guess_cases()
     yield Case("import --strict, which it hasn't", ["import", "--strict"], "", 2, err="--strict")
     yield from refusals()
 
 
+ROWS = f'''7 "a" 1970-01-01T00:00:00.000000500Z 0.001 ms, spans 1, failed 0
+{TRACE} "a" 1970-01-01T00:00:00.000001000Z 0.001 ms, spans 2, failed 1
+'''
+JSON_ROW = f'{{"failures":1,"length":1000,"root":"a","spans":2,"start":"1970-01-01T00:00:00.000001000Z","trace":"{TRACE}"}}\n'
+FAILED = {"status": {"code": 2}}
+
+
+def list_cases():
+    both = otlp(span(), span("b", number="2", parentSpanId="1", **FAILED), span(start=500, end=1_500, trace="7"))
+    yield Case("import --list", ["import", "--list"], ROWS, stdin=both)
+    yield Case("import --list of a file", ["import", "--list", "t"], ROWS, stdin=CLOSED, files={"t": both})
+    yield Case("import --list as JSON", ["import", "--list", "--format", "json"], re.compile(f".*\n{re.escape(JSON_ROW)}".encode()), stdin=both)
+    timeless = otlp(span(start=0, end=0))
+    yield Case("import --list of a trace without times", ["import", "--list"], f'{TRACE} "a" - 0.000 ms, spans 1, failed 0\n', stdin=timeless)
+    yield Case("import --list of a trace without times as JSON", ["import", "--list", "--format", "json"], re.compile(b'.*"start":null.*\n'), stdin=timeless)
+    yield Case("import --list of no trace", ["import", "--list"], "refused 80 NotATrace\n", 1, err="resourceSpans", stdin="{}")
+    yield Case("import --list of no trace as JSON", ["import", "--list", "--format", "json"], '{"name":"NotATrace","number":80,"reply":"refused"}\n', 1, stdin="{}")
+    yield Case("import --list --each", ["import", "--list", "--each"], "", 2, err="cannot be used with", stdin=both)
+    yield Case("import --list --trace", ["import", "--list", "--trace", "7"], "", 2, err="cannot be used with", stdin=both)
+    for stdout in ("full", "closed", "gone"):
+        yield Case(f"import --list on a {stdout} standard output", ["import", "--list"], "", 3, stdin=both, stdout=stdout)
+
+
+def each_cases():
+    lines = re.compile(rf'\{{"form":2,"trace":"{TRACE}",.*\]\}}\n\{{"form":2,"trace":"7",.*\]\}}\n'.encode())
+    yield Case("import --each", ["import", "--each"], lines, stdin=TWO)
+    yield Case("import --each of one trace", ["import", "--each"], re.compile(rb'\{"form":2,.*"stages":\[\{.*\}\]\}\n'), stdin=otlp(span()))
+    some = otlp(span(), span(start=0, end=0, trace="7"), span(trace="8"))
+    others = re.compile(rf'\{{"form":2,"trace":"{TRACE}",.*\n\{{"form":2,"trace":"8",.*\n'.encode())
+    told = r"whatif: trace 7: refused 83 NoTime 1"
+    why = r': the span 1 \("a"\) has neither a start nor an end'
+    yield Case("import --each, of which one is refused", ["import", "--each"], others, 1, err=told + why, stdin=some)
+    yield Case("import --each, of which one is refused, quietly", ["import", "--each", "--quiet"], others, 1, err=rf"\A{told}\n\Z", stdin=some)
+    yield Case("import --each of no trace", ["import", "--each"], "refused 80 NotATrace\n", 1, err="resourceSpans", stdin="{}")
+    yield Case("import --each --trace", ["import", "--each", "--trace", "7"], "", 2, err="cannot be used with", stdin=TWO)
+    for stdout in ("full", "closed", "gone"):
+        yield Case(f"import --each on a {stdout} standard output", ["import", "--each"], "", 3, stdin=TWO, stdout=stdout)
+
+
+def client(start, end, number="2", **members):
+    return span("call", start * 1_000, end * 1_000, number, parentSpanId="1", kind=3, **members)
+
+
+def elsewhere(*spans):
+    """Spans of another service than the first ones."""
+    resource = {"attributes": [attribute("service.name", "stock")]}
+    return {"resource": resource, "scopeSpans": [{"spans": list(spans)}]}
+
+
+def two_services(mine, theirs):
+    trace = json.loads(otlp(*mine))
+    trace["resourceSpans"].append(elsewhere(*theirs))
+    return json.dumps(trace)
+
+
+def guess_cases():
+    """What is told of each guess, and of what was left out."""
+    late = FAILED | {"attributes": [attribute("error.type", "java.util.concurrent.TimeoutException")]}
+    root = span(start=1_000_000, end=9_000_000)
+    apart = two_services([root, client(2_000, 3_000)], [span("serve", 4_000_000, 4_500_000, "3", parentSpanId="2")])
+    guesses = {
+        "a clock that is moved": (apart, r"the clock of stock is moved by -1\.75 ms: 1 of its calls would lie outside of their callers"),
+        "an end that is a little late": (otlp(root, client(2_000, 9_001)), r"shop\.call ended 1 us after its caller: taken to have ended with it"),
+        "a second attempt": (otlp(root, client(2_000, 3_000, **FAILED), client(4_000, 5_000, "3")), r"shop\.call\.2 is taken for a second attempt of shop\.call"),
+        "a call that was given up": (otlp(root | late, client(2_000, 12_000)), r"shop\.a was given up at 8000 while shop\.call ran on: shop\.a\.limit and shop\.a\.answer stand for it"),
+        "a call whose answer was on its way": (otlp(root | late, client(2_000, 8_999)), r"shop\.a was given up at 8000 while shop\.call was to answer"),
+        "parents that are missing": (otlp(root | {"parentSpanId": "77"}), "1 span names parents that are not in the trace: it is taken for a root"),
+        "a call that outlives its caller": (otlp(root, client(2_000, 30_000)), r"shop\.call outlives its caller shop\.a: nothing waits for it"),
+        "a line that is cut": (otlp(root) + '\n{"resource', "the last line is cut, and was left out"),
+        "more than sixteen": (otlp(root, *(client(2_000, 30_000, f"{it:x}") for it in range(2, 22))), "calls that outlive their callers: 4 more"),
+    }
+    for name, (text, told) in guesses.items():
+        yield Case(f"import tells {name}", ["import"], re.compile(rb'(?s)\{"form":2,.*'), err=rf"(?m)^whatif: {told}", stdin=text)
+        yield Case(f"import --quiet tells nothing of {name}", ["import", "--quiet"], None, err=r"\A\Z", stdin=text)
+    for words in (["--clocks", "as-told"], ["--calls", "as-told"]):
+        told = [it for name, it in guesses.items() if name.split()[1] in {"--clocks": ("clock", "end"), "--calls": ("second", "call")}[words[0]] and "outlives" not in name]
+        for text, _ in told:
+            yield Case(f"import {' '.join(words)} infers nothing", ["import", *words], None, err=r"\A(?!.*(moved|taken|given up))", stdin=text)
+
+
 def refusals():
-    yield refused("no bytes", "81 NoTrace", "", "it has no span$")
+    yield refused("no bytes", "70 JSON", "", "it has no text")
+    yield refused("blank lines", "70 JSON", " \n\n", "it has no text")
     yield refused("no JSON", "70 JSON", '{"data":[', "standard input: ")
     yield refused("no UTF-8", "70 JSON", b'{"data":"\xff"}', "UTF-8")
     yield refused("packed bytes", "70 JSON", b"\x1f\x8b\x08", "gunzip")
@@ -252,13 +344,13 @@ def refusals():
     yield refused("a recording", "80 NotATrace", R, "whatif report takes it as it is")
     yield refused("other JSON", "80 NotATrace", "{}", "resourceSpans")
     yield refused("a line of other JSON", "80 NotATrace", f"{otlp(span())}\n[]\n")
-    yield refused("a member of another form", "71 Shape spanId", otlp(span(number="x")), '"spanId" is missing or has a wrong form')
+    yield refused("a member of another form", "71 Shape spanId", otlp(span(number="x")), 'the member "spanId" of the span x "a" is "x": an id has up to 32 hexadecimal digits')
     yield refused("a span without an id", "71 Shape spanId", otlp({"traceId": TRACE}))
-    yield refused("two traces", f"82 SeveralTraces {TRACE} 7", TWO, "choose one of them by --trace ID")
+    yield refused("two traces", f"82 SeveralTraces {TRACE} 7", TWO, "choose one of them by --trace and its id, or a beginning of it that no other has")
     yield refused("two traces, quietly", f"82 SeveralTraces {TRACE} 7", TWO, r"\A\Z", ["--quiet"])
     yield refused("no span", "81 NoTrace", '{"resourceSpans":[]}', "it has no span$")
     yield refused("no span of a trace", "81 NoTrace", TWO, 'no span of the trace "8"', ["--trace", "8"])
-    yield refused("no times", "83 NoTime 1", otlp(span(start=0, end=0)), "the span 1 has neither a start nor an end")
+    yield refused("no times", "83 NoTime 1", otlp(span(start=0, end=0)), r'the span 1 \("a"\) has neither a start nor an end')
     yield refused("a late span", "84 TooLate 2", FAR, "a coarser unit helps, as --unit ms")
     yield Case("import: a late span in a coarser unit", ["import", "--unit", "ms"], None, 0, stdin=FAR)
     yield refused("too many spans", "85 TooManyStages", lambda: otlp(*(span(number=f"{it + 1:x}") for it in range(MOST_STAGES + 1))), "65536", seconds=60)

@@ -38,7 +38,7 @@ Commands:
   serve    Answers the steps that come on standard input, one to a line, about a recording
   export   Writes the version that a script made last, as a recording
   many     Answers several scripts at once, whose clients share the sessions and versions
-  import   Writes the recording that a trace makes, from OTLP/JSON or Jaeger JSON
+  import   Writes the recording that a trace makes, from OTLP/JSON, Jaeger JSON or Zipkin's
   help     Print this message or the help of the given subcommand(s)
 
 Options:
@@ -138,22 +138,29 @@ Examples:
 What is drawn: docs/FORMATS.md, Pictures.
 """)
 HELP_OF_IMPORT = help_of("""\
-Writes the recording that a trace makes, from OTLP/JSON or Jaeger JSON
+Writes the recording that a trace makes, from OTLP/JSON, Jaeger JSON or Zipkin's
 
 Usage: PROGRAM import [OPTIONS] [FILE]
 
 Arguments:
-  [FILE]  the trace, in OTLP/JSON or Jaeger JSON; standard input where it is left out, or -
+  [FILE]  the trace, in OTLP/JSON, Jaeger JSON or Zipkin's; standard input where it is left out, or -
 
 Options:
-      --trace <ID>   which trace, where the file has several
-      --unit <UNIT>  the unit of ticks [default: us] [possible values: us, ns, ms]
-      --quiet        leave explanations out
-  -h, --help         Print help
+      --list             print which traces the file has: id, root, start, length, spans and failures, by start
+      --each             write the recording of every trace of the file, each on one line
+      --trace <ID>       which trace, where the file has several: its id, or a beginning of it that no other has
+      --unit <UNIT>      the unit of ticks [default: us] [possible values: us, ns, ms]
+      --clocks <HOW>     whether clocks that a trace contradicts are moved [default: inferred] [possible values: inferred, as-told]
+      --calls <HOW>      whether calls may have been tried again or given up [default: inferred] [possible values: inferred, as-told]
+      --format <FORMAT>  of --list: text for people, or json for programs: a line for each trace, which is one object [default: text] [possible values: text, json]
+      --quiet            leave explanations out
+  -h, --help             Print help
 
 Examples:
   whatif import examples/order.otlp.trace
   whatif import examples/order.otlp.trace | whatif explain - shop.GET-order
+  whatif import --list night.jsonl
+  whatif import --each night.jsonl > night.recordings
 
 What is inferred of a trace, and what can't be known: docs/TRACES.md.
 """)

@@ -10,11 +10,13 @@ pub(crate) struct Argument {
     pub(crate) takes: Takes,
 }
 
-/// What an argument takes. The first five are options, whose name stands after two dashes, the others are told by their place.
+/// What an argument takes. The first six are options, whose name stands after two dashes, the others are told by their place.
 #[derive(Clone, Copy)]
 pub(crate) enum Takes {
     /// Nothing: it is there or not.
     Nothing,
+    /// The same, and none of these others may be there.
+    NothingBeside(&'static [&'static str]),
     /// A text, by the name that help has for it.
     Text(&'static str),
     /// The same, required where the other argument is the word.
@@ -42,6 +44,8 @@ pub(crate) enum Choice {
     Scope,
     /// The unit of an imported recording's ticks.
     Unit,
+    /// Whether something of a trace is inferred, or taken as it is told.
+    Inferred,
 }
 
 static FORMS: [&str; 2] = ["text", "json"];
@@ -52,11 +56,17 @@ static SCOPES: [&str; 2] = ["all", "path"];
 
 static UNITS: [&str; 3] = ["us", "ns", "ms"];
 
+static INFERRED: [&str; 2] = ["inferred", "as-told"];
+
 /// The argument as clap has it.
 pub(crate) fn arg_of<'a>(alloc: Global, argument: Argument) -> Result<Arg<'a>, AllocError> {
     let arg = Arg::new(alloc, argument.name).help(argument.help);
     Ok(match argument.takes {
         Takes::Nothing => arg.long(argument.name).action(ArgAction::SetTrue),
+        Takes::NothingBeside(others) => arg
+            .long(argument.name)
+            .action(ArgAction::SetTrue)
+            .conflicts_with_all(others)?,
         Takes::Text(value) => arg.long(argument.name).value_name(value),
         Takes::TextIf(value, other, word) => {
             arg.long(argument.name)
@@ -86,5 +96,6 @@ fn one_of<'a>(arg: Arg<'a>, choice: Choice) -> Arg<'a> {
         Choice::Picture => arg.value_parser(&PICTURES[..]).default_value("svg"),
         Choice::Scope => arg.value_parser(&SCOPES[..]).default_value("all"),
         Choice::Unit => arg.value_parser(&UNITS[..]).default_value("us"),
+        Choice::Inferred => arg.value_parser(&INFERRED[..]).default_value("inferred"),
     }
 }

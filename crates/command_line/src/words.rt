@@ -66,6 +66,18 @@ const UNIT: Argument = Argument {
     takes: Takes::OneOf("UNIT", Choice::Unit),
 };
 
+const CLOCKS: Argument = Argument {
+    name: "clocks",
+    help: "whether clocks that a trace contradicts are moved",
+    takes: Takes::OneOf("HOW", Choice::Inferred),
+};
+
+const CALLS: Argument = Argument {
+    name: "calls",
+    help: "whether calls may have been tried again or given up",
+    takes: Takes::OneOf("HOW", Choice::Inferred),
+};
+
 const TOP: Argument = Argument {
     name: "top",
     help: "print the first N stages alone",
@@ -80,7 +92,7 @@ const WORKERS: Argument = Argument {
 
 const TRACE_ID: Argument = Argument {
     name: "trace",
-    help: "which trace, where the file has several",
+    help: "which trace, where the file has several: its id, or a beginning of it that no other has",
     takes: Takes::Text("ID"),
 };
 
@@ -108,9 +120,27 @@ const RECORDING_OR_INPUT: Argument = Argument {
     takes: Takes::MaybeOne,
 };
 
+const LIST: Argument = Argument {
+    name: "list",
+    help: "print which traces the file has: id, root, start, length, spans and failures, by start",
+    takes: Takes::NothingBeside(&["each", "trace"]),
+};
+
+const EACH: Argument = Argument {
+    name: "each",
+    help: "write the recording of every trace of the file, each on one line",
+    takes: Takes::NothingBeside(&["list", "trace"]),
+};
+
+const LIST_FORMAT: Argument = Argument {
+    name: "format",
+    help: "of --list: text for people, or json for programs: a line for each trace, which is one object",
+    takes: Takes::OneOf("FORMAT", Choice::Form),
+};
+
 const TRACE: Argument = Argument {
     name: "FILE",
-    help: "the trace, in OTLP/JSON or Jaeger JSON; standard input where it is left out, or -",
+    help: "the trace, in OTLP/JSON, Jaeger JSON or Zipkin's; standard input where it is left out, or -",
     takes: Takes::MaybeOne,
 };
 
@@ -253,9 +283,19 @@ fn command_of<'a>(alloc: Global, name: Subcommand) -> Result<Command<'a>, AllocE
         Subcommand::Import => told(
             alloc,
             "import",
-            "Writes the recording that a trace makes, from OTLP/JSON or Jaeger JSON",
-            "Examples:\n  whatif import examples/order.otlp.trace\n  whatif import examples/order.otlp.trace | whatif explain - shop.GET-order\n\nWhat is inferred of a trace, and what can't be known: docs/TRACES.md.",
-            &[TRACE_ID, UNIT, QUIET_IMPORT, TRACE],
+            "Writes the recording that a trace makes, from OTLP/JSON, Jaeger JSON or Zipkin's",
+            "Examples:\n  whatif import examples/order.otlp.trace\n  whatif import examples/order.otlp.trace | whatif explain - shop.GET-order\n  whatif import --list night.jsonl\n  whatif import --each night.jsonl > night.recordings\n\nWhat is inferred of a trace, and what can't be known: docs/TRACES.md.",
+            &[
+                LIST,
+                EACH,
+                TRACE_ID,
+                UNIT,
+                CLOCKS,
+                CALLS,
+                LIST_FORMAT,
+                QUIET_IMPORT,
+                TRACE,
+            ],
         ),
     }
 }

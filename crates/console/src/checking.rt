@@ -6,7 +6,7 @@ use crate::input;
 use crate::remembering::{Remembering, with_reason};
 use crate::voice::Voice;
 use clap::ArgMatches;
-use diagnosis::{Findings, Lined, examine_recording, lines_of, trace_kind};
+use diagnosis::{Findings, Lined, examine_recording, lines_of, trace_like};
 use recording::{Fault as ReadingFault, read_recording};
 use stage_graph::{Graph, InShared};
 use std::alloc::{AllocError, Global};
@@ -84,7 +84,7 @@ fn write_check<W: Write>(
         let written = write_refusal(alloc, writer, voice, recording, refusal)?;
         return Ok((written, false));
     };
-    if let (Some(kind), true) = (trace_kind(&value), refusal.is_some()) {
+    if let (Some(kind), true) = (trace_like(&value), refusal.is_some()) {
         return Ok((writeln!(writer, "{file}: {kind}"), false));
     }
     let findings = examine_recording(alloc, recording, &value)?;

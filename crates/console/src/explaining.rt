@@ -2,8 +2,8 @@
 use crate::fault::Fault;
 use crate::voice::Voice;
 use diagnosis::{
-    TraceKind, beginning_of, examine_recording, json_fault, line_of_stage, may_be_unread,
-    nearest_stage, trace_kind, with_line,
+    TraceLike, beginning_of, examine_recording, json_fault, line_of_stage, may_be_unread,
+    nearest_stage, trace_like, with_line,
 };
 use json_names::circle_of;
 use recording::Fault as ReadingFault;
@@ -95,7 +95,7 @@ pub(crate) fn told<T: Display + Drop>(
 }
 
 /// Which trace bytes are, of which each line is a JSON text, if they are one.
-fn trace_by_lines(alloc: Global, recording: &[u8]) -> Result<Option<TraceKind>, AllocError> {
+fn trace_by_lines(alloc: Global, recording: &[u8]) -> Result<Option<TraceLike>, AllocError> {
     let Ok(text) = str::from_utf8(recording) else {
         return Ok(None);
     };
@@ -103,7 +103,7 @@ fn trace_by_lines(alloc: Global, recording: &[u8]) -> Result<Option<TraceKind>, 
         let bytes = line.trim().as_bytes();
         if !bytes.is_empty() {
             let value = value_of(alloc, bytes)?;
-            return Ok(value.as_ref().and_then(|value| trace_kind(value)));
+            return Ok(value.as_ref().and_then(|value| trace_like(value)));
         }
     }
     Ok(None)
@@ -134,7 +134,7 @@ fn why_shape(
     let Some(value) = value_of(alloc, recording)? else {
         return Ok(None);
     };
-    match trace_kind(&value) {
+    match trace_like(&value) {
         Some(kind) => told(voice, kind),
         None => why_in(alloc, voice, recording, &value, 71, None, Some(member)),
     }

@@ -1,33 +1,70 @@
 //! Why a trace makes no recording.
 use crate::explaining::{told, value_of};
 use crate::fault::Fault;
+use crate::guesses::tell_notes;
+use crate::not_made::NotMade;
 use crate::voice::Voice;
-use diagnosis::{TraceKind, beginning_of, json_fault, trace_kind};
+use diagnosis::{beginning_of, json_fault};
 use std::alloc::{AllocError, Global};
+use std::fmt::Write;
 use std::str;
-use trace_family::FamilyFault;
-use trace_import::{ImportFault, Options};
-use trace_spans::Fault as TraceFault;
+use trace_import::{ImportFault, Mapping, Note, Options};
+use trace_relations::RelationsFault;
+use trace_spans::{Fault as TraceFault, Summary, Why, list_traces};
 
-/// The end of an import, with the explanation of a trace that makes no recording.
+/// The end of an import: what was guessed is told, or why a trace makes no recording.
 pub fn imported(
     alloc: Global,
     voice: Voice<'_>,
     trace: &[u8],
     options: Options<'_>,
-    end: Result<(), ImportFault>,
+    end: Result<Vec<Note>, ImportFault>,
 ) -> Result<(), Fault> {
     match end {
-        Ok(()) => Ok(()),
-        Err(ImportFault::Write) => Err(Fault::Write(None)),
-        Err(ImportFault::Memory) => Err(Fault::Memory),
-        Err(ImportFault::Refused(TraceFault::Memory)) => Err(Fault::Memory),
-        Err(ImportFault::Unticked(FamilyFault::Memory)) => Err(Fault::Memory),
-        Err(fault) => {
+        Ok(notes) => {
+            tell_notes(voice, options.mapping.unit, &notes);
+            Ok(())
+        }
+        Err(fault) => Err(not_imported(alloc, voice, trace, options, fault)),
+    }
+}
+
+/// What ends the program where a trace makes no recording.
+pub(crate) fn not_imported(
+    alloc: Global,
+    voice: Voice<'_>,
+    trace: &[u8],
+    options: Options<'_>,
+    fault: ImportFault,
+) -> Fault {
+    match fault {
+        ImportFault::Write => Fault::Write(None),
+        ImportFault::Memory
+        | ImportFault::Refused(TraceFault::Memory)
+        | ImportFault::Unticked(RelationsFault::Memory) => Fault::Memory,
+        fault => {
             // (where memory is out nothing is told)
             let why = why_not_imported(alloc, voice, trace, options, &fault).unwrap_or(None);
-            Err(Fault::NotImported(fault, why))
+            Fault::NotImported(fault, why)
         }
+    }
+}
+
+/// The rows of the table of a file's traces, or why there are none.
+pub fn listed(
+    alloc: Global,
+    voice: Voice<'_>,
+    traces: &[u8],
+    mapping: Mapping,
+    rows: Result<Vec<Summary>, TraceFault>,
+) -> Result<Vec<Summary>, Fault> {
+    let options = Options {
+        trace: None,
+        mapping,
+    };
+    match rows {
+        Ok(rows) => Ok(rows),
+        Err(fault) => Err(not_imported(alloc, voice, traces, options, ImportFault::Refused(fault))),
     }
 }
 
@@ -44,13 +81,13 @@ fn why_not_imported(
     }
     match fault {
         ImportFault::Refused(fault) => why_refused(alloc, voice, trace, options, fault),
-        ImportFault::Unticked(fault) => why_unticked(voice, fault),
-        ImportFault::TooManyStages => told(
+        fault => told(
             voice,
-            "its recording would have more than 65536 stages",
+            NotMade {
+                unit: options.mapping.unit,
+                fault,
+            },
         ),
-        ImportFault::TooLong => told(voice, "its recording would have more than 67108864 bytes"),
-        ImportFault::Write | ImportFault::Memory => Ok(None),
     }
 }
 
@@ -63,55 +100,15 @@ fn why_refused(
     fault: &TraceFault,
 ) -> Result<Option<String>, AllocError> {
     match fault {
-        TraceFault::TooLong => told(voice, "it has more than 268435456 bytes"),
         TraceFault::Json => why_no_json(alloc, voice, trace),
-        TraceFault::NotATrace => why_no_trace(alloc, voice, trace),
-        TraceFault::Shape(member) => {
-            told(
-                voice,
-                format_args!("a member \"{member}\" is missing or has a wrong form"),
-            )
-        }
-        TraceFault::SeveralTraces(_) => {
-            told(
-                voice,
-                "it has several traces: choose one of them by --trace ID",
-            )
-        }
+        TraceFault::NotATrace(_) => why_no_trace(alloc, voice, trace, fault),
+        TraceFault::SeveralTraces(_) => why_several(alloc, voice, trace, fault),
         TraceFault::NoTrace => match options.trace {
             Some(id) => told(voice, format_args!("it has no span of the trace \"{id}\"")),
-            None => told(voice, "it has no span"),
+            None => told(voice, Why(fault)),
         },
         TraceFault::Memory => Ok(None),
-    }
-}
-
-/// Why a trace has no ticks.
-fn why_unticked(voice: Voice<'_>, fault: &FamilyFault) -> Result<Option<String>, AllocError> {
-    match fault {
-        FamilyFault::NoTime(span) => {
-            let span = span.as_str();
-            told(
-                voice,
-                format_args!("the span {span} has neither a start nor an end"),
-            )
-        }
-        FamilyFault::TooLate(span) => {
-            let span = span.as_str();
-            told(
-                voice,
-                format_args!(
-                    "the span {span} starts or ends more than 1099511627776 ticks after the first one: a coarser unit helps, as --unit ms"
-                ),
-            )
-        }
-        FamilyFault::TooManyStages => {
-            told(
-                voice,
-                "it has more than 65536 spans, so its recording would have too many stages",
-            )
-        }
-        FamilyFault::Memory => Ok(None),
+        fault => told(voice, Why(fault)),
     }
 }
 
@@ -121,6 +118,12 @@ fn why_no_json(
     voice: Voice<'_>,
     trace: &[u8],
 ) -> Result<Option<String>, AllocError> {
+    if trace.iter().all(|byte| byte.is_ascii_whitespace()) {
+        return told(
+            voice,
+            "it has no text: a trace is one JSON text, or one on each line",
+        );
+    }
     if let Some(beginning) = beginning_of(trace) {
         return told(voice, beginning);
     }
@@ -146,11 +149,29 @@ fn bad_line(alloc: Global, trace: &[u8]) -> Result<Option<usize>, AllocError> {
     Ok(None)
 }
 
+/// That a file has several traces, and which.
+fn why_several(
+    alloc: Global,
+    voice: Voice<'_>,
+    trace: &[u8],
+    fault: &TraceFault,
+) -> Result<Option<String>, AllocError> {
+    let why = Why(fault);
+    let mut text: String = format!(in alloc; "{why}")?;
+    if let Ok(rows) = list_traces(alloc, trace) {
+        for row in rows.as_slice() {
+            write!(text, "\n{row}")?;
+        }
+    }
+    told(voice, text.as_str())
+}
+
 /// That a file is no trace, and what it may be.
 fn why_no_trace(
     alloc: Global,
     voice: Voice<'_>,
     trace: &[u8],
+    fault: &TraceFault,
 ) -> Result<Option<String>, AllocError> {
     let value = value_of(alloc, trace)?;
     if value
@@ -162,11 +183,5 @@ fn why_no_trace(
             "it looks like a recording: whatif report takes it as it is",
         );
     }
-    if let Some(kind @ TraceKind::Zipkin) = value.as_ref().and_then(|value| trace_kind(value)) {
-        return told(voice, kind);
-    }
-    told(
-        voice,
-        "a trace has \"resourceSpans\", in OTLP/JSON, or \"data\", in Jaeger's JSON, in its outermost object",
-    )
+    told(voice, Why(fault))
 }

@@ -108,7 +108,7 @@ pub fn with_read_reason<T>(
 }
 
 /// Passes on what was written; the end is that of the writing, or that this failed.
-pub fn flushed<S: Sink>(sink: &mut S, end: Result<(), Fault>) -> Result<(), Fault>
+pub fn flushed<S: Sink, T: Drop>(sink: &mut S, end: Result<T, Fault>) -> Result<T, Fault>
     requires { S.failures sink.old < 2 ^ 64 - 1 }
 {
     match sink.flush() {

@@ -13,6 +13,8 @@ pub struct Voice<'a> {
     file: &'a str,
     /// The script whose lines are told of, where there are several.
     script: Option<&'a str>,
+    /// The trace that is told of, where there are several.
+    trace: Option<&'a str>,
     is_quiet: bool,
     is_strict: bool,
 }
@@ -33,6 +35,7 @@ impl<'a> Voice<'a> {
             rt,
             file,
             script: None,
+            trace: None,
             is_quiet: matches.get_flag("quiet"),
             is_strict: matches.get_flag("strict"),
         }
@@ -44,6 +47,19 @@ impl<'a> Voice<'a> {
             rt: self.rt,
             file: self.file,
             script: Some(script),
+            trace: self.trace,
+            is_quiet: self.is_quiet,
+            is_strict: self.is_strict,
+        }
+    }
+
+    /// The same, where the trace of this id is told of.
+    pub fn of_trace(self, trace: &'a str) -> Voice<'a> {
+        Voice {
+            rt: self.rt,
+            file: self.file,
+            script: self.script,
+            trace: Some(trace),
             is_quiet: self.is_quiet,
             is_strict: self.is_strict,
         }
@@ -62,11 +78,21 @@ impl<'a> Voice<'a> {
         self.is_strict
     }
 
-    /// Says something of the recording.
+    /// Says something of the recording, unless nothing is to be said.
     pub fn say<D: Display + Drop>(self, what: D) {
         if !self.is_quiet {
-            let _ = self.rt.eprintln(format_args!("whatif: {what}"));
+            self.tell(what);
         }
+    }
+
+    /// Says something that is never left out.
+    pub fn tell<D: Display + Drop>(self, what: D) {
+        let _ = match self.trace {
+            None => self.rt.eprintln(format_args!("whatif: {what}")),
+            Some(trace) => self
+                .rt
+                .eprintln(format_args!("whatif: trace {trace}: {what}")),
+        };
     }
 
     /// Says something of a line of the script.

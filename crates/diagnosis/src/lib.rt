@@ -48,6 +48,6 @@ pub use site::{Path, Site};
 pub use step::examine_step;
 pub use step_glance::may_step_be_unread;
 pub use syntax::{Expected, JsonFault, Unmet, json_fault};
-pub use trace::{TraceKind, trace_kind};
+pub use trace::{TraceLike, trace_like};
 pub use unread::{Unread, Warning};
 pub use wanted::Wanted;

@@ -2,14 +2,9 @@
 use serde_json::Value;
 use std::fmt;
 
-/// Which trace a text looks like.
+/// That a text looks like a trace, of which `import` makes a recording.
 #[derive(Clone, Copy)]
-pub enum TraceKind {
-    /// OTLP/JSON or Jaeger's JSON, of which `import` makes a recording.
-    Imported,
-    /// Zipkin's JSON.
-    Zipkin,
-}
+pub struct TraceLike;
 
 /// Whether an object has the members of a span of Zipkin's.
 fn is_zipkin_span(value: &Value) -> bool {
@@ -29,24 +24,18 @@ fn is_zipkin(value: &Value) -> bool {
     }
 }
 
-/// Which trace a value looks like, if it looks like one and not like a recording.
-pub fn trace_kind(value: &Value) -> Option<TraceKind> {
-    let is_imported = value.get("resourceSpans").is_some() || value.get("data").is_some();
-    if is_imported && value.get("stages").is_none() {
-        Some(TraceKind::Imported)
-    } else if is_zipkin(value) {
-        Some(TraceKind::Zipkin)
+/// Whether a value looks like a trace and not like a recording.
+pub fn trace_like(value: &Value) -> Option<TraceLike> {
+    let has_spans = value.get("resourceSpans").is_some() || value.get("data").is_some();
+    if has_spans && value.get("stages").is_none() || is_zipkin(value) {
+        Some(TraceLike)
     } else {
         None
     }
 }
 
-impl fmt::Display for TraceKind {
+impl fmt::Display for TraceLike {
     fn fmt<W: fmt::Write>(&self, f: &mut fmt::Formatter<W>) -> fmt::Result {
-        f.write_str(match self {
-            TraceKind::Imported => "it looks like a trace: whatif import makes a recording of it",
-            TraceKind::Zipkin =>
-                "it looks like a trace in Zipkin's JSON: whatif import makes a recording of one in OTLP/JSON or Jaeger's JSON, so export it in one of these",
-        })
+        f.write_str("it looks like a trace: whatif import makes a recording of it")
     }
 }

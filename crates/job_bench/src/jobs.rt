@@ -19,7 +19,7 @@ use serve_script::serve;
 use stage_graph::Graph;
 use std::alloc::Global;
 use text_io::{CountedReader, CountedWriter, Sink};
-use trace_import::{Options, Unit, import};
+use trace_import::{AsTold, Mapping, Options, Unit, import};
 use version_store::{StateRepresentation, Version};
 
 /// A job.
@@ -188,7 +188,13 @@ fn imported(
     let mut sink = unwritten(alloc);
     let options = Options {
         trace: None,
-        unit: Unit::Microsecond,
+        mapping: Mapping {
+            unit: Unit::Microsecond,
+            as_told: AsTold {
+                clocks: false,
+                calls: false,
+            },
+        },
     };
     import(alloc, text.as_bytes(), options, &mut sink)?;
     taken(digest, sink);

@@ -18,7 +18,8 @@ use stage_graph::Graph;
 use std::alloc::Global;
 use std::marker::PhantomData;
 use text_io::{CountedReader, CountedWriter};
-use trace_import::{ImportFault, Options, Unit, import};
+use trace_import::{AsTold, ImportFault, Mapping, Options, Unit, import, import_each};
+use trace_spans::list_traces;
 use version_store::StateRepresentation;
 
 /// What is written, and of what.
@@ -65,9 +66,9 @@ fn stage_report_named(word: &str) -> StageReport {
 }
 
 /// The number of an import's refusal.
-fn refusal_of_import(answer: &Result<(), ImportFault>) -> Option<u32> {
+fn refusal_of_import<T>(answer: &Result<T, ImportFault>) -> Option<u32> {
     match answer {
-        Ok(()) => None,
+        Ok(_) => None,
         Err(fault) => Some(fault.number()),
     }
 }
@@ -90,16 +91,54 @@ fn refusal_of_script(answer: Result<(), ServeFault>) -> Option<u32> {
     }
 }
 
+/// How traces are imported.
+fn mapping() -> Mapping {
+    Mapping {
+        unit: Unit::Microsecond,
+        as_told: AsTold {
+            clocks: false,
+            calls: false,
+        },
+    }
+}
+
 /// Imports a trace; the number of the refusal.
-fn imported(alloc: Global, trace: &str, sink: &mut CountedWriter<Vec<u8>>) -> Option<u32>
+fn imported_one(alloc: Global, trace: &str, sink: &mut CountedWriter<Vec<u8>>) -> Option<u32>
     requires { write_failures sink.old ≡ 0 }
 {
     let options = Options {
         trace: None,
-        unit: Unit::Microsecond,
+        mapping: mapping(),
     };
     let answer = import(alloc, trace.as_bytes(), options, sink);
     refusal_of_import(&answer)
+}
+
+/// Imports each trace of a file; the number of the refusal.
+fn imported_each(alloc: Global, traces: &str, sink: &mut CountedWriter<Vec<u8>>) -> Option<u32>
+    requires { write_failures sink.old ≡ 0 }
+{
+    let answer = import_each(alloc, traces.as_bytes(), mapping(), sink);
+    refusal_of_import(&answer)
+}
+
+/// Lists the traces of a file; the number of the refusal.
+fn listed(alloc: Global, traces: &str) -> Option<u32> {
+    match list_traces(alloc, traces.as_bytes()) {
+        Ok(_) => None,
+        Err(fault) => Some(fault.number()),
+    }
+}
+
+/// Imports a trace or each of a file, or lists them; the number of the refusal.
+fn imported(alloc: Global, scene: Scene<'_>, sink: &mut CountedWriter<Vec<u8>>) -> Option<u32>
+    requires { write_failures sink.old ≡ 0 }
+{
+    match scene.call {
+        "each" => imported_each(alloc, scene.trace(), sink),
+        "list" => listed(alloc, scene.trace()),
+        _ => imported_one(alloc, scene.trace(), sink),
+    }
 }
 
 impl<R: StateRepresentation, W: Runner> Writing<'_, R, W> {
@@ -165,7 +204,7 @@ impl<R: StateRepresentation, W: Runner> Writing<'_, R, W> {
         let (alloc, scene) = (window.alloc, self.scene);
         window.begin();
         let refusal = match scene.group {
-            "import" => imported(alloc, scene.trace(), &mut sink),
+            "import" => imported(alloc, scene, &mut sink),
             _ => self.reported(alloc, &mut sink),
         };
         window.end();

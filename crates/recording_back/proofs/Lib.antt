@@ -3,6 +3,8 @@ pub mod Good
 pub mod Lexing
 pub mod Loading
 pub mod Objects
+pub mod Passed
+pub mod Plain
 pub mod StageBack
 pub mod StageRows
 pub mod StageTexts

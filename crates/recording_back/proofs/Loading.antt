@@ -1,5 +1,5 @@
 -- The named stages of a sound graph are loaded as that graph, without its empty places.
-use Rattle.std.proofs.Common.{◌^◌, nat_le, if◌then◌else◌, IfSome, Result, Err, leb-true, ◌≡◌, ◌+◌, ◌<◌, ◌≤◌, ℕ, suc, Bool, true, false, cond, nat_lt, List, [], ◌∷◌, ◌++◌, length, map, All, Option, Some, None, option_map, is_some, unwrap_or, IsTrue, IsUtf8, refl, sym, ap, ap₂, ◌∙◌, subst, arith, lt-ltb, le-ltb, ltb-true, ltb-false, eq-eqb}
+use Rattle.std.proofs.Common.{◌^◌, nat_le, if◌then◌else◌, IfSome, Result, Ok, Err, leb-true, ◌≡◌, ◌+◌, ◌<◌, ◌≤◌, ℕ, suc, Bool, true, false, cond, nat_lt, List, [], ◌∷◌, ◌++◌, length, map, All, Option, Some, None, option_map, is_some, unwrap_or, IsTrue, IsUtf8, refl, sym, ap, ap₂, ◌∙◌, subst, arith, lt-ltb, le-ltb, ltb-true, ltb-false, eq-eqb}
 use Rattle.std.specs.Prelude.{position}
 use Rattle.std.specs.List.{list_all, position_or_len}
 use Rattle.std.specs.Str.{bytes_eq}
@@ -17,11 +17,16 @@ use Rattle.std.specs.Prelude.{⊤}
 use Rattle.std.proofs.lemmas.Bool.{and_parts}
 use Rattle.std.proofs.lemmas.Str.{IsUtf8-nil}
 use Rattle.act_expr.specs.Expression.{Expression, depth}
+use Rattle.act_expr.specs.declared.outcome.Mode.{Mode}
+use Rattle.act_expr.specs.declared.outcome.Mode.TheVariants.{Computed}
 use Rattle.act_expr.specs.declared.expr.ExprFault.{ExprFault}
 use Rattle.stage_graph.specs.declared.end.End.{End}
-use Rattle.recording_back.specs.ReadBack.{IsWritable}
-use Rattle.recording_back.specs.Packed.{AreTyped, HasTypes, moved, moved_stage, moved_among, EachGraphIsLoaded, EachGraphIsReadBack}
+use Rattle.recording_back.specs.ReadBack.{HasLabels, IsLabelled, IsWritable, specs_in}
+use Rattle.recording_back.specs.Packed.{AreTyped, HasTypes, IsRecordingOf, moved, moved_stage, moved_among, without_empty, EachGraphIsLoaded, EachGraphIsReadBack}
+use Rattle.recording.specs.RecordingOf.{longest, named, recorded}
+use Rattle.recording_text.specs.Labels.{Labelled, PlainHead, no_labels, recording_with, unlabelled}
 use Rattle.recording_text.specs.Texts.{recording_text}
+use Rattle.recording_back.proofs.Plain.{none_beside, none_label, same_specs, text_same}
 use Rattle.recording_back.proofs.StageBack.{read_back}
 use Rattle.recording_back.proofs.Utf8.{ascii_text}
 
@@ -271,6 +276,36 @@ pub graph_writable : (graph : PlainGraph) → IsSound graph → AreTyped graph.p
 graph_writable graph sound typed =
     all_writable graph.places graph.places (λ j stage is. writable graph.places (all_named graph.places sound.stages) j stage (sound.stages j stage is) (typed j stage is))
 
+-- ---- labels beside them
+
+all_labelled : (stages : List Labelled) → All IsWritable (specs_in stages) → All HasLabels stages → All IsLabelled stages
+all_labelled [] h k = All-nil IsLabelled
+all_labelled (stage ∷ stages) h k =
+    All-cons IsLabelled stage stages (record { writable = All-head IsWritable stage.0 (specs_in stages) h; labels = All-head HasLabels stage stages k })
+    (all_labelled stages (All-tail IsWritable stage.0 (specs_in stages) h) (All-tail HasLabels stage stages k))
+
+known_as : (text : List ℕ) (m n : Mode) (l k : List Spec) → m ≡ n → l ≡ k → recorded text ≡ Ok (record { mode = m; stages = l }) → recorded text ≡ Ok (record { mode = n; stages = k })
+known_as text m n l k modes lists h = rw (← modes, ← lists) h
+
+recorded_back : (graph : PlainGraph) (mode : Option Mode) (head : PlainHead) (stages : List Labelled) → IsSound graph → AreTyped graph.places → IsRecordingOf graph mode head stages
+    → length (recording_with mode head stages) ≤ longest → recorded (recording_with mode head stages) ≡ Ok (record { mode = graph.mode; stages = specs_of graph })
+recorded_back graph mode head stages sound typed is short =
+    known_as (recording_with mode head stages) (unwrap_or mode Computed) graph.mode (specs_in stages) (specs_of graph) is.names_mode is.has_stages
+    (read_back mode head stages is.beside (all_labelled stages (subst (All IsWritable) (sym is.has_stages) (graph_writable graph sound typed)) is.labels) short)
+
 pub graph_read_back : EachGraphIsReadBack
+graph_read_back graph mode head stages sound typed is short = rw (recorded_back graph mode head stages sound typed is short, graph_loaded graph sound) refl
+
+-- what is written of a graph bears no labels
+pub plain_recording : (graph : PlainGraph) → IsRecordingOf graph (Some graph.mode) no_labels (map unlabelled (specs_of graph))
+plain_recording graph = record { names_mode = refl; has_stages = same_specs (specs_of graph); beside = none_beside; labels = none_label (specs_of graph) }
+
+pub plain_text : (graph : PlainGraph) → recording_text graph ≡ recording_with (Some graph.mode) no_labels (map unlabelled (specs_of graph))
 unfolding recording_text
-graph_read_back graph sound typed short = rw (read_back graph.mode (specs_of graph) (graph_writable graph sound typed) short, graph_loaded graph sound) refl
+plain_text graph = text_same graph.mode (specs_of graph)
+
+pub plain_read_back : (graph : PlainGraph) → IsSound graph → AreTyped graph.places → length (recording_text graph) ≤ longest → named (recording_text graph) ≡ Ok (without_empty graph)
+plain_read_back graph sound typed short =
+    let stages = map unlabelled (specs_of graph) in
+    ap named (plain_text graph)
+    ∙ graph_read_back graph (Some graph.mode) no_labels stages sound typed (plain_recording graph) (subst (λ (text : List ℕ). length text ≤ longest) (plain_text graph) short)

@@ -1,5 +1,5 @@
--- The JSON of a stage is read as the members of the stage.
-use Rattle.std.proofs.Common.{◌≡◌, ◌≤◌, ◌<◌, ◌^◌, ℕ, suc, Bool, true, false, List, [], ◌∷◌, All, IfSome, Option, Some, None, option_map, nat_lt, if◌then◌else◌, refl, arith}
+-- The JSON of a stage is read as the members of the stage, and as its labels.
+use Rattle.std.proofs.Common.{◌≡◌, ◌≤◌, ◌<◌, ◌^◌, ℕ, suc, Bool, true, false, List, [], ◌∷◌, ◌++◌, map, All, IfSome, Option, Some, None, option_map, nat_lt, if◌then◌else◌, refl, arith}
 use Rattle.std.specs.Prelude.{⊤}
 use Rattle.std.proofs.lemmas.List.Elements.{All-cons, All-head, All-nil, All-tail}
 use Rattle.json.specs.Json as json
@@ -19,7 +19,8 @@ use Rattle.stage_graph.specs.declared.stage.Spec.{Spec}
 use Rattle.recording.specs.Written.{written, IsWellFormed}
 use Rattle.recording.specs.WrittenStages as forms
 use Rattle.recording.specs.WrittenStages.{AreEnds, IsAct, IsOp, IsOutcome}
-use Rattle.recording_text.specs.Json.{Row, some_of, members_of, count, value_of, throws_of, action_json, outcome_json, end_json, stage_rows, stage_json}
+use Rattle.recording_text.specs.Json.{Row, some_of, members_of, count, value_of, throws_of, action_json, outcome_json, end_json, stage_rows}
+use Rattle.recording_text.specs.Labels.{Labelled, PlainLabel, label_rows, labelled_json, labels_json}
 use Rattle.recording_back.specs.ReadBack.{IsWritable}
 use Rattle.recording_back.proofs.Good.{IsGood, good_deeper, string_good, count_good, value_good, action_good, outcome_good, end_good, items_good, strings_good}
 
@@ -161,11 +162,44 @@ ends_row (end ∷ ends) h k =
     let good = items_good 1 end_json forms.written_end (end ∷ ends) (each_end (end ∷ ends) h k) in
     record { numbers = good.numbers; shallow = omega (arith, good.shallow); read = rw good.read refl }
 
-pub stage_good : (stage : Spec) → IsWritable stage → IsGood 101 (stage_json stage) (forms.object_of (onto (stage_rows stage) (stage_data stage) []))
-unfolding stage_json
-stage_good stage h =
+-- ---- labels
+
+abbrev pub label_data : List PlainLabel → List (Option Data)
+label_data labels = map (λ label. Some (string label.1)) labels
+
+labels_good : (most : ℕ) (labels : List PlainLabel) → AreGoodRows most (label_rows labels) (label_data labels)
+labels_good most [] = tt
+labels_good most (label ∷ labels) = (good_deeper 0 most _ _ (omega arith) (string_good label.1), labels_good most labels)
+
+-- a group of labels, which is left out where it has none
+abbrev pub group_data : List PlainLabel → Option Data
+group_data [] = None
+group_data (label ∷ labels) = Some (forms.object_of (onto (label_rows (label ∷ labels)) (label_data (label ∷ labels)) []))
+
+group_good : (most : ℕ) (labels : List PlainLabel) → 1 ≤ most → IsGoodRow most (labels_json labels) (group_data labels)
+group_good most [] deep = tt
+group_good most (label ∷ labels) deep = good_deeper 1 most _ _ deep (object_good 0 (label_rows (label ∷ labels)) (label_data (label ∷ labels)) (labels_good 0 (label ∷ labels)))
+
+-- labels, a group of them, and a member behind these
+pub beside_good : (most : ℕ) (labels grouped : List PlainLabel) (group last : List ℕ) (j : Option Json) (d : Option Data) → 1 ≤ most → IsGoodRow most j d
+    → AreGoodRows most ((label_rows labels ++ (group, labels_json grouped) ∷ []) ++ (last, j) ∷ []) ((label_data labels ++ group_data grouped ∷ []) ++ d ∷ [])
+beside_good most [] grouped group last j d deep good = (group_good most grouped deep, (good, tt))
+beside_good most (label ∷ labels) grouped group last j d deep good = (good_deeper 0 most _ _ (omega arith) (string_good label.1), beside_good most labels grouped group last j d deep good)
+
+pub beside_onto : (labels : List PlainLabel) (g l : Row) (gd ld : Option Data) (named : List (List ℕ × Option Data))
+    → onto ((label_rows labels ++ g ∷ []) ++ l ∷ []) ((label_data labels ++ gd ∷ []) ++ ld ∷ []) named ≡ (l.0, ld) ∷ (g.0, gd) ∷ onto (label_rows labels) (label_data labels) named
+beside_onto [] g l gd ld named = refl
+beside_onto (label ∷ labels) g l gd ld named = beside_onto labels g l gd ld ((label.0, Some (string label.1)) ∷ named)
+
+-- what a stage with labels is read as
+abbrev pub meant : Labelled → Data
+meant stage = forms.object_of (onto (stage_rows stage.0 ++ label_rows stage.1) (stage_data stage.0 ++ label_data stage.1) [])
+
+pub stage_good : (stage : Spec) (labels : List PlainLabel) → IsWritable stage → IsGood 101 (labelled_json stage labels) (meant (stage, labels))
+unfolding labelled_json
+stage_good stage labels h =
     let op = op_row stage.op h.op in
-    object_good 100 (stage_rows stage) (stage_data stage) (
+    object_good 100 (stage_rows stage ++ label_rows labels) (stage_data stage ++ label_data labels) (
       good_deeper 0 100 _ _ (omega arith) (string_good stage.name),
       (
         good_deeper 0 100 _ _ (omega arith) (string_good (op_text stage.op)),
@@ -183,7 +217,7 @@ stage_good stage h =
                     number_row (nat_lt 0 stage.queued) stage.queued h.queued,
                     (
                       number_row (nat_lt 0 stage.runs) stage.runs h.runs,
-                      (action_row stage.action h.action h.shallow, (result_row stage.pin_result h.pin_result, (moment_row stage.pin_moment h.pin_moment, (ends_row stage.ends h.ends h.ticks, tt)))),
+                      (action_row stage.action h.action h.shallow, (result_row stage.pin_result h.pin_result, (moment_row stage.pin_moment h.pin_moment, (ends_row stage.ends h.ends h.ticks, labels_good 100 labels)))),
                     ),
                   ),
                 ),

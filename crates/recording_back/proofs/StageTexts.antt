@@ -1,13 +1,16 @@
--- The text of a recording is UTF-8, since the names in it are.
+-- The text of a recording is UTF-8, since the names and labels in it are.
 use Rattle.std.proofs.Common.{◌≡◌, ◌<◌, ◌^◌, ℕ, pos, negsuc, Bool, true, false, List, [], ◌∷◌, ◌++◌, ◌&&◌, All, IfSome, IsUtf8, Option, Some, None, option_map, codes, nat_lt, if◌then◌else◌, refl, arith}
 use Rattle.std.specs.Prelude.{⊤}
+use Rattle.std.specs.List.{AllByRecursion as Each}
 use Rattle.std.specs.Str.{is_utf8}
 use Rattle.std.proofs.lemmas.Bool.{and_parts}
 use Rattle.std.proofs.lemmas.List.Elements.{All-head, All-tail}
 use Rattle.std.proofs.lemmas.Str.{IsUtf8-append, IsUtf8-nil, is_utf8-from_IsUtf8}
 use Rattle.json.specs.Json as json
 use Rattle.json.specs.Json.{Json}
-use Rattle.json.proofs.Printed.Utf8.{are_ascii, IsUtf8-are_ascii}
+use Rattle.json.specs.Token.{begin_array, key}
+use Rattle.json.specs.Tree.{json_tokens}
+use Rattle.json.proofs.Printed.Utf8.{are_ascii, IsUtf8-are_ascii, IsUtf8-key}
 use Rattle.act_expr.specs.Expression.{Expression, literal, argument, binary, conditional, is_null, failed, is_wrapped, cause_is, throw}
 use Rattle.act_expr.specs.declared.outcome.Value.{Value}
 use Rattle.act_expr.specs.declared.outcome.Value.TheVariants.{Null, Num as Long}
@@ -25,13 +28,14 @@ use Rattle.stage_graph.specs.declared.op.Op.TheVariants.{Async, Manual, Complete
 use Rattle.stage_graph.specs.declared.end.Act.{Act}
 use Rattle.stage_graph.specs.declared.end.Act.TheVariants.{Complete, CompleteExceptionally, Cancel, OrTimeout, CompleteOnTimeout}
 use Rattle.stage_graph.specs.declared.end.End.{End}
-use Rattle.stage_graph.specs.declared.stage.Spec.{Spec}
 use Rattle.recording.specs.Written.{IsWellFormed, operator_text}
-use Rattle.recording.specs.WrittenStages.{AreEnds, IsAct, IsOp, IsOutcome, IsValue}
-use Rattle.recording_text.specs.Json.{Row, row, act_rows, items_of, members_of, some_of, count, value_of, throws_of, value_json, action_json, outcome_json, end_json, stage_rows, stage_json}
-use Rattle.recording_text.specs.Texts.{end_text, head_text, line_break, lines, stage_text, text_of}
-use Rattle.recording_back.specs.ReadBack.{IsWritable}
-use Rattle.recording_back.proofs.Utf8.{HasTexts, ItemsHaveTexts, MembersHaveTexts, json_printed, exception_text, count_text, long_text}
+use Rattle.recording.specs.WrittenStages.{AreEnds, IsAct, IsOp, IsOutcome, IsValue, mode_text}
+use Rattle.recording.specs.declared.member.Member.{Member}
+use Rattle.recording_text.specs.Json.{Row, row, act_rows, items_of, members_of, some_of, count, value_of, throws_of, value_json, action_json, outcome_json, end_json, rows_tokens, stage_rows}
+use Rattle.recording_text.specs.Labels.{Labelled, PlainHead, PlainLabel, group_row, head_rows, head_tokens, json_in, label_rows, labelled_head, labelled_json, labelled_lines, labelled_text, labels_json, mode_row, recording_with}
+use Rattle.recording_text.specs.Texts.{end_text, line_break}
+use Rattle.recording_back.specs.ReadBack.{IsBeside, IsLabel, IsLabelled, recording_members, stage_members}
+use Rattle.recording_back.proofs.Utf8.{AreTexts, HasTexts, ItemsHaveTexts, MembersHaveTexts, json_printed, exception_text, count_text, long_text, printed, texts-append, token_texts}
 
 -- ---- values and actions
 
@@ -71,12 +75,13 @@ abbrev HaveTexts : List Row → Type 0
 HaveTexts [] = ⊤
 HaveTexts (row ∷ rows) = IfSome row.1 HasTexts × HaveTexts rows
 
-row_texts : (rows : List Row) → are_words rows ≡ true → HaveTexts rows → MembersHaveTexts (members_of rows)
-row_texts [] words h = tt
-row_texts ((name, None) ∷ rows) words h = row_texts rows (and_parts (are_ascii name) (are_words rows) words).1 h.1
-row_texts ((name, Some j) ∷ rows) words h =
+-- members under words, before others
+row_texts : (rows more : List Row) → are_words rows ≡ true → HaveTexts rows → MembersHaveTexts (members_of more) → MembersHaveTexts (members_of (rows ++ more))
+row_texts [] more words h k = k
+row_texts ((name, None) ∷ rows) more words h k = row_texts rows more (and_parts (are_ascii name) (are_words rows) words).1 h.1 k
+row_texts ((name, Some j) ∷ rows) more words h k =
     let parts = and_parts (are_ascii name) (are_words rows) words in
-    (IsUtf8-are_ascii name parts.0, h.0, row_texts rows parts.1 h.1)
+    (IsUtf8-are_ascii name parts.0, h.0, row_texts rows more parts.1 h.1 k)
 
 item_texts : {A : Type 0} (write : A → Json) (P : A → Type 0) → ((a : A) → P a → HasTexts (write a)) → (list : List A) → All P list → IfSome (some_of write list) HasTexts
 item_texts {A} write P each [] h = tt
@@ -94,14 +99,14 @@ outcome_texts (outcome.Bare name) h = (IsUtf8-are_ascii (codes "bare") refl, exc
 outcome_texts (outcome.Wrapped name) h = (IsUtf8-are_ascii (codes "wrapped") refl, exception_text name h, tt)
 
 act_texts : (at : ℕ) (act : Act) → IsAct act → at < 2 ^ 64 → delay_of act < 2 ^ 64 → HasTexts (end_json (record { at = at; act = act }))
-act_texts at (Complete v) h a d = row_texts (row (codes "at") (count at) ∷ act_rows (Complete v)) refl (count_text at a, (IsUtf8-are_ascii _ refl, (value_texts v h, tt)))
+act_texts at (Complete v) h a d = row_texts (row (codes "at") (count at) ∷ act_rows (Complete v)) [] refl (count_text at a, (IsUtf8-are_ascii _ refl, (value_texts v h, tt))) tt
 act_texts at (CompleteExceptionally name) h a d =
-    row_texts (row (codes "at") (count at) ∷ act_rows (CompleteExceptionally name)) refl (count_text at a, (IsUtf8-are_ascii _ refl, (exception_text name h, tt)))
-act_texts at Cancel h a d = row_texts (row (codes "at") (count at) ∷ act_rows Cancel) refl (count_text at a, (IsUtf8-are_ascii _ refl, tt))
+    row_texts (row (codes "at") (count at) ∷ act_rows (CompleteExceptionally name)) [] refl (count_text at a, (IsUtf8-are_ascii _ refl, (exception_text name h, tt))) tt
+act_texts at Cancel h a d = row_texts (row (codes "at") (count at) ∷ act_rows Cancel) [] refl (count_text at a, (IsUtf8-are_ascii _ refl, tt)) tt
 act_texts at (OrTimeout delay) h a d =
-    row_texts (row (codes "at") (count at) ∷ act_rows (OrTimeout delay)) refl (count_text at a, (IsUtf8-are_ascii _ refl, (count_text delay d, tt)))
+    row_texts (row (codes "at") (count at) ∷ act_rows (OrTimeout delay)) [] refl (count_text at a, (IsUtf8-are_ascii _ refl, (count_text delay d, tt))) tt
 act_texts at (CompleteOnTimeout delay v) h a d =
-    row_texts (row (codes "at") (count at) ∷ act_rows (CompleteOnTimeout delay v)) refl (count_text at a, (IsUtf8-are_ascii _ refl, (count_text delay d, (value_texts v h, tt))))
+    row_texts (row (codes "at") (count at) ∷ act_rows (CompleteOnTimeout delay v)) [] refl (count_text at a, (IsUtf8-are_ascii _ refl, (count_text delay d, (value_texts v h, tt)))) tt
 
 -- ---- stages
 
@@ -172,12 +177,20 @@ end_texts (end ∷ ends) h k = all (end ∷ ends) h k
         let ticks = All-head IsTimed e es k in
         (act_texts e.at e.act (All-head (λ (e : End). IsAct e.act) e es h) ticks.0 ticks.1, all es (All-tail (λ (e : End). IsAct e.act) e es h) (All-tail IsTimed e es k))
 
-stage_texts : (stage : Spec) → IsWritable stage → HasTexts (stage_json stage)
-unfolding stage_json
-stage_texts stage h =
+labels_texts : (members : List Member) (labels : List PlainLabel) → All (IsLabel members) labels → MembersHaveTexts (members_of (label_rows labels))
+labels_texts members [] h = tt
+labels_texts members (label ∷ labels) h =
+    let first = All-head (IsLabel members) label labels h in
+    (first.name, first.text, labels_texts members labels (All-tail (IsLabel members) label labels h))
+
+stage_texts : (stage : Labelled) → IsLabelled stage → HasTexts (json_in stage)
+unfolding labelled_json
+stage_texts labelled is =
+    let stage = labelled.0 in
+    let h = is.writable in
     let op = op_members stage.op h.op in
     let names = λ (list : List (List ℕ)) (k : All IsUtf8 list). item_texts json.string IsUtf8 (λ name is. is) list k in
-    row_texts (stage_rows stage) refl (
+    row_texts (stage_rows stage) (label_rows labelled.1) refl (
       h.name,
       (
         op_texts stage.op,
@@ -210,26 +223,54 @@ stage_texts stage h =
           ),
         ),
       ),
-    )
+    ) (labels_texts stage_members labelled.1 is.labels)
 
 -- ---- texts
 
-head_utf8 : (mode : Mode) → IsUtf8 (head_text mode)
-head_utf8 Computed = IsUtf8-are_ascii (head_text Computed) refl
-head_utf8 Literal = IsUtf8-are_ascii (head_text Literal) refl
+-- a member of a recording, which may be left out
+abbrev IsTextRow : Row → Type 0
+IsTextRow row = IsUtf8 row.0 × IfSome row.1 HasTexts
+
+rows_texts : (rows : List Row) → Each IsTextRow rows → AreTexts (rows_tokens rows)
+rows_texts [] h = tt
+rows_texts ((name, None) ∷ rows) h = rows_texts rows h.1
+rows_texts ((name, Some value) ∷ rows) h = (IsUtf8-key name h.0.0, texts-append (json_tokens value) (rows_tokens rows) (token_texts value h.0.1) (rows_texts rows h.1))
+
+mode_texts : (mode : Option Mode) → IsTextRow (mode_row mode)
+mode_texts None = (IsUtf8-are_ascii (codes "wrap") refl, tt)
+mode_texts (Some Computed) = (IsUtf8-are_ascii (codes "wrap") refl, IsUtf8-are_ascii (mode_text Computed) refl)
+mode_texts (Some Literal) = (IsUtf8-are_ascii (codes "wrap") refl, IsUtf8-are_ascii (mode_text Literal) refl)
+
+group_texts : (labels : List PlainLabel) → All (IsLabel []) labels → IfSome (labels_json labels) HasTexts
+group_texts [] h = tt
+group_texts (label ∷ labels) h = labels_texts [] (label ∷ labels) h
+
+beside_texts : (labels : List PlainLabel) (group : Row) → All (IsLabel recording_members) labels → IsTextRow group → Each IsTextRow (label_rows labels ++ group ∷ [])
+beside_texts [] group h k = (k, tt)
+beside_texts (label ∷ labels) group h k =
+    let first = All-head (IsLabel recording_members) label labels h in
+    ((first.name, first.text), beside_texts labels group (All-tail (IsLabel recording_members) label labels h) k)
+
+head_utf8 : (mode : Option Mode) (head : PlainHead) → IsBeside head → IsUtf8 (labelled_head mode head)
+head_utf8 mode head beside =
+    let form : IsTextRow (row (codes "form") (json.number (codes "2"))) = (IsUtf8-are_ascii (codes "form") refl, IsUtf8-are_ascii (codes "2") refl) in
+    let rows = rows_texts (head_rows mode head) (form, (mode_texts mode, beside_texts head.0 (group_row head.1) beside.labels (beside.group, group_texts head.1.1 beside.grouped))) in
+    printed false (head_tokens mode head)
+    (IsUtf8-are_ascii _ refl, texts-append (rows_tokens (head_rows mode head)) (key (codes "stages") ∷ begin_array ∷ []) rows (IsUtf8-key (codes "stages") (IsUtf8-are_ascii (codes "stages") refl), (IsUtf8-are_ascii _ refl, tt)))
 
 break_utf8 : (later : Bool) → IsUtf8 (line_break later)
 break_utf8 true = IsUtf8-are_ascii (line_break true) refl
 break_utf8 false = IsUtf8-are_ascii (line_break false) refl
 
-lines_utf8 : (later : Bool) (stages : List Spec) → All IsWritable stages → IsUtf8 (lines later stages)
+lines_utf8 : (later : Bool) (stages : List Labelled) → All IsLabelled stages → IsUtf8 (labelled_lines later stages)
 lines_utf8 later [] h = IsUtf8-nil
 lines_utf8 later (stage ∷ stages) h =
-    IsUtf8-append (line_break later ++ stage_text stage) (lines true stages)
-    (IsUtf8-append (line_break later) (stage_text stage) (break_utf8 later) (json_printed false (stage_json stage) (stage_texts stage (All-head IsWritable stage stages h))))
-    (lines_utf8 true stages (All-tail IsWritable stage stages h))
+    IsUtf8-append (line_break later ++ labelled_text stage) (labelled_lines true stages)
+    (IsUtf8-append (line_break later) (labelled_text stage) (break_utf8 later) (json_printed false (json_in stage) (stage_texts stage (All-head IsLabelled stage stages h))))
+    (lines_utf8 true stages (All-tail IsLabelled stage stages h))
 
-pub text_utf8 : (mode : Mode) (stages : List Spec) → All IsWritable stages → is_utf8 (text_of mode stages) ≡ true
-text_utf8 mode stages h =
-    is_utf8-from_IsUtf8 (text_of mode stages)
-    (IsUtf8-append (head_text mode ++ lines false stages) end_text (IsUtf8-append (head_text mode) (lines false stages) (head_utf8 mode) (lines_utf8 false stages h)) (IsUtf8-are_ascii end_text refl))
+pub text_utf8 : (mode : Option Mode) (head : PlainHead) (stages : List Labelled) → IsBeside head → All IsLabelled stages → is_utf8 (recording_with mode head stages) ≡ true
+unfolding recording_with
+text_utf8 mode head stages beside h =
+    is_utf8-from_IsUtf8 (labelled_head mode head ++ labelled_lines false stages ++ end_text)
+    (IsUtf8-append (labelled_head mode head ++ labelled_lines false stages) end_text (IsUtf8-append (labelled_head mode head) (labelled_lines false stages) (head_utf8 mode head beside) (lines_utf8 false stages h)) (IsUtf8-are_ascii end_text refl))

@@ -34,16 +34,16 @@ abbrev mutual
 
 -- ---- what is printed
 
-abbrev AreTexts : List Token → Type 0
+abbrev pub AreTexts : List Token → Type 0
 AreTexts [] = ⊤
 AreTexts (t ∷ ts) = IsUtf8 (token_text t) × AreTexts ts
 
-texts-append : (ts us : List Token) → AreTexts ts → AreTexts us → AreTexts (ts ++ us)
+pub texts-append : (ts us : List Token) → AreTexts ts → AreTexts us → AreTexts (ts ++ us)
 texts-append [] us h k = k
 texts-append (t ∷ ts) us h k = (h.0, texts-append ts us h.1 k)
 
 mutual
-  token_texts : (j : Json) → HasTexts j → AreTexts (json_tokens j)
+  pub token_texts : (j : Json) → HasTexts j → AreTexts (json_tokens j)
   token_texts json.null h = (IsUtf8-are_ascii _ refl, tt)
   token_texts (json.boolean b) h = (IsUtf8-boolean b, tt)
   token_texts (json.number s) h = (h, tt)
@@ -59,7 +59,7 @@ mutual
   members_texts json.no_members h = (IsUtf8-are_ascii _ refl, tt)
   members_texts (json.member k j ms) h = (IsUtf8-key k h.0, texts-append (json_tokens j) (members_tokens ms) (token_texts j h.1) (members_texts ms h.2))
 
-printed : (later : Bool) (ts : List Token) → AreTexts ts → IsUtf8 (print_from later ts)
+pub printed : (later : Bool) (ts : List Token) → AreTexts ts → IsUtf8 (print_from later ts)
 unfolding print_from
 printed later [] h = IsUtf8-nil
 printed later (t ∷ ts) h = IsUtf8-append _ _ (IsUtf8-separator later t) (IsUtf8-append _ _ h.0 (printed (ends t) ts h.1))

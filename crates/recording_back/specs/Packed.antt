@@ -1,18 +1,21 @@
 -- A graph without its empty places: the stages behind an empty place move up.
-use Rattle.std.specs.Prelude.{◌≡◌, ◌<◌, ◌≤◌, ◌^◌, ℕ, zero, suc, List, [], ◌∷◌, length, map, Option, None, Some, Ok, IfSome}
+use Rattle.std.specs.Prelude.{◌≡◌, ◌<◌, ◌≤◌, ◌^◌, ℕ, zero, suc, List, [], ◌∷◌, length, map, All, Option, None, Some, unwrap_or, Ok, IfSome}
 use Rattle.json.specs.Lex.{tokens}
 use Rattle.json.specs.Print.{print}
 use Rattle.json.specs.Tree.{json_tokens}
+use Rattle.act_expr.specs.declared.outcome.Mode.{Mode}
+use Rattle.act_expr.specs.declared.outcome.Mode.TheVariants.{Computed}
 use Rattle.stage_graph.specs.declared.stage.Stage.{Stage}
 use Rattle.stage_graph.specs.Loading.{loaded}
 use Rattle.stage_graph.specs.Plain.{PlainGraph, stage_at}
 use Rattle.stage_graph.specs.Sound.{IsSound}
 use Rattle.recording.specs.RecordingOf.{longest, named}
+use Rattle.recording_text.specs.Labels.{Labelled, PlainHead, recording_with}
 use Rattle.recording_text.specs.Named.{specs_of}
 use Rattle.recording.specs.Written.{IsWellFormed}
 use Rattle.recording.specs.WrittenStages.{AreEnds, IsOp, IsOutcome}
 use Rattle.recording_text.specs.Reports.{report_json, report_object}
-use Rattle.recording_text.specs.Texts.{recording_text}
+use Rattle.recording_back.specs.ReadBack.{HasLabels, IsBeside, specs_in}
 
 -- how many stages stand before a place
 abbrev pub moved : List (Option Stage) → ℕ → ℕ
@@ -47,10 +50,18 @@ pub record HasTypes (stage : Stage) : Type 0 where
 abbrev pub AreTyped : List (Option Stage) → Type 0
 AreTyped places = (place : ℕ) (stage : Stage) → stage_at places place ≡ Some stage → HasTypes stage
 
--- each sound graph, without its empty places, is what is read from its text, unless that is too long
+-- a recording of the graph, which may name its mode and bear labels
+pub record IsRecordingOf (graph : PlainGraph) (mode : Option Mode) (head : PlainHead) (stages : List Labelled) : Type 0 where
+  pub names_mode : unwrap_or mode Computed ≡ graph.mode
+  pub has_stages : specs_in stages ≡ specs_of graph
+  pub beside : IsBeside head
+  pub labels : All HasLabels stages
+
+-- each sound graph, without its empty places, is what is read from the text of a recording of it, unless that is too long
 abbrev pub EachGraphIsReadBack : Type 0
 EachGraphIsReadBack =
-    (graph : PlainGraph) → IsSound graph → AreTyped graph.places → length (recording_text graph) ≤ longest → named (recording_text graph) ≡ Ok (without_empty graph)
+    (graph : PlainGraph) (mode : Option Mode) (head : PlainHead) (stages : List Labelled) → IsSound graph → AreTyped graph.places → IsRecordingOf graph mode head stages
+    → length (recording_with mode head stages) ≤ longest → named (recording_with mode head stages) ≡ Ok (without_empty graph)
 
 -- the JSON of an answer that is a version's recording has its tokens, and so has the line that is written of it
 abbrev pub HasItsTokens : Option ℕ → ℕ → PlainGraph → Type 0

@@ -8,6 +8,7 @@ use Rattle.act_expr.specs.declared.outcome.Mode.{Mode}
 use Rattle.stage_graph.specs.declared.stage.Spec.{Spec}
 use Rattle.recording.specs.WrittenStages.{mode_text}
 use Rattle.recording_text.specs.Json.{Row, members_of, items_of, some_of, row_tokens, rows_tokens, list_tokens, op_rows, feed_rows, time_rows, outcome_rows, stage_rows, stage_json, row, count, recording_json}
+use Rattle.recording_text.specs.Labels.{PlainGroup, PlainLabel, group_row, head_tokens, label_rows, labelled_json, labels_json}
 
 module _ {A : Type 0} (write : A → Json) where
   pub items_listed : (list : List A) → items_tokens (items_of write list) ≡ list_tokens write list ++ end_array ∷ []
@@ -43,7 +44,7 @@ rows_listed ((name, None) ∷ rows) = rows_listed rows
 rows_listed ((name, Some value) ∷ rows) =
     ap (λ l. key name ∷ (json_tokens value ++ l)) (rows_listed rows) ∙ ap (λ l. key name ∷ l) (sym (append_assoc (json_tokens value) (rows_tokens rows) (end_object ∷ [])))
 
-rows_append : (xs ys : List Row) → rows_tokens (xs ++ ys) ≡ rows_tokens xs ++ rows_tokens ys
+pub rows_append : (xs ys : List Row) → rows_tokens (xs ++ ys) ≡ rows_tokens xs ++ rows_tokens ys
 rows_append [] ys = refl
 rows_append (x ∷ xs) ys = ap (λ l. row_tokens x ++ l) (rows_append xs ys) ∙ sym (append_assoc (row_tokens x) (rows_tokens xs) (rows_tokens ys))
 
@@ -71,19 +72,21 @@ module _ {E : Type 0} where
 
 -- ---- a stage
 
-rows_of_stage : (stage : Spec) → json_tokens (stage_json stage)
-    ≡ begin_object ∷ ((((rows_tokens (op_rows stage.name stage.op) ++ rows_tokens (feed_rows stage.sources stage.inner)) ++ rows_tokens (time_rows stage.created stage.queued stage.runs))
-    ++ rows_tokens (outcome_rows stage.action stage.pin_result stage.pin_moment stage.ends)) ++ end_object ∷ [])
-unfolding stage_json
-rows_of_stage stage =
+rows_of_parts : (stage : Spec) → rows_tokens (stage_rows stage)
+    ≡ ((rows_tokens (op_rows stage.name stage.op) ++ rows_tokens (feed_rows stage.sources stage.inner)) ++ rows_tokens (time_rows stage.created stage.queued stage.runs))
+    ++ rows_tokens (outcome_rows stage.action stage.pin_result stage.pin_moment stage.ends)
+rows_of_parts stage =
     let op = op_rows stage.name stage.op in
     let feeds = feed_rows stage.sources stage.inner in
     let times = time_rows stage.created stage.queued stage.runs in
     let outcomes = outcome_rows stage.action stage.pin_result stage.pin_moment stage.ends in
-    ap (λ l. begin_object ∷ l)
-    (rows_listed (stage_rows stage)
-    ∙ ap (λ l. l ++ end_object ∷ [])
-    (rows_append (op ++ feeds ++ times) outcomes ∙ ap (λ l. l ++ rows_tokens outcomes) (rows_append (op ++ feeds) times ∙ ap (λ l. l ++ rows_tokens times) (rows_append op feeds))))
+    rows_append (op ++ feeds ++ times) outcomes ∙ ap (λ l. l ++ rows_tokens outcomes) (rows_append (op ++ feeds) times ∙ ap (λ l. l ++ rows_tokens times) (rows_append op feeds))
+
+rows_of_stage : (stage : Spec) → json_tokens (stage_json stage)
+    ≡ begin_object ∷ ((((rows_tokens (op_rows stage.name stage.op) ++ rows_tokens (feed_rows stage.sources stage.inner)) ++ rows_tokens (time_rows stage.created stage.queued stage.runs))
+    ++ rows_tokens (outcome_rows stage.action stage.pin_result stage.pin_moment stage.ends)) ++ end_object ∷ [])
+unfolding stage_json
+rows_of_stage stage = ap (λ l. begin_object ∷ l) (rows_listed (stage_rows stage) ∙ ap (λ l. l ++ end_object ∷ []) (rows_of_parts stage))
 
 parts_in_a_row : (old a b c d one two three four five : List Token) → one ≡ old ++ begin_object ∷ [] → two ≡ one ++ a → three ≡ two ++ b → four ≡ three ++ c → five ≡ four ++ d
     → five ++ end_object ∷ [] ≡ old ++ begin_object ∷ ((((a ++ b) ++ c) ++ d) ++ end_object ∷ [])
@@ -97,10 +100,65 @@ stage_pushed (Ok done) stage old one two three four five six first second third 
     last ∙ parts_in_a_row old _ _ _ _ one two three four five first second third fourth fifth ∙ ap (λ l. old ++ l) (sym (rows_of_stage stage))
 stage_pushed (Err fault) stage old one two three four five six first second third fourth fifth last = tt
 
+-- ---- labels
+
+labels_listed : (name : List ℕ) (labels : List PlainLabel) → (length labels == 0) ≡ false
+    → row_tokens (name, labels_json labels) ≡ key name ∷ begin_object ∷ (rows_tokens (label_rows labels) ++ end_object ∷ [])
+labels_listed name [] h = absurd cc
+labels_listed name (label ∷ labels) h = ap (λ l. key name ∷ begin_object ∷ l) (rows_listed (label_rows (label ∷ labels)))
+
+-- an object that was added with its name
+object_in_a_row : (old members one two three whole : List Token) (name : List ℕ) → one ≡ old ++ key name ∷ [] → two ≡ one ++ begin_object ∷ [] → three ≡ two ++ members
+    → key name ∷ begin_object ∷ (members ++ end_object ∷ []) ≡ whole → three ++ end_object ∷ [] ≡ old ++ whole
+object_in_a_row old members one two three whole name first second third is = rw (third, second, first, ← is) (simp append_assoc)
+
+pub group_pushed : {E : Type 0} (r : Result (Unit {0}) E) (name : List ℕ) (labels : List PlainLabel) (old one two three four : List Token) → (length labels == 0) ≡ false
+    → one ≡ old ++ key name ∷ [] → two ≡ one ++ begin_object ∷ [] → three ≡ two ++ rows_tokens (label_rows labels) → OnOk r (four ≡ three ++ end_object ∷ [])
+    → OnOk r (four ≡ old ++ row_tokens (group_row (name, labels)))
+group_pushed (Ok done) name labels old one two three four some first second third last =
+    last ∙ object_in_a_row old (rows_tokens (label_rows labels)) one two three _ name first second third (sym (labels_listed name labels some))
+group_pushed (Err fault) name labels old one two three four some first second third last = tt
+
+rows_of_labelled : (stage : Spec) (labels : List PlainLabel) → json_tokens (labelled_json stage labels)
+    ≡ begin_object ∷ (((((rows_tokens (op_rows stage.name stage.op) ++ rows_tokens (feed_rows stage.sources stage.inner)) ++ rows_tokens (time_rows stage.created stage.queued stage.runs))
+    ++ rows_tokens (outcome_rows stage.action stage.pin_result stage.pin_moment stage.ends)) ++ rows_tokens (label_rows labels)) ++ end_object ∷ [])
+unfolding labelled_json
+rows_of_labelled stage labels =
+    ap (λ l. begin_object ∷ l)
+    (rows_listed (stage_rows stage ++ label_rows labels)
+    ∙ ap (λ l. l ++ end_object ∷ []) (rows_append (stage_rows stage) (label_rows labels) ∙ ap (λ l. l ++ rows_tokens (label_rows labels)) (rows_of_parts stage)))
+
+labelled_in_a_row : (old a b c d e one two three four five six : List Token) → one ≡ old ++ begin_object ∷ [] → two ≡ one ++ a → three ≡ two ++ b → four ≡ three ++ c → five ≡ four ++ d → six ≡ five ++ e
+    → six ++ end_object ∷ [] ≡ old ++ begin_object ∷ (((((a ++ b) ++ c) ++ d) ++ e) ++ end_object ∷ [])
+labelled_in_a_row old a b c d e one two three four five six first second third fourth fifth sixth = rw (sixth, fifth, fourth, third, second, first) (simp append_assoc)
+
+pub labelled_pushed : {E : Type 0} (r : Result (Unit {0}) E) (stage : Spec) (labels : List PlainLabel) (old one two three four five six seven : List Token)
+    → one ≡ old ++ begin_object ∷ [] → two ≡ one ++ rows_tokens (op_rows stage.name stage.op) → three ≡ two ++ rows_tokens (feed_rows stage.sources stage.inner)
+    → four ≡ three ++ rows_tokens (time_rows stage.created stage.queued stage.runs) → five ≡ four ++ rows_tokens (outcome_rows stage.action stage.pin_result stage.pin_moment stage.ends)
+    → six ≡ five ++ rows_tokens (label_rows labels) → OnOk r (seven ≡ six ++ end_object ∷ []) → OnOk r (seven ≡ old ++ json_tokens (labelled_json stage labels))
+labelled_pushed (Ok done) stage labels old one two three four five six seven first second third fourth fifth sixth last =
+    last ∙ labelled_in_a_row old _ _ _ _ _ one two three four five six first second third fourth fifth sixth ∙ ap (λ l. old ++ l) (sym (rows_of_labelled stage labels))
+labelled_pushed (Err fault) stage labels old one two three four five six seven first second third fourth fifth sixth last = tt
+
 -- ---- a recording, and the object that has it as a member
 
 two_told : row_tokens (row (codes "form") (count 2)) ≡ key (codes "form") ∷ number (codes "2") ∷ []
 two_told = ap (λ digits. key (codes "form") ∷ number digits ∷ []) (decimal_digit 2 (omega arith))
+
+head_in_a_row : (old form labels group one two three four five six : List Token) → one ≡ old ++ begin_object ∷ [] → two ≡ one ++ form → three ≡ two ++ labels → four ≡ three ++ group
+    → five ≡ four ++ key (codes "stages") ∷ [] → six ≡ five ++ begin_array ∷ [] → six ≡ old ++ begin_object ∷ (form ++ ((labels ++ (group ++ [])) ++ key (codes "stages") ∷ begin_array ∷ []))
+head_in_a_row old form labels group one two three four five six first second third fourth fifth sixth = rw (sixth, fifth, fourth, third, second, first) (simp (append_assoc, append-nil))
+
+-- what comes before the stages of a recording that names no mode
+pub head_pushed : (labels : List PlainLabel) (group : PlainGroup) (none one two three four five six : List Token) → none ≡ [] → one ≡ none ++ begin_object ∷ []
+    → two ≡ one ++ row_tokens (row (codes "form") (count 2)) → three ≡ two ++ rows_tokens (label_rows labels) → four ≡ three ++ row_tokens (group_row group)
+    → five ≡ four ++ key (codes "stages") ∷ [] → six ≡ five ++ begin_array ∷ [] → six ≡ head_tokens None (labels, group)
+head_pushed labels group none one two three four five six empty first form listed grouped named begun =
+    let rest = (rows_tokens (label_rows labels) ++ (row_tokens (group_row group) ++ [])) ++ key (codes "stages") ∷ begin_array ∷ [] in
+    head_in_a_row none _ (rows_tokens (label_rows labels)) (row_tokens (group_row group)) one two three four five six first form listed grouped named begun
+    ∙ ap (λ (l : List Token). l ++ begin_object ∷ (row_tokens (row (codes "form") (count 2)) ++ rest)) empty
+    ∙ ap (λ (l : List Token). begin_object ∷ (l ++ rest)) two_told
+    ∙ ap (λ (l : List Token). begin_object ∷ key (codes "form") ∷ number (codes "2") ∷ (l ++ key (codes "stages") ∷ begin_array ∷ [])) (sym (rows_append (label_rows labels) (group_row group ∷ [])))
 
 recording_shape : (mode : Mode) (stages : List Spec) → json_tokens (recording_json mode stages)
     ≡ begin_object ∷ key (codes "form") ∷ number (codes "2") ∷ key (codes "wrap") ∷ string (mode_text mode) ∷ key (codes "stages") ∷ begin_array ∷ ((list_tokens stage_json stages ++ end_array ∷ []) ++ end_object ∷ [])

@@ -12,7 +12,7 @@ use crate::expression::{push_expression, push_value};
 use crate::line::Line;
 use act_expr::{ExName, Expr, Outcome, Value};
 use json::Token;
-use stage_graph::{Act, End, Graph, Representation};
+use stage_graph::{Act, End, Graph, Name, NameList, Representation};
 use std::alloc::AllocError;
 
 /// Adds a member that is a text.
@@ -100,6 +100,33 @@ pub(crate) fn push_some_names<R: Representation>(
     line.key(name)?;
     line.token(Token::BeginArray)?;
     push_names(line, graph, places)?;
+    line.token(Token::EndArray)
+}
+
+/// Adds names.
+fn push_each_name(line: &mut Line, names: &[Name]) -> Result<(), AllocError>
+    ensures { OnOk result (line.new ≡ line.old ++ list_tokens string names.now) }
+{
+    for name in names {
+        line.text(name.as_str())?;
+    }
+    Ok(())
+}
+
+/// Adds a member that has names, where there are some.
+pub(crate) fn push_named_list(
+    line: &mut Line,
+    name: &str,
+    names: &NameList,
+) -> Result<(), AllocError>
+    ensures { OnOk result (line.new ≡ line.old ++ row_tokens (name.now, some_of string names.now)) }
+{
+    if names.as_slice().is_empty() {
+        return Ok(());
+    }
+    line.key(name)?;
+    line.token(Token::BeginArray)?;
+    push_each_name(line, names.as_slice())?;
     line.token(Token::EndArray)
 }
 

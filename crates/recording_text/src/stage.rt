@@ -10,8 +10,9 @@ use crate::members::{
     push_action, push_ends, push_exception, push_named_value, push_pin_moment, push_pin_result,
     push_some_count, push_some_names, push_text,
 };
+use act_expr::{Expr, Outcome};
 use json::Token;
-use stage_graph::{Graph, Op, Representation, Stage};
+use stage_graph::{End, Graph, Op, Representation, Stage};
 use std::alloc::{AllocError, Global};
 
 /// Adds the value of a completed stage.
@@ -35,7 +36,7 @@ fn push_throws_of(line: &mut Line, op: Op) -> Result<(), AllocError>
 }
 
 /// Adds the name and the operation of a stage.
-fn push_op(line: &mut Line, name: &str, op: Op) -> Result<(), AllocError>
+pub(crate) fn push_op(line: &mut Line, name: &str, op: Op) -> Result<(), AllocError>
     ensures { OnOk result (line.new ≡ line.old ++ rows_tokens (op_rows name.now op)) }
 {
     push_text(line, "name", name)?;
@@ -58,7 +59,12 @@ fn push_feeds<R: Representation>(
 }
 
 /// Adds the times of a stage.
-fn push_times(line: &mut Line, created: u64, queued: u64, runs: u64) -> Result<(), AllocError>
+pub(crate) fn push_times(
+    line: &mut Line,
+    created: u64,
+    queued: u64,
+    runs: u64,
+) -> Result<(), AllocError>
     ensures { OnOk result (line.new ≡ line.old ++ rows_tokens (time_rows created queued runs)) }
 {
     push_some_count(line, "created", created)?;
@@ -67,13 +73,19 @@ fn push_times(line: &mut Line, created: u64, queued: u64, runs: u64) -> Result<(
 }
 
 /// Adds the action of a stage, its pins and its ends.
-fn push_outcomes(line: &mut Line, stage: &Stage) -> Result<(), AllocError>
-    ensures { OnOk result (line.new ≡ line.old ++ rows_tokens (outcome_rows stage.now.action stage.now.pin_result stage.now.pin_moment stage.now.ends)) }
+pub(crate) fn push_outcome_members(
+    line: &mut Line,
+    action: &Option<Expr>,
+    pin_result: Option<Outcome>,
+    pin_moment: Option<u64>,
+    ends: &[End],
+) -> Result<(), AllocError>
+    ensures { OnOk result (line.new ≡ line.old ++ rows_tokens (outcome_rows action.now pin_result pin_moment ends.now)) }
 {
-    push_action(line, &stage.action)?;
-    push_pin_result(line, stage.pin_result)?;
-    push_pin_moment(line, stage.pin_moment)?;
-    push_ends(line, stage.ends.as_slice())
+    push_action(line, action)?;
+    push_pin_result(line, pin_result)?;
+    push_pin_moment(line, pin_moment)?;
+    push_ends(line, ends)
 }
 
 /// Adds a stage.
@@ -93,7 +105,13 @@ pub(crate) fn push_stage<R: Representation>(
         stage.inner.as_slice(),
     )?;
     push_times(line, stage.created, stage.queued, stage.runs)?;
-    push_outcomes(line, stage)?;
+    push_outcome_members(
+        line,
+        &stage.action,
+        stage.pin_result,
+        stage.pin_moment,
+        stage.ends.as_slice(),
+    )?;
     line.token(Token::EndObject)
 }
 

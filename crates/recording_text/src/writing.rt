@@ -25,7 +25,7 @@ fn head_text(mode: Mode) -> &'static str
 }
 
 /// What ends the line before a stage.
-fn line_break(later: bool) -> &'static str
+pub(crate) fn line_break(later: bool) -> &'static str
     ensures { result.now ≡ line_break later }
 {
     if later { ",\n" } else { "\n" }

@@ -1,2 +1,5 @@
+pub mod Clocks
+pub mod Gaining
 pub mod Made
-pub mod Limits
+pub mod Names
+pub mod Outcomes

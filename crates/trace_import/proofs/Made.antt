@@ -1,67 +1,56 @@
--- What bytes make, put together from what each call says.
-use Rattle.std.proofs.Common.{◌≡◌, ◌∙◌, ◌≤◌, ℕ, List, length, Option, Result, Ok, Err, String, ap, subst, sym}
+-- What a trace makes, put together from what each call says.
+use Rattle.std.proofs.Common.{◌≡◌, ◌≤◌, ℕ, List, length, Ok, Err, Vec, ap, subst, sym}
 use Rattle.std.specs.declared.alloc.Global.{Global}
-use Rattle.trace_family.specs.Family.{PlainFamily, family_of, plain}
-use Rattle.trace_family.specs.declared.unit.Unit.{Unit as TickUnit}
-use Rattle.trace_names.specs.Names.{names}
-use Rattle.trace_spans.specs.Spans.{spans_of}
+use Rattle.trace_relations.specs.Ancestry.{most_spans}
+use Rattle.trace_relations.specs.Relations.{AreRelations, AreRelationsOf, plain}
+use Rattle.trace_relations.specs.declared.relations.Relations.{Relations}
 use Rattle.trace_spans.specs.declared.span.Span.{Span}
 use Rattle.trace_spans.specs.declared.trace.Trace.{Trace}
-use Rattle.trace_stages.specs.ByStart.{AreByStart}
-use Rattle.trace_stages.specs.Naming.{plain_stages}
+use Rattle.trace_stages.specs.Names.{names}
 use Rattle.trace_stages.specs.StagesOf.{AreStages}
-use Rattle.trace_stages.specs.declared.stage.ImportedStage.{ImportedStage}
 use Rattle.trace_stages.specs.declared.stage.Stages.{Stages}
-use Rattle.trace_text.specs.Texts.{recording_text}
-use Rattle.trace_text.specs.Written.{IsFault, limited, longest}
-use Rattle.trace_text.specs.declared.fault.TextFault.{TextFault}
-use Rattle.trace_text.specs.declared.fault.TextFault.TheVariants as told
-use Rattle.trace_import.specs.Faults.{of_text}
-use Rattle.trace_import.specs.Imported.{IsMade, IsMadeFrom, IsMadeOf, IsReading, IsTextWith}
+use Rattle.trace_import.specs.Imported.{IsMadeFrom, IsNotMade, IsReadingOf, IsRecordingOf, IsTextOf, IsTextOfReading, text_of}
+use Rattle.trace_import.specs.Texts.{TellsTexts}
 use Rattle.trace_import.specs.declared.fault.ImportFault.{ImportFault}
 use Rattle.trace_import.specs.declared.fault.ImportFault.TheVariants.{Refused, Unticked, TooManyStages, TooLong, Write, Memory}
+use Rattle.trace_import.specs.declared.options.Mapping.{Mapping}
 use Rattle.trace_import.specs.declared.reading.Reading.{Reading}
-use Rattle.trace_import.proofs.Limits.{is_too_long, within}
 
-pub made_from : (bytes : List ℕ) (wanted : Option (List ℕ)) (unit : TickUnit) (trace : Trace) (spans : List Span) (family : PlainFamily) (stages : Stages)
-    → spans ≡ trace.spans → spans_of bytes wanted ≡ Ok trace → family_of unit spans ≡ Ok family → AreStages spans family stages
-    → IsMadeFrom bytes wanted unit trace family stages
-made_from bytes wanted unit trace spans family stages are tells stand stages_are = record {
-  tells = tells;
-  stand = ap (family_of unit) (sym are) ∙ stand;
-  stages_are = subst (λ those. AreStages those family stages) are stages_are;
+pub made_from : (mapping : Mapping) (trace : Trace) (spans : List Span) (relations : Relations) (stages : Stages)
+    → spans ≡ trace.spans → TellsTexts trace → AreRelations mapping.unit mapping.as_told spans (Ok relations) → AreStages spans (plain relations) mapping.as_told stages
+    → IsMadeFrom mapping trace (plain relations) stages
+made_from mapping trace spans relations stages are texts stand stages_are = record {
+  few = subst (λ (those : List Span). length those ≤ most_spans) are stand.0;
+  texts = texts;
+  stand = subst (λ (those : List Span). AreRelationsOf mapping.unit mapping.as_told those (plain relations)) are stand.1;
+  stages_are = subst (λ (those : List Span). AreStages those (plain relations) mapping.as_told stages) are stages_are;
 }
 
-pub text_with : (unit : TickUnit) (trace : Trace) (family : PlainFamily) (stages : Stages) (places : List ℕ) → AreByStart family.intervals places
-    → (id : List ℕ) (spans : List Span) (order : List ℕ) (all : List (List ℕ)) (those : List ImportedStage)
-    → id ≡ trace.id → spans ≡ trace.spans → order ≡ places → all ≡ names spans order → those ≡ stages.0.items
-    → IsTextWith unit trace family stages (recording_text id unit family.origin spans all (plain_stages those))
-text_with unit trace family stages places by id spans order all those id_is spans_are order_is named stages_are = (
-  places,
-  by,
-  ap (λ x. recording_text x unit family.origin spans all (plain_stages those)) id_is
-      ∙ ap (λ x. recording_text trace.id unit family.origin x all (plain_stages those)) spans_are
-      ∙ ap (λ x. recording_text trace.id unit family.origin trace.spans x (plain_stages those)) (named ∙ ap (λ x. names x order) spans_are ∙ ap (names trace.spans) order_is)
-      ∙ ap (λ x. recording_text trace.id unit family.origin trace.spans (names trace.spans places) (plain_stages x)) stages_are,
-)
+-- why nothing is made of a trace, as what is made of it says
+pub not_read : (mapping : Mapping) (trace : Trace) (fault : ImportFault) → IsReadingOf mapping trace (Err fault) → IsNotMade mapping trace fault
+not_read mapping trace (Refused fault) why = why
+not_read mapping trace (Unticked fault) why = why
+not_read mapping trace TooManyStages why = why
+not_read mapping trace TooLong why = absurd why
+not_read mapping trace Write why = why
+not_read mapping trace Memory why = why
 
-pub made_ok : (unit : TickUnit) (reading : Reading) (text told : List ℕ) → IsTextWith unit reading.trace (plain reading.family) reading.stages text → limited text ≡ Ok told
-    → IsTextWith unit reading.trace (plain reading.family) reading.stages told × (length told ≤ longest)
-made_ok unit reading text told with is =
-    let fits = within text told is in
-    (subst (IsTextWith unit reading.trace (plain reading.family) reading.stages) (sym fits.0) with, fits.1)
+text_made : (mapping : Mapping) (trace : Trace) (reading : Reading) → IsReadingOf mapping trace (Ok reading) → IsTextOf mapping trace (text_of mapping reading.trace (plain reading.relations) reading.stages)
+text_made mapping trace reading from = (plain reading.relations, reading.stages, from.1, from.2, ap (λ (it : Trace). text_of mapping it (plain reading.relations) reading.stages) from.0)
 
-pub made_err : (unit : TickUnit) (reading : Reading) (text : List ℕ) (fault : TextFault) → IsTextWith unit reading.trace (plain reading.family) reading.stages text → IsFault fault (limited text)
-    → IsMadeOf unit reading (Err (of_text fault))
-made_err unit reading text told.TooLong with is = (text, with, is_too_long text is)
-made_err unit reading text told.Memory with is = is
+-- the text of what was made is that of the trace
+pub recorded : (mapping : Mapping) (trace : Trace) (reading : Reading) (named : List (List ℕ)) (text : Vec ℕ Global)
+    → IsReadingOf mapping trace (Ok reading) → named ≡ names reading.trace.spans (plain reading.relations).order → IsTextOfReading mapping reading named (Ok text)
+    → IsRecordingOf mapping trace text.items
+recorded mapping trace reading named text from so told = (subst (IsTextOf mapping trace) (sym (told.0 (from.3, so))) (text_made mapping trace reading from), told.1)
 
-pub made_of : (bytes : List ℕ) (wanted : Option (List ℕ)) (unit : TickUnit) (reading : Reading) (result : Result (String Global) ImportFault)
-    → IsReading bytes wanted unit (Ok reading) → IsMadeOf unit reading result → IsMade bytes wanted unit result
-made_of bytes wanted unit reading (Ok text) from made = ((reading.trace, plain reading.family, reading.stages, from.0, from.1, made.0), made.1)
-made_of bytes wanted unit reading (Err (Refused fault)) from made = absurd made
-made_of bytes wanted unit reading (Err (Unticked fault)) from made = absurd made
-made_of bytes wanted unit reading (Err TooManyStages) from made = absurd made
-made_of bytes wanted unit reading (Err TooLong) from made = (made.0, (reading.trace, plain reading.family, reading.stages, from.0, from.1, made.1), made.2)
-made_of bytes wanted unit reading (Err Write) from made = absurd made
-made_of bytes wanted unit reading (Err Memory) from made = made
+-- why what was made has no text, as the trace has none
+pub not_told : (mapping : Mapping) (trace : Trace) (reading : Reading) (named : List (List ℕ)) (fault : ImportFault)
+    → IsReadingOf mapping trace (Ok reading) → named ≡ names reading.trace.spans (plain reading.relations).order → IsTextOfReading mapping reading named (Err fault)
+    → IsNotMade mapping trace fault
+not_told mapping trace reading named (Refused fault) from so why = absurd why
+not_told mapping trace reading named (Unticked fault) from so why = absurd why
+not_told mapping trace reading named TooManyStages from so why = absurd why
+not_told mapping trace reading named TooLong from so why = (text_of mapping reading.trace (plain reading.relations) reading.stages, text_made mapping trace reading from, why (from.3, so))
+not_told mapping trace reading named Write from so why = absurd why
+not_told mapping trace reading named Memory from so why = tt

@@ -1,98 +1,129 @@
 -- What an import writes: the recording that a trace makes.
-use Rattle.std.specs.Prelude.{◌≡◌, ℕ, ◌<◌, ◌≤◌, List, length, Option, Result, Ok, Err, String, string_bytes}
+use Rattle.std.specs.Prelude.{◌≡◌, ℕ, ◌<◌, ◌≤◌, List, [], ◌∷◌, codes, length, Option, Result, Ok, Err, Vec}
+use Rattle.std.specs.Fmt.{signed_decimal}
 use Rattle.std.specs.Io.KnownBytes.{Appends, Keeps}
 use Rattle.std.specs.declared.alloc.Global.{Global}
+use Rattle.recording_text.specs.Labels.{PlainHead, labelled_recording}
 use Rattle.text_io.specs.Sink.{AppendsPrefix}
-use Rattle.trace_family.specs.Family.{PlainFamily, family_of, plain}
-use Rattle.trace_family.specs.Reads.{IsFault as IsFamilyFault}
-use Rattle.trace_family.specs.declared.fault.FamilyFault.{FamilyFault}
-use Rattle.trace_family.specs.declared.unit.Unit.{Unit as TickUnit}
-use Rattle.trace_names.specs.Names.{names}
+use Rattle.trace_relations.specs.Ancestry.{most_spans}
+use Rattle.trace_relations.specs.Reads.{IsFault as IsRelationsFault}
+use Rattle.trace_relations.specs.Relations.{AreRelationsOf, PlainRelations, fault_in, moved_of, plain}
+use Rattle.trace_relations.specs.Units.{unit_text}
+use Rattle.trace_relations.specs.declared.fault.RelationsFault.{RelationsFault}
 use Rattle.trace_spans.specs.Reads.{IsFault}
 use Rattle.trace_spans.specs.Spans.{spans_of}
-use Rattle.trace_spans.specs.declared.span.Span.{Span}
 use Rattle.trace_spans.specs.declared.trace.Trace.{Trace}
-use Rattle.trace_stages.specs.ByStart.{AreByStart}
+use Rattle.trace_stages.specs.Names.{names}
 use Rattle.trace_stages.specs.Naming.{plain_stages}
 use Rattle.trace_stages.specs.StagesOf.{AreStages}
 use Rattle.trace_stages.specs.declared.stage.Stages.{Stages}
-use Rattle.trace_text.specs.Texts.{recording_text}
-use Rattle.trace_text.specs.Written.{longest}
+use Rattle.trace_import.specs.ClockLabels.{clock_labels}
+use Rattle.trace_import.specs.Limits.{longest, most_stages}
+use Rattle.trace_import.specs.Specs.{labelled_stages}
+use Rattle.trace_import.specs.Texts.{TellsTexts}
 use Rattle.trace_import.specs.declared.fault.ImportFault.{ImportFault}
 use Rattle.trace_import.specs.declared.fault.ImportFault.TheVariants.{Refused, Unticked, TooManyStages, TooLong, Write, Memory}
+use Rattle.trace_import.specs.declared.note.Note.{Note}
+use Rattle.trace_import.specs.declared.options.Mapping.{Mapping}
+use Rattle.trace_import.specs.declared.recorded.Recorded.{Recorded}
 use Rattle.trace_import.specs.declared.reading.Reading.{Reading}
-
-abbrev pub most_stages : ℕ
-most_stages = 65_536
 
 abbrev pub count_of : Stages → ℕ
 count_of stages = length stages.0.items
 
--- the bytes tell this trace, its spans stand so to each other, and these are its stages
-pub record IsMadeFrom (bytes : List ℕ) (wanted : Option (List ℕ)) (unit : TickUnit) (trace : Trace) (family : PlainFamily) (stages : Stages) : Type 0 where
-  pub tells : spans_of bytes wanted ≡ Ok trace
-  pub stand : family_of unit trace.spans ≡ Ok family
-  pub stages_are : AreStages trace.spans family stages
+-- a trace whose spans are not too many; they stand so to each other, and these are its stages
+pub record IsMadeFrom (mapping : Mapping) (trace : Trace) (relations : PlainRelations) (stages : Stages) : Type 0 where
+  pub few : length trace.spans ≤ most_spans
+  pub texts : TellsTexts trace
+  pub stand : AreRelationsOf mapping.unit mapping.as_told trace.spans relations
+  pub stages_are : AreStages trace.spans relations mapping.as_told stages
 
 -- the trace has no ticks, for this reason
-abbrev pub IsUnticked : List ℕ → Option (List ℕ) → TickUnit → FamilyFault → Type 0
-IsUnticked bytes wanted unit fault = (trace : Trace) × (spans_of bytes wanted ≡ Ok trace) × IsFamilyFault fault (family_of unit trace.spans)
+abbrev pub IsUnticked : Mapping → Trace → RelationsFault → Type 0
+IsUnticked mapping trace fault = IsRelationsFault fault (fault_in mapping.unit mapping.as_told trace.spans)
 
 -- there are too many stages
-abbrev pub HasTooMany : List ℕ → Option (List ℕ) → TickUnit → Type 0
-HasTooMany bytes wanted unit =
-    (trace : Trace) × (family : PlainFamily) × (stages : Stages) × IsMadeFrom bytes wanted unit trace family stages × (most_stages < count_of stages)
+abbrev pub HasTooMany : Mapping → Trace → Type 0
+HasTooMany mapping trace = (relations : PlainRelations) × (stages : Stages) × IsMadeFrom mapping trace relations stages × (most_stages < count_of stages)
 
--- the text of a recording: the numbers in names go by the starts of spans
-abbrev pub IsTextWith : TickUnit → Trace → PlainFamily → Stages → List ℕ → Type 0
-IsTextWith unit trace family stages text =
-    (places : List ℕ) × AreByStart family.intervals places × (text ≡ recording_text trace.id unit family.origin trace.spans (names trace.spans places) (plain_stages stages.0.items))
+-- ---- the text
 
--- the text of the recording that bytes make, which may be too long
-abbrev pub IsTextOf : List ℕ → Option (List ℕ) → TickUnit → List ℕ → Type 0
-IsTextOf bytes wanted unit text =
-    (trace : Trace) × (family : PlainFamily) × (stages : Stages) × IsMadeFrom bytes wanted unit trace family stages × (count_of stages ≤ most_stages) × IsTextWith unit trace family stages text
+-- the trace, the unit of ticks, the earliest time, and the clocks that are moved
+abbrev pub head_of : Mapping → Trace → PlainRelations → PlainHead
+head_of mapping trace relations =
+    ((codes "trace", trace.id) ∷ (codes "unit", unit_text mapping.unit) ∷ (codes "start", signed_decimal relations.origin) ∷ [], (codes "clocks", clock_labels mapping.as_told trace.spans))
 
--- what is read, or why nothing is
-abbrev pub IsReading : List ℕ → Option (List ℕ) → TickUnit → Result Reading ImportFault → Type 0
-IsReading bytes wanted unit (Ok reading) = IsMadeFrom bytes wanted unit reading.trace (plain reading.family) reading.stages × (count_of reading.stages ≤ most_stages)
-IsReading bytes wanted unit (Err (Refused fault)) = IsFault fault (spans_of bytes wanted)
-IsReading bytes wanted unit (Err (Unticked fault)) = IsUnticked bytes wanted unit fault
-IsReading bytes wanted unit (Err TooManyStages) = HasTooMany bytes wanted unit
-IsReading bytes wanted unit (Err TooLong) = ⊥
-IsReading bytes wanted unit (Err Write) = ⊥
-IsReading bytes wanted unit (Err Memory) = Unit {0}
+-- the text of the recording of stages
+abbrev pub text_of : Mapping → Trace → PlainRelations → Stages → List ℕ
+text_of mapping trace relations stages =
+    labelled_recording (head_of mapping trace relations) (labelled_stages trace.spans (names trace.spans relations.order) (plain_stages stages.0.items))
 
--- its text, or why there is none
-abbrev pub IsMadeOf : TickUnit → Reading → Result (String Global) ImportFault → Type 0
-IsMadeOf unit reading (Ok text) = IsTextWith unit reading.trace (plain reading.family) reading.stages (string_bytes text) × (length (string_bytes text) ≤ longest)
-IsMadeOf unit reading (Err TooLong) = (text : List ℕ) × IsTextWith unit reading.trace (plain reading.family) reading.stages text × (longest < length text)
-IsMadeOf unit reading (Err Memory) = Unit {0}
-IsMadeOf unit reading (Err other) = ⊥
+-- the text of the recording that a trace makes, which may be too long
+abbrev pub IsTextOf : Mapping → Trace → List ℕ → Type 0
+IsTextOf mapping trace text = (relations : PlainRelations) × (stages : Stages) × IsMadeFrom mapping trace relations stages × (count_of stages ≤ most_stages) × (text ≡ text_of mapping trace relations stages)
 
--- the text that is to be written, or why there is none
-abbrev pub IsMade : List ℕ → Option (List ℕ) → TickUnit → Result (String Global) ImportFault → Type 0
-IsMade bytes wanted unit (Ok text) = IsTextOf bytes wanted unit (string_bytes text) × (length (string_bytes text) ≤ longest)
-IsMade bytes wanted unit (Err (Refused fault)) = IsFault fault (spans_of bytes wanted)
-IsMade bytes wanted unit (Err (Unticked fault)) = IsUnticked bytes wanted unit fault
-IsMade bytes wanted unit (Err TooManyStages) = HasTooMany bytes wanted unit
-IsMade bytes wanted unit (Err TooLong) = (text : List ℕ) × IsTextOf bytes wanted unit text × (longest < length text)
-IsMade bytes wanted unit (Err Write) = ⊥
-IsMade bytes wanted unit (Err Memory) = Unit {0}
+-- the text of the recording that a trace makes
+abbrev pub IsRecordingOf : Mapping → Trace → List ℕ → Type 0
+IsRecordingOf mapping trace text = IsTextOf mapping trace text × (length text ≤ longest)
 
--- what was written, from what the sink held and holds, by how the call ended
-abbrev pub IsImported : List ℕ → Option (List ℕ) → TickUnit → Option (List ℕ) → Option (List ℕ) → Result (Unit {0}) ImportFault → Type 0
+-- the recording that a trace makes is too long
+abbrev pub IsTooLong : Mapping → Trace → Type 0
+IsTooLong mapping trace = (text : List ℕ) × IsTextOf mapping trace text × (longest < length text)
+
+-- ---- why a trace makes no recording
+
+abbrev pub IsNotMade : Mapping → Trace → ImportFault → Type 0
+IsNotMade mapping trace (Refused fault) = ⊥
+-- it has no ticks
+IsNotMade mapping trace (Unticked fault) = IsUnticked mapping trace fault
+IsNotMade mapping trace TooManyStages = HasTooMany mapping trace
+IsNotMade mapping trace TooLong = IsTooLong mapping trace
+IsNotMade mapping trace Write = ⊥
+IsNotMade mapping trace Memory = Unit {0}
+
+-- ---- what the calls inside answer
+
+-- the clocks of what was made of a trace are moved as they are said to be
+abbrev pub HasMoved : Mapping → Reading → Type 0
+HasMoved mapping reading = reading.relations.moved.items ≡ moved_of mapping.as_told reading.trace.spans
+
+-- what is made of a trace
+abbrev pub IsReadingOf : Mapping → Trace → Result Reading ImportFault → Type 0
+IsReadingOf mapping trace (Ok reading) = (reading.trace ≡ trace) × IsMadeFrom mapping trace (plain reading.relations) reading.stages × (count_of reading.stages ≤ most_stages) × HasMoved mapping reading
+IsReadingOf mapping trace (Err TooLong) = ⊥
+IsReadingOf mapping trace (Err fault) = IsNotMade mapping trace fault
+
+-- the spans of what was made have these names
+abbrev pub HasNames : Mapping → Reading → List (List ℕ) → Type 0
+HasNames mapping reading named = HasMoved mapping reading × (named ≡ names reading.trace.spans (plain reading.relations).order)
+
+-- the text of what was made, whose spans have these names, or why there is none
+abbrev pub IsTextOfReading : Mapping → Reading → List (List ℕ) → Result (Vec ℕ Global) ImportFault → Type 0
+IsTextOfReading mapping reading named (Ok text) =
+    (HasNames mapping reading named → text.items ≡ text_of mapping reading.trace (plain reading.relations) reading.stages) × (length text.items ≤ longest)
+IsTextOfReading mapping reading named (Err TooLong) =
+    HasNames mapping reading named → longest < length (text_of mapping reading.trace (plain reading.relations) reading.stages)
+IsTextOfReading mapping reading named (Err Memory) = Unit {0}
+IsTextOfReading mapping reading named (Err other) = ⊥
+
+-- the recording of a trace, or why there is none
+abbrev pub IsRecordedFrom : Mapping → Trace → Result Recorded ImportFault → Type 0
+IsRecordedFrom mapping trace (Ok recorded) = IsRecordingOf mapping trace recorded.text.items
+IsRecordedFrom mapping trace (Err fault) = IsNotMade mapping trace fault
+
+-- ---- imports
+
+-- what was written of the trace that bytes tell, from what the sink held and holds, by how the call ended
+abbrev pub IsWrittenOf : Mapping → Trace → Option (List ℕ) → Option (List ℕ) → Result (Vec Note Global) ImportFault → Type 0
 -- the whole recording
-IsImported bytes wanted unit old new (Ok done) = (text : List ℕ) × IsTextOf bytes wanted unit text × (length text ≤ longest) × Appends old new text
--- nothing, as the file is refused
-IsImported bytes wanted unit old new (Err (Refused fault)) = IsFault fault (spans_of bytes wanted) × Keeps old new
--- nothing, as the trace has no ticks
-IsImported bytes wanted unit old new (Err (Unticked fault)) = IsUnticked bytes wanted unit fault × Keeps old new
--- nothing, as there are too many stages
-IsImported bytes wanted unit old new (Err TooManyStages) = HasTooMany bytes wanted unit × Keeps old new
--- nothing, as the recording is too long
-IsImported bytes wanted unit old new (Err TooLong) = ((text : List ℕ) × IsTextOf bytes wanted unit text × (longest < length text)) × Keeps old new
+IsWrittenOf mapping trace old new (Ok notes) = (text : List ℕ) × IsRecordingOf mapping trace text × Appends old new text
 -- a part of the recording, as a write failed
-IsImported bytes wanted unit old new (Err Write) = (text : List ℕ) × IsTextOf bytes wanted unit text × (length text ≤ longest) × AppendsPrefix old new text
--- nothing, as memory was out
-IsImported bytes wanted unit old new (Err Memory) = Keeps old new
+IsWrittenOf mapping trace old new (Err Write) = (text : List ℕ) × IsRecordingOf mapping trace text × AppendsPrefix old new text
+-- nothing, as none is made
+IsWrittenOf mapping trace old new (Err fault) = IsNotMade mapping trace fault × Keeps old new
+
+-- what was written of the trace that is asked for; nothing, if the file is refused or memory is out
+abbrev pub IsImported : List ℕ → Option (List ℕ) → Mapping → Option (List ℕ) → Option (List ℕ) → Result (Vec Note Global) ImportFault → Type 0
+IsImported bytes wanted mapping old new (Err (Refused fault)) = IsFault fault (spans_of bytes wanted) × Keeps old new
+IsImported bytes wanted mapping old new (Err Memory) = Keeps old new
+IsImported bytes wanted mapping old new result = (trace : Trace) × (spans_of bytes wanted ≡ Ok trace) × IsWrittenOf mapping trace old new result

@@ -1,2 +1,11 @@
+pub mod Actions
+pub mod ClockLabels
+pub mod Each
 pub mod Faults
+pub mod Gains
 pub mod Imported
+pub mod KeptActions
+pub mod Limits
+pub mod Specs
+pub mod StageNames
+pub mod Texts

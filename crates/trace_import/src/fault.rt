@@ -1,14 +1,13 @@
 //! Why a trace is not imported.
 ghost use Rattle.std.specs.Prelude.{◌≡◌};
-ghost use Rattle.trace_import.specs.Faults.{import_number};
+ghost use Rattle.trace_import.specs.Faults.{ends_all, import_number};
 
 use std::alloc::AllocError;
 use std::fmt;
 use text_io::WriteFault;
 use thiserror::Error;
-use trace_family::FamilyFault;
+use trace_relations::RelationsFault;
 use trace_spans::Fault;
-use trace_text::TextFault;
 
 /// Why a trace is not imported.
 #[derive(Drop, Debug, Error)]
@@ -16,7 +15,7 @@ pub enum ImportFault {
     /// The file is refused; nothing was written.
     Refused(Fault),
     /// The trace has no ticks; nothing was written.
-    Unticked(FamilyFault),
+    Unticked(RelationsFault),
     /// The recording would have more than 65,536 stages; nothing was written.
     TooManyStages,
     /// The recording would have more than 67,108,864 bytes; nothing was written.
@@ -40,6 +39,21 @@ impl ImportFault {
             ImportFault::Write => 40,
             ImportFault::Memory => 90,
         }
+    }
+}
+
+impl ImportFault {
+    /// Whether nothing more can be written of other traces either.
+    pub(crate) fn ends_all(&self) -> bool
+        ensures { result ≡ ends_all self.now }
+    {
+        matches!(
+            self,
+            ImportFault::Refused(Fault::Memory)
+                | ImportFault::Unticked(RelationsFault::Memory)
+                | ImportFault::Write
+                | ImportFault::Memory
+        )
     }
 }
 
@@ -94,27 +108,13 @@ impl From<Fault> for ImportFault {
     }
 }
 
-impl From<FamilyFault> for ImportFault {
+impl From<RelationsFault> for ImportFault {
     ghost use Rattle.std.specs.Prelude.{◌≡◌};
     ghost use Rattle.trace_import.specs.declared.fault.ImportFault.TheVariants.{Unticked};
 
     ghost from_gives = { λ unticked fault. fault ≡ Unticked unticked };
 
-    fn from(fault: FamilyFault) -> ImportFault {
+    fn from(fault: RelationsFault) -> ImportFault {
         ImportFault::Unticked(fault)
-    }
-}
-
-impl From<TextFault> for ImportFault {
-    ghost use Rattle.std.specs.Prelude.{◌≡◌};
-    ghost use Rattle.trace_import.specs.Faults.{of_text};
-
-    ghost from_gives = { λ told fault. fault ≡ of_text told };
-
-    fn from(fault: TextFault) -> ImportFault {
-        match fault {
-            TextFault::TooLong => ImportFault::TooLong,
-            TextFault::Memory => ImportFault::Memory,
-        }
     }
 }

@@ -4,23 +4,26 @@ ghost use Rattle.trace_import.specs.Faults.{failed_writes};
 ghost use Rattle.trace_import.specs.Imported.{IsImported};
 
 use crate::fault::ImportFault;
-use crate::reading::Options;
-use crate::text::imported_text;
+use crate::note::Note;
+use crate::options::Options;
+use crate::recorded::recording_of;
 use std::alloc::Global;
 use text_io::Sink;
+use trace_spans::read_trace;
 
-/// Writes the recording that a trace makes.
+/// Writes the recording that a trace makes, and answers what was guessed.
 pub fn import<S: Sink>(
     alloc: Global,
     bytes: &[u8],
     options: Options<'_>,
     sink: &mut S,
-) -> Result<(), ImportFault>
+) -> Result<Vec<Note>, ImportFault>
     requires { S.failures sink.old < 2 ^ 64 - 1 }
-    ensures written { IsImported bytes.now (option_copied options.entry.trace) options.entry.unit (S.held sink.old) (S.held sink.new) result }
+    ensures written { IsImported bytes.now (option_copied options.entry.trace) options.entry.mapping (S.held sink.old) (S.held sink.new) result }
     ensures failures { S.failures sink.new ≡ S.failures sink.old + failed_writes result }
 {
-    let text = imported_text(alloc, bytes, options.trace, options.unit)?;
-    sink.write(text.as_bytes())?;
-    Ok(())
+    let trace = read_trace(alloc, bytes, options.trace)?;
+    let recorded = recording_of(alloc, options.mapping, trace)?;
+    sink.write(&recorded.text)?;
+    Ok(recorded.notes)
 }

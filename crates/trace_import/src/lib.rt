@@ -1,15 +1,28 @@
 //! Recordings made from traces.
 //!
 //! `import` writes the recording that the spans of a trace make: what waited for what is inferred from the times inside
-//! each parent, and each span's stage ends when the span did. The definition `IsImported` says what it writes.
+//! each parent, and each span's stage ends when the span did. The definition `IsImported` says what it writes. What was
+//! guessed on the way is answered. `import_each` does so for each trace of a file.
 #![tactic(auto)]
 
+mod actions;
+mod clock_labels;
+mod each;
 mod fault;
+mod imported_stage;
 mod importing;
+mod note;
+mod notes;
+mod options;
 mod reading;
+mod recorded;
+mod stage_names;
 mod text;
+mod texts;
 
+pub use each::{Outcome, import_each};
 pub use fault::ImportFault;
 pub use importing::import;
-pub use reading::Options;
-pub use trace_family::Unit;
+pub use note::{Attempt, GivenUp, LateCall, MovedClock, Note, NoteKind, Outliving};
+pub use options::{Mapping, Options};
+pub use trace_relations::{AsTold, Unit};

@@ -1,20 +1,13 @@
-//! What is read of a trace, and made of it.
-ghost use Rattle.std.specs.Prelude.{◌≡◌, option_copied};
-ghost use Rattle.trace_import.specs.Imported.{IsReading};
+//! What is made of a trace.
+ghost use Rattle.trace_import.specs.Imported.{IsReadingOf};
 
 use crate::fault::ImportFault;
+use crate::options::Mapping;
+use crate::texts::tells_texts;
 use std::alloc::Global;
-use trace_family::{Family, Unit, family_of};
-use trace_spans::{Trace, read_trace};
+use trace_relations::{Relations, relations_of};
+use trace_spans::Trace;
 use trace_stages::{Stages, stages_of};
-
-/// What is asked of an import.
-#[derive(Clone, Copy, PartialEq, Eq, Debug)]
-pub struct Options<'a> {
-    /// The id of the trace, of several.
-    pub trace: Option<&'a str>,
-    pub unit: Unit,
-}
 
 /// The most stages of a recording.
 const MOST_STAGES: usize = 65_536;
@@ -23,29 +16,28 @@ const MOST_STAGES: usize = 65_536;
 #[derive(Drop)]
 pub(crate) struct Reading {
     pub trace: Trace,
-    pub family: Family,
+    pub relations: Relations,
     pub stages: Stages,
 }
 
-/// Reads a trace, and makes its stages.
-pub(crate) fn read(
+/// Makes the stages of a trace.
+pub(crate) fn reading_of(
     alloc: Global,
-    bytes: &[u8],
-    wanted: Option<&str>,
-    unit: Unit,
+    mapping: Mapping,
+    trace: Trace,
 ) -> Result<Reading, ImportFault>
-    ensures { IsReading bytes.now (option_copied wanted.entry) unit result }
+    ensures { IsReadingOf mapping trace result }
 {
-    let trace = read_trace(alloc, bytes, wanted)?;
+    tells_texts(&trace);
     let spans = trace.spans.as_slice();
-    let family = family_of(alloc, unit, spans)?;
-    let stages = stages_of(alloc, spans, &family)?;
+    let relations = relations_of(alloc, mapping.unit, mapping.as_told, spans)?;
+    let stages = stages_of(alloc, spans, &relations, mapping.as_told)?;
     if stages.0.len() > MOST_STAGES {
         return Err(ImportFault::TooManyStages);
     }
     Ok(Reading {
         trace,
-        family,
+        relations,
         stages,
     })
 }

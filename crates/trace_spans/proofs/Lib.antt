@@ -1,8 +1,16 @@
+pub mod After
 pub mod Digits
+pub mod Durations
+pub mod Formatted
+pub mod Grouping
+pub mod HalvesHeld
+pub mod JaegerTold
 pub mod MapMembers
 pub mod Marking
 pub mod MembersFound
 pub mod Reading
+pub mod Same
 pub mod Spelling
 pub mod Texts
 pub mod Turns
+pub mod ZipkinListed

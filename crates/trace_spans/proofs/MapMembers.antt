@@ -10,7 +10,7 @@ use Rattle.std.specs.declared.cmp.Ordering.TheVariants.{Less, Equal, Greater}
 use Rattle.json_trees.specs.Named.{put_all}
 use Rattle.serde_json.specs.Data.{Data, Members, member, put}
 use Rattle.serde_json.specs.Find.{get_member}
-use Rattle.trace_spans.specs.Services.{members_from}
+use Rattle.trace_spans.specs.Processes.{members_from}
 
 found : (o : Ordering) (d : Data) (a b : Option Data) → a ≡ b → match_ordering o a (Some d) a ≡ cond (is_eq o) (Some d) b
 found Less d a b e = e

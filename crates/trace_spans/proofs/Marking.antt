@@ -15,16 +15,16 @@ use Rattle.trace_spans.specs.Choice.{is_repeat, is_repeated, with_span}
 use Rattle.trace_spans.specs.Marks.{AreMarksOf, AreNoted, IsMarkOf, is_mark_of, same_mark}
 
 -- two tests that answer the same of each element
-any_same : {X : Type 0} (f g : X → Bool) → ((x : X) → f x ≡ g x) → (xs : List X) → list_any f xs ≡ list_any g xs
+pub any_same : {X : Type 0} (f g : X → Bool) → ((x : X) → f x ≡ g x) → (xs : List X) → list_any f xs ≡ list_any g xs
 any_same f g same [] = refl
 any_same f g same (x ∷ xs) = ap (λ b. b || list_any f xs) (same x) ∙ ap (λ b. g x || b) (any_same f g same xs)
 
 -- a mark of a span tells its repeats
 repeats : (mark : Mark) (span : Span) → IsMarkOf mark span → (other : Span) → is_mark_of mark other ≡ is_repeat other span
-repeats mark span h other = rw (h.0, h.1, h.2, h.3, h.4) refl
+repeats mark span h other = rw (h.0, h.1, h.2, h.3, h.4, h.5) refl
 
 same_as : (mark : Mark) (span : Span) → IsMarkOf mark span → (other : Mark) → same_mark mark other ≡ is_mark_of other span
-same_as mark span h other = rw (h.0, h.1, h.2, h.3, h.4) refl
+same_as mark span h other = rw (h.0, h.1, h.2, h.3, h.4, h.5) refl
 
 joined : (b a : Bool) → cond b true a ≡ (a || (b || false))
 joined true true = refl

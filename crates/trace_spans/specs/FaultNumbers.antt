@@ -7,7 +7,7 @@ abbrev pub fault_number : Fault → ℕ
 fault_number Json = 70
 fault_number (Shape member) = 71
 fault_number TooLong = 72
-fault_number NotATrace = 80
+fault_number (NotATrace strange) = 80
 fault_number NoTrace = 81
 fault_number (SeveralTraces traces) = 82
 fault_number Memory = 90

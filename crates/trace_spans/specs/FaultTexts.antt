@@ -17,7 +17,7 @@ abbrev pub fault_text : Fault → List ℕ
 fault_text Json = codes "refused 70 JSON"
 fault_text (Shape member) = codes "refused 71 Shape " ++ member_text member
 fault_text TooLong = codes "refused 72 TooLong"
-fault_text NotATrace = codes "refused 80 NotATrace"
+fault_text (NotATrace strange) = codes "refused 80 NotATrace"
 fault_text NoTrace = codes "refused 81 NoTrace"
 fault_text (SeveralTraces traces) = codes "refused 82 SeveralTraces" ++ spaced_texts traces
 fault_text Memory = codes "refused 90 Memory"

@@ -5,7 +5,7 @@ use Rattle.trace_spans.specs.Members.{member_of}
 use Rattle.trace_spans.specs.Places.{member_in, place_after}
 use Rattle.trace_spans.specs.declared.member.Member.{Member}
 use Rattle.trace_spans.specs.declared.member.Member.TheVariants as member
-use Rattle.trace_spans.specs.declared.jaeger_members.JaegerMembers.{JaegerMembers}
+use Rattle.trace_spans.specs.declared.jaeger.members.JaegerMembers.{JaegerMembers}
 
 -- the members that a look-up finds
 abbrev found_by : (Member → Option Data) → JaegerMembers
@@ -19,6 +19,7 @@ found_by look = record {
   duration = look member.Duration;
   tags = look member.Tags;
   process = look member.Process;
+  own_process = look member.OwnProcess;
 }
 
 -- each by a look-up of its own
@@ -40,4 +41,5 @@ with_found name found members = record {
   duration = place_after name found member.Duration members.duration;
   tags = place_after name found member.Tags members.tags;
   process = place_after name found member.Process members.process;
+  own_process = place_after name found member.OwnProcess members.own_process;
 }

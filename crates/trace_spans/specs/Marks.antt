@@ -1,5 +1,6 @@
 -- What tells spans from their repeats.
 use Rattle.std.specs.Prelude.{◌≡◌, ◌&&◌, ◌++◌, List, [], ◌∷◌, Bool, not, nat_eq, if◌then◌else◌, string_bytes}
+use Rattle.std.specs.Bool.{beq}
 use Rattle.std.specs.List.{list_any}
 use Rattle.std.specs.Option.{option_eq}
 use Rattle.std.specs.Str.{bytes_eq}
@@ -13,18 +14,18 @@ use Rattle.trace_spans.specs.Identifiers.{compared}
 -- the mark has what tells the span from its repeats
 abbrev pub IsMarkOf : Mark → Span → Type 0
 IsMarkOf mark span =
-    (string_bytes mark.id ≡ compared span.id) × (string_bytes mark.service ≡ span.service) × (string_bytes mark.name ≡ span.name)
+    (string_bytes mark.id ≡ compared span.id) × (mark.shared ≡ span.shared) × (string_bytes mark.service ≡ span.service) × (string_bytes mark.name ≡ span.name)
     × (mark.start ≡ span.start) × (mark.end ≡ span.end)
 
 abbrev pub is_mark_of : Mark → Span → Bool
 is_mark_of mark span =
     bytes_eq (compared span.id) (string_bytes mark.id)
-    && (bytes_eq span.service (string_bytes mark.service) && (bytes_eq span.name (string_bytes mark.name) && (option_eq nat_eq span.start mark.start && option_eq nat_eq span.end mark.end)))
+    && (beq span.shared mark.shared && (bytes_eq span.service (string_bytes mark.service) && (bytes_eq span.name (string_bytes mark.name) && (option_eq nat_eq span.start mark.start && option_eq nat_eq span.end mark.end))))
 
 abbrev pub same_mark : Mark → Mark → Bool
 same_mark mark other =
     string_eq mark.id other.id
-    && (string_eq mark.service other.service && (string_eq mark.name other.name && (option_eq nat_eq mark.start other.start && option_eq nat_eq mark.end other.end)))
+    && (beq mark.shared other.shared && (string_eq mark.service other.service && (string_eq mark.name other.name && (option_eq nat_eq mark.start other.start && option_eq nat_eq mark.end other.end))))
 
 -- the marks are those of the spans
 abbrev pub AreMarksOf : {S : Type 0} → HashSet Mark S → List Span → Type 0

@@ -1,13 +1,19 @@
 -- The names of members in JSON.
 use Rattle.std.specs.Prelude.{ℕ, List, codes}
 use Rattle.trace_spans.specs.declared.member.Member.{Member}
-use Rattle.trace_spans.specs.declared.member.Member.TheVariants.{ResourceSpans, Resource, ScopeSpans, Spans, Attributes, Key, Value, StringValue, OtlpTrace, OtlpSpan, OtlpParent, Name, Kind, StartTimeUnixNano, EndTimeUnixNano, Links, Status, Code, Events, Data, Processes, Process, ServiceName, JaegerTrace, JaegerSpan, JaegerParent, OperationName, References, RefType, StartTime, Duration, Tags, Logs, Fields}
+use Rattle.trace_spans.specs.declared.member.Member.TheVariants.{ResourceSpans, Batches, Result, Trace, ResourceMetrics, ResourceLogs, Resource, ScopeSpans, InstrumentationLibrarySpans, Spans, Attributes, Key, Value, StringValue, OtlpTrace, OtlpSpan, OtlpParent, Name, Kind, StartTimeUnixNano, EndTimeUnixNano, Links, Status, Code, Events, Data, Processes, Process, OwnProcess, ServiceName, JaegerTrace, JaegerSpan, JaegerParent, OperationName, References, RefType, StartTime, Duration, Tags, Logs, Fields, ZipkinSpan, ZipkinParent, Timestamp, LocalEndpoint, Ipv4, Shared}
 
 -- the member's name in JSON, by which a fault of shape is printed too
 abbrev pub member_text : Member → List ℕ
 member_text ResourceSpans = codes "resourceSpans"
+member_text Batches = codes "batches"
+member_text Result = codes "result"
+member_text Trace = codes "trace"
+member_text ResourceMetrics = codes "resourceMetrics"
+member_text ResourceLogs = codes "resourceLogs"
 member_text Resource = codes "resource"
 member_text ScopeSpans = codes "scopeSpans"
+member_text InstrumentationLibrarySpans = codes "instrumentationLibrarySpans"
 member_text Spans = codes "spans"
 member_text Attributes = codes "attributes"
 member_text Key = codes "key"
@@ -27,6 +33,7 @@ member_text Events = codes "events"
 member_text Data = codes "data"
 member_text Processes = codes "processes"
 member_text Process = codes "processID"
+member_text OwnProcess = codes "process"
 member_text ServiceName = codes "serviceName"
 member_text JaegerTrace = codes "traceID"
 member_text JaegerSpan = codes "spanID"
@@ -39,3 +46,9 @@ member_text Duration = codes "duration"
 member_text Tags = codes "tags"
 member_text Logs = codes "logs"
 member_text Fields = codes "fields"
+member_text ZipkinSpan = codes "id"
+member_text ZipkinParent = codes "parentId"
+member_text Timestamp = codes "timestamp"
+member_text LocalEndpoint = codes "localEndpoint"
+member_text Ipv4 = codes "ipv4"
+member_text Shared = codes "shared"

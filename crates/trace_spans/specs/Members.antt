@@ -1,5 +1,5 @@
 -- Members of an object, in the form that is asked. Null is absence.
-use Rattle.std.specs.Prelude.{ℕ, ◌^◌, ◌&&◌, List, [], length, nat_lt, if◌then◌else◌, Option, Some, None, is_some, option_map, option_and_then, Result, Ok, Err}
+use Rattle.std.specs.Prelude.{ℕ, ◌^◌, ◌&&◌, List, [], Bool, length, nat_lt, if◌then◌else◌, Option, Some, None, is_some, option_map, option_and_then, Result, Ok, Err}
 use Rattle.std.specs.Option.{ok_or}
 use Rattle.std.specs.Str.{all_ascii_digits}
 use Rattle.std.specs.Str.Parse.{digits_value}
@@ -33,6 +33,10 @@ where_present absent form (Some d) = form d
 -- the member of an object, in its form, or what stands for it if absent
 abbrev pub optional : {A : Type 0} → Member → A → (Data → Option A) → Data → Result A Fault
 optional m default form d = where_present (Ok default) (of_form m form) (member_of m d)
+
+-- the member is there, be it null
+unfoldable pub has : Member → Data → Bool
+has m d = is_some (get (member_text m) d)
 
 unfoldable pub text_in : Member → Data → Result (List ℕ) Fault
 text_in m d = optional m [] as_str d

@@ -5,7 +5,7 @@ use Rattle.trace_spans.specs.Members.{member_of}
 use Rattle.trace_spans.specs.Places.{member_in, place_after}
 use Rattle.trace_spans.specs.declared.member.Member.{Member}
 use Rattle.trace_spans.specs.declared.member.Member.TheVariants as member
-use Rattle.trace_spans.specs.declared.otlp_members.OtlpMembers.{OtlpMembers}
+use Rattle.trace_spans.specs.declared.otlp.members.OtlpMembers.{OtlpMembers}
 
 -- the members that a look-up finds
 abbrev found_by : (Member → Option Data) → OtlpMembers
@@ -19,6 +19,7 @@ found_by look = record {
   end = look member.EndTimeUnixNano;
   links = look member.Links;
   status = look member.Status;
+  attributes = look member.Attributes;
 }
 
 -- each by a look-up of its own
@@ -40,4 +41,5 @@ with_found name found members = record {
   end = place_after name found member.EndTimeUnixNano members.end;
   links = place_after name found member.Links members.links;
   status = place_after name found member.Status members.status;
+  attributes = place_after name found member.Attributes members.attributes;
 }

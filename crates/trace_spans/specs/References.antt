@@ -1,7 +1,7 @@
 -- References after others.
 use Rattle.std.specs.Prelude.{◌++◌, Result, Ok}
 use Rattle.trace_spans.specs.declared.fault.Fault.{Fault}
-use Rattle.trace_spans.specs.declared.jaeger.References.{References}
+use Rattle.trace_spans.specs.declared.jaeger.references.References.{References}
 use Rattle.trace_spans.specs.Members.{then_on}
 
 abbrev pub joined : References → References → References

@@ -1,13 +1,14 @@
 //! The names of exceptions, and where spans tell them.
-ghost use Rattle.std.specs.Prelude.{◌≡◌, IfOk, map, option_map, string_bytes, take};
+ghost use Rattle.std.specs.Prelude.{◌≡◌, [], IfOk, map, option_and_then, option_map, string_bytes, take, unwrap_or};
 ghost use Rattle.std.specs.Str.{chars, encode_utf8_all};
-ghost use Rattle.trace_spans.specs.Exceptions.{exception_in, exception_in_event, exception_in_log, exception_in_tag, exception_name, first_tag, is_name_character, kept, last_exception, tag_in, tag_text};
+ghost use Rattle.trace_spans.specs.Exceptions.{exception_in, exception_in_event, exception_in_log, exception_in_tag, exception_name, is_name_character, kept, last_exception, tag_in, tag_text};
 ghost use Rattle.trace_spans.specs.Members.{then_on, items_in, member_of};
-ghost use Rattle.trace_spans.specs.Reads.{IsRead, IsReadAs};
+ghost use Rattle.trace_spans.specs.Reads.{IsRead};
 
 use crate::fault::Fault;
 use crate::member::Member;
 use crate::object::{found_items, item_object, items_or_none, member, text_or_empty};
+use crate::tags::TagForm;
 use crate::text::Text;
 use json_trees::Tree;
 use std::alloc::{AllocError, Global};
@@ -15,15 +16,10 @@ use std::alloc::{AllocError, Global};
 /// The most characters of an exception's name.
 const MOST_CHARACTERS: usize = 128;
 
-/// The exception that wraps others, and names none.
+/// The exceptions that wrap others, and name none.
 const COMPLETION_EXCEPTION: &str = "java.util.concurrent.CompletionException";
 
-/// How a file tells spans.
-#[derive(Clone, Copy, PartialEq, Eq, Debug)]
-pub(crate) enum Format {
-    Otlp,
-    Jaeger,
-}
+const EXECUTION_EXCEPTION: &str = "java.util.concurrent.ExecutionException";
 
 fn is_name_character(letter: char) -> bool
     ensures { result ≡ is_name_character letter }
@@ -54,11 +50,14 @@ fn kept_name(alloc: Global, text: &str) -> Result<String, AllocError>
 
 /// The exception's name that a text is: other characters become `_`, and 128 are kept.
 #[tactic(auto, unfolding(crate::specs::Exceptions::exception_name))]
-fn exception_name(alloc: Global, text: &str) -> Result<Option<Text>, AllocError>
+pub(crate) fn exception_name(alloc: Global, text: &str) -> Result<Option<Text>, AllocError>
     ensures { IfOk result (λ name. name ≡ exception_name text.now) }
 {
     let name = kept_name(alloc, text)?;
-    if name.is_empty() || name.as_str() == COMPLETION_EXCEPTION {
+    if name.is_empty()
+        || name.as_str() == COMPLETION_EXCEPTION
+        || name.as_str() == EXECUTION_EXCEPTION
+    {
         return Ok(None);
     }
     Ok(Some(Text::of(name)))
@@ -66,13 +65,26 @@ fn exception_name(alloc: Global, text: &str) -> Result<Option<Text>, AllocError>
 
 /// The value of a tag, where it is a text.
 #[tactic(auto, unfolding(crate::specs::Exceptions::tag_text))]
-pub(crate) fn tag_text<'a>(format: Format, tag: &Tree<'_, 'a>) -> Option<&'a str>
-    ensures { option_map (λ t. t.now) result ≡ tag_text format tag.now }
+pub(crate) fn tag_text<'a>(form: TagForm, tag: &Tree<'_, 'a>) -> Option<&'a str>
+    ensures { option_map (λ t. t.now) result ≡ tag_text form tag.now }
 {
     let value = member(tag, Member::Value)?;
-    match format {
-        Format::Otlp => member(&value, Member::StringValue)?.as_str(),
-        Format::Jaeger => value.as_str(),
+    match form {
+        TagForm::Otlp => member(&value, Member::StringValue)?.as_str(),
+        TagForm::Jaeger => value.as_str(),
+    }
+}
+
+/// The text that a tag is; without one it is empty.
+pub(crate) fn text_of_tag<'a>(form: TagForm, tag: &Option<Tree<'_, 'a>>) -> &'a str
+    ensures { result.now ≡ unwrap_or (option_and_then (tag_text form) tag.now) [] }
+{
+    match tag {
+        Some(tag) => match tag_text(form, tag) {
+            Some(text) => text,
+            None => "",
+        },
+        None => "",
     }
 }
 
@@ -112,17 +124,17 @@ pub(crate) fn tag_with_key<'t, 'a>(
 #[tactic(auto, unfolding(crate::specs::Exceptions::exception_in_tag))]
 pub(crate) fn exception_in_tag(
     alloc: Global,
-    format: Format,
+    form: TagForm,
     object: &Tree<'_, '_>,
     list: Member,
     key: &str,
 ) -> Result<Option<Text>, Fault>
-    ensures { IsRead result (exception_in_tag format list key.now object.now) }
+    ensures { IsRead result (exception_in_tag form list key.now object.now) }
 {
     let Some(tag) = tag_with_key(object, list, key)? else {
         return Ok(None);
     };
-    match tag_text(format, &tag) {
+    match tag_text(form, &tag) {
         Some(text) => Ok(exception_name(alloc, text)?),
         None => Ok(None),
     }
@@ -133,9 +145,15 @@ pub(crate) fn exception_in_tag(
 fn exception_in_log(alloc: Global, log: &Tree<'_, '_>) -> Result<Option<Text>, Fault>
     ensures { IsRead result (exception_in_log log.now) }
 {
-    match exception_in_tag(alloc, Format::Jaeger, log, Member::Fields, "exception.type")? {
+    match exception_in_tag(
+        alloc,
+        TagForm::Jaeger,
+        log,
+        Member::Fields,
+        "exception.type",
+    )? {
         Some(name) => Ok(Some(name)),
-        None => exception_in_tag(alloc, Format::Jaeger, log, Member::Fields, "error.kind"),
+        None => exception_in_tag(alloc, TagForm::Jaeger, log, Member::Fields, "error.kind"),
     }
 }
 
@@ -143,33 +161,33 @@ fn exception_in_log(alloc: Global, log: &Tree<'_, '_>) -> Result<Option<Text>, F
 #[tactic(auto, unfolding(crate::specs::Exceptions::exception_in_event))]
 fn exception_in_event(
     alloc: Global,
-    format: Format,
+    form: TagForm,
     event: &Tree<'_, '_>,
 ) -> Result<Option<Text>, Fault>
-    ensures { IsRead result (exception_in_event format event.now) }
+    ensures { IsRead result (exception_in_event form event.now) }
 {
-    match format {
-        Format::Otlp => {
-            exception_in_tag(alloc, format, event, Member::Attributes, "exception.type")
+    match form {
+        TagForm::Otlp => {
+            exception_in_tag(alloc, form, event, Member::Attributes, "exception.type")
         }
-        Format::Jaeger => exception_in_log(alloc, event),
+        TagForm::Jaeger => exception_in_log(alloc, event),
     }
 }
 
 /// The exception's name that the last event with one tells.
 fn last_exception(
     alloc: Global,
-    format: Format,
+    form: TagForm,
     span: &Tree<'_, '_>,
     list: Member,
 ) -> Result<Option<Text>, Fault>
-    ensures { IsRead result (then_on (items_in list span.now) (last_exception format list)) }
+    ensures { IsRead result (then_on (items_in list span.now) (last_exception form list)) }
 {
     let mut events = items_or_none(span, list)?;
     let mut last = None;
     while let Some(event) = events.next() {
         item_object(&event, list)?;
-        if let Some(name) = exception_in_event(alloc, format, &event)? {
+        if let Some(name) = exception_in_event(alloc, form, &event)? {
             last = Some(name);
         }
     }
@@ -180,17 +198,17 @@ fn last_exception(
 #[tactic(auto, unfolding(crate::specs::Exceptions::exception_in))]
 pub(crate) fn exception_of(
     alloc: Global,
-    format: Format,
+    form: TagForm,
     span: &Tree<'_, '_>,
 ) -> Result<Option<Text>, Fault>
-    ensures { IsRead result (exception_in format span.now) }
+    ensures { IsRead result (exception_in form span.now) }
 {
-    let (events, tags) = match format {
-        Format::Otlp => (Member::Events, Member::Attributes),
-        Format::Jaeger => (Member::Logs, Member::Tags),
+    let (events, tags) = match form {
+        TagForm::Otlp => (Member::Events, Member::Attributes),
+        TagForm::Jaeger => (Member::Logs, Member::Tags),
     };
-    match last_exception(alloc, format, span, events)? {
+    match last_exception(alloc, form, span, events)? {
         Some(name) => Ok(Some(name)),
-        None => exception_in_tag(alloc, format, span, tags, "error.type"),
+        None => exception_in_tag(alloc, form, span, tags, "error.type"),
     }
 }

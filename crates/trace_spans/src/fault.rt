@@ -3,8 +3,10 @@ ghost use Rattle.std.specs.Prelude.{◌≡◌};
 ghost use Rattle.trace_spans.specs.FaultNumbers.{fault_number};
 
 use crate::member::Member;
+use crate::misshapen::Misshapen;
+use crate::strange::Strange;
 use crate::text::{Text, TextList};
-use std::alloc::AllocError;
+use std::alloc::{AllocError, Global};
 use std::fmt;
 use thiserror::Error;
 
@@ -15,11 +17,11 @@ pub enum Fault {
     TooLong,
     /// It is no UTF-8, or neither one JSON text nor lines of them.
     Json,
-    /// One of its texts has neither `resourceSpans` nor `data`.
-    NotATrace,
+    /// One of its texts is of no format.
+    NotATrace(Strange),
     /// The member has a wrong form, or a span has no id.
-    Shape(Member),
-    /// It has several traces, and none was asked for: the first 16.
+    Shape(Misshapen),
+    /// It has several traces, and none of them was asked for: the first 16.
     SeveralTraces(TextList),
     /// It has no span, or none of the trace that was asked for.
     NoTrace,
@@ -28,6 +30,24 @@ pub enum Fault {
 }
 
 impl Fault {
+    /// The member has a wrong form.
+    pub(crate) fn of_shape(member: Member) -> Fault
+        ensures { result ≡ Fault.Shape member }
+    {
+        Fault::Shape(Misshapen::of(member))
+    }
+
+    /// The same fault, in this line of the file.
+    pub(crate) fn in_line(self, alloc: Global, line: usize) -> Fault
+        ensures { result ≡ self }
+    {
+        match self {
+            Fault::Shape(misshapen) => Fault::Shape(misshapen.in_line(alloc, line)),
+            Fault::NotATrace(strange) => Fault::NotATrace(strange.in_line(line)),
+            fault => fault,
+        }
+    }
+
     /// The number by which the fault is printed.
     pub fn number(&self) -> u32
         ensures { result ≡ fault_number self.now }
@@ -36,7 +56,7 @@ impl Fault {
             Fault::Json => 70,
             Fault::Shape(_) => 71,
             Fault::TooLong => 72,
-            Fault::NotATrace => 80,
+            Fault::NotATrace(_) => 80,
             Fault::NoTrace => 81,
             Fault::SeveralTraces(_) => 82,
             Fault::Memory => 90,
@@ -73,8 +93,11 @@ impl fmt::Display for Fault {
         match self {
             Fault::TooLong => f.write_str("refused 72 TooLong"),
             Fault::Json => f.write_str("refused 70 JSON"),
-            Fault::NotATrace => f.write_str("refused 80 NotATrace"),
-            Fault::Shape(member) => write!(f, "refused 71 Shape {member}"),
+            Fault::NotATrace(_) => f.write_str("refused 80 NotATrace"),
+            Fault::Shape(misshapen) => {
+                let member = misshapen.member();
+                write!(f, "refused 71 Shape {member}")
+            }
             Fault::SeveralTraces(traces) => {
                 let traces = Spaced(traces.as_slice());
                 write!(f, "refused 82 SeveralTraces{traces}")

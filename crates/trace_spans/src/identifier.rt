@@ -1,12 +1,13 @@
-//! Ids: up to 32 hexadecimal digits.
+//! Ids: up to 32 hexadecimal digits, or bytes in base64.
 ghost use Rattle.std.specs.Prelude.{◌≡◌, IfOk, map, string_bytes};
 ghost use Rattle.std.specs.List.{list_all};
 ghost use Rattle.std.specs.Str.{chars, encode_utf8_all};
 ghost use Rattle.std.specs.Char.{to_ascii_lowercase};
-ghost use Rattle.trace_spans.specs.Identifiers.{compared, compared_in, id_in, is_hexadecimal, is_id, is_zero, span_id_in, without_zeros};
+ghost use Rattle.trace_spans.specs.Identifiers.{compared, compared_in, compared_text, is_hexadecimal, is_id, is_zero, span_id_in, told_digits, told_text, without_zeros};
 ghost use Rattle.trace_spans.specs.Members.{member_of};
-ghost use Rattle.trace_spans.specs.Reads.{IsRead, IsReadAs};
+ghost use Rattle.trace_spans.specs.Reads.{IsRead};
 
+use crate::base64_ids::base64_id;
 use crate::fault::Fault;
 use crate::member::Member;
 use crate::object::{found_text, member};
@@ -81,25 +82,47 @@ pub fn compared(alloc: Global, id: &str) -> Result<Text, AllocError>
     Ok(Text::of(significant(alloc, id)?))
 }
 
-/// The id that a member is, from the look-up that found it or not; without one it is empty.
-#[tactic(auto, unfolding(crate::specs::Identifiers::id_in))]
-fn found_id<'a>(
-    object: &Tree<'_, '_>,
-    found: &Option<Tree<'_, 'a>>,
-    asked: Member,
-) -> Result<&'a str, Fault>
-    requires { found.now ≡ member_of asked object.now }
-    ensures { IsReadAs (λ id. id.now) result (id_in asked object.now) }
+/// The id that a text is, as it is compared, if it is one.
+#[tactic(auto, unfolding(crate::specs::Identifiers::compared_text))]
+fn compared_text(alloc: Global, text: &str) -> Result<Option<Text>, AllocError>
+    ensures { IfOk result (λ id. id ≡ compared_text text.now) }
 {
-    let text = found_text(object, found, asked)?;
     if is_id(text) {
-        Ok(text)
-    } else {
-        Err(Fault::Shape(asked))
+        return Ok(Some(compared(alloc, text)?));
+    }
+    match base64_id(alloc, text)? {
+        Some(id) => Ok(Some(compared(alloc, id.as_str())?)),
+        None => Ok(None),
     }
 }
 
-/// The id that a member is, as it is compared, from the look-up that found it or not.
+/// The digits of an id, in lower case, unless all are zeros.
+#[tactic(auto, unfolding(crate::specs::Identifiers::told_digits))]
+fn told_digits(alloc: Global, id: &str) -> Result<Option<Text>, AllocError>
+    ensures { IfOk result (λ digits. digits ≡ told_digits id.now) }
+{
+    if are_zeros(id.as_bytes()) {
+        Ok(None)
+    } else {
+        Ok(Some(lower_case(alloc, id)?))
+    }
+}
+
+/// The id that a text is, as it is told, if it is one and has a digit that isn't 0.
+#[tactic(auto, unfolding(crate::specs::Identifiers::told_text))]
+fn told_text(alloc: Global, text: &str) -> Result<Option<Text>, AllocError>
+    ensures { IfOk result (λ id. id ≡ told_text text.now) }
+{
+    if is_id(text) {
+        return told_digits(alloc, text);
+    }
+    match base64_id(alloc, text)? {
+        Some(id) => told_digits(alloc, id.as_str()),
+        None => Ok(None),
+    }
+}
+
+/// The id that a member is, as it is compared, from the look-up that found it or not; without one it is empty.
 #[tactic(auto, unfolding(crate::specs::Identifiers::compared_in))]
 pub(crate) fn found_compared_id(
     alloc: Global,
@@ -110,8 +133,11 @@ pub(crate) fn found_compared_id(
     requires { found.now ≡ member_of asked object.now }
     ensures { IsRead result (compared_in asked object.now) }
 {
-    let id = found_id(object, found, asked)?;
-    Ok(compared(alloc, id)?)
+    let text = found_text(object, found, asked)?;
+    match compared_text(alloc, text)? {
+        Some(id) => Ok(id),
+        None => Err(Fault::of_shape(asked)),
+    }
 }
 
 /// The id that a member is, as it is compared.
@@ -125,7 +151,7 @@ pub(crate) fn compared_id(
     found_compared_id(alloc, object, &member(object, asked), asked)
 }
 
-/// The id of a span, in lower case, from the look-up that found it or not.
+/// The id of a span, as it is told, from the look-up that found it or not.
 #[tactic(auto, unfolding(crate::specs::Identifiers::span_id_in))]
 pub(crate) fn found_span_id(
     alloc: Global,
@@ -136,9 +162,9 @@ pub(crate) fn found_span_id(
     requires { found.now ≡ member_of asked object.now }
     ensures { IsRead result (span_id_in asked object.now) }
 {
-    let id = found_id(object, found, asked)?;
-    if are_zeros(id.as_bytes()) {
-        return Err(Fault::Shape(asked));
+    let text = found_text(object, found, asked)?;
+    match told_text(alloc, text)? {
+        Some(id) => Ok(id),
+        None => Err(Fault::of_shape(asked)),
     }
-    Ok(lower_case(alloc, id)?)
 }

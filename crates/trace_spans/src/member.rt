@@ -8,8 +8,14 @@ use std::fmt;
 #[derive(Clone, Copy, PartialEq, Eq, Debug)]
 pub enum Member {
     ResourceSpans,
+    Batches,
+    Result,
+    Trace,
+    ResourceMetrics,
+    ResourceLogs,
     Resource,
     ScopeSpans,
+    InstrumentationLibrarySpans,
     Spans,
     Attributes,
     Key,
@@ -29,6 +35,7 @@ pub enum Member {
     Data,
     Processes,
     Process,
+    OwnProcess,
     ServiceName,
     JaegerTrace,
     JaegerSpan,
@@ -41,6 +48,12 @@ pub enum Member {
     Tags,
     Logs,
     Fields,
+    ZipkinSpan,
+    ZipkinParent,
+    Timestamp,
+    LocalEndpoint,
+    Ipv4,
+    Shared,
 }
 
 impl Member {
@@ -50,8 +63,14 @@ impl Member {
     {
         match self {
             Member::ResourceSpans => "resourceSpans",
+            Member::Batches => "batches",
+            Member::Result => "result",
+            Member::Trace => "trace",
+            Member::ResourceMetrics => "resourceMetrics",
+            Member::ResourceLogs => "resourceLogs",
             Member::Resource => "resource",
             Member::ScopeSpans => "scopeSpans",
+            Member::InstrumentationLibrarySpans => "instrumentationLibrarySpans",
             Member::Spans => "spans",
             Member::Attributes => "attributes",
             Member::Key => "key",
@@ -71,6 +90,7 @@ impl Member {
             Member::Data => "data",
             Member::Processes => "processes",
             Member::Process => "processID",
+            Member::OwnProcess => "process",
             Member::ServiceName => "serviceName",
             Member::JaegerTrace => "traceID",
             Member::JaegerSpan => "spanID",
@@ -83,6 +103,12 @@ impl Member {
             Member::Tags => "tags",
             Member::Logs => "logs",
             Member::Fields => "fields",
+            Member::ZipkinSpan => "id",
+            Member::ZipkinParent => "parentId",
+            Member::Timestamp => "timestamp",
+            Member::LocalEndpoint => "localEndpoint",
+            Member::Ipv4 => "ipv4",
+            Member::Shared => "shared",
         }
     }
 }

@@ -1,6 +1,6 @@
 //! The members of a JSON object, in the form that is asked. Null is absence.
 ghost use Rattle.std.specs.Prelude.{◌≡◌, option_map};
-ghost use Rattle.trace_spans.specs.Members.{item_in, items_in, member_of, number_in, object_in, spelled, text_in, unless_null, whole_number};
+ghost use Rattle.trace_spans.specs.Members.{has, item_in, items_in, member_of, number_in, object_in, spelled, text_in, unless_null, whole_number};
 ghost use Rattle.trace_spans.specs.Reads.{IsRead, IsReadAs};
 
 use crate::fault::Fault;
@@ -26,6 +26,14 @@ pub(crate) fn member<'t, 'a>(object: &Tree<'t, 'a>, member: Member) -> Option<Tr
     unless_null(object.get(member.text())?)
 }
 
+/// Whether an object has the member, be it null.
+#[tactic(auto, unfolding(crate::specs::Members::has))]
+pub(crate) fn has(object: &Tree<'_, '_>, member: Member) -> bool
+    ensures { result ≡ has member object.now }
+{
+    object.get(member.text()).is_some()
+}
+
 /// A text, from the look-up that found its member or not; without one it is empty.
 #[tactic(auto, unfolding(crate::specs::Members::text_in))]
 pub(crate) fn found_text<'a>(
@@ -41,7 +49,7 @@ pub(crate) fn found_text<'a>(
     };
     match value.as_str() {
         Some(text) => Ok(text),
-        None => Err(Fault::Shape(asked)),
+        None => Err(Fault::of_shape(asked)),
     }
 }
 
@@ -67,7 +75,7 @@ pub(crate) fn found_items<'t, 'a>(
     };
     match value.as_array() {
         Some(items) => Ok(items),
-        None => Err(Fault::Shape(asked)),
+        None => Err(Fault::of_shape(asked)),
     }
 }
 
@@ -97,7 +105,7 @@ pub(crate) fn found_object<'f, 't, 'a>(
     if value.is_object() {
         Ok(Some(value))
     } else {
-        Err(Fault::Shape(asked))
+        Err(Fault::of_shape(asked))
     }
 }
 
@@ -115,7 +123,7 @@ pub(crate) fn object_or_null<'t, 'a>(
     if value.is_object() {
         Ok(Some(value))
     } else {
-        Err(Fault::Shape(asked))
+        Err(Fault::of_shape(asked))
     }
 }
 
@@ -127,7 +135,7 @@ pub(crate) fn item_object(item: &Tree<'_, '_>, list: Member) -> Result<(), Fault
     if item.is_object() {
         Ok(())
     } else {
-        Err(Fault::Shape(list))
+        Err(Fault::of_shape(list))
     }
 }
 
@@ -135,7 +143,7 @@ pub(crate) fn item_object(item: &Tree<'_, '_>, list: Member) -> Result<(), Fault
 ///
 /// A text of up to 19 digits is walked once: `parse_u64` refuses what has no digit or something else, but for a plus in front.
 #[tactic(auto, unfolding(crate::specs::Members::spelled))]
-fn spelled(text: &str) -> Option<u64>
+pub(crate) fn spelled(text: &str) -> Option<u64>
     ensures { result ≡ spelled text.now }
 {
     let digits = text.as_bytes();
@@ -171,7 +179,7 @@ pub(crate) fn found_number(
     };
     match whole_number(value) {
         Some(number) => Ok(Some(number)),
-        None => Err(Fault::Shape(asked)),
+        None => Err(Fault::of_shape(asked)),
     }
 }
 

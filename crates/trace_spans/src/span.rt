@@ -1,13 +1,17 @@
 //! Spans.
 ghost use Rattle.std.specs.Prelude.{◌≡◌, [], ◌∷◌, ◌++◌, OnOk, OnErr};
 
+use crate::clock::Clock;
+use crate::target::Target;
 use crate::text::{Text, TextList};
 use std::alloc::{AllocError, Global};
 use std::marker::Model;
 
-/// Which end of a queue a span is.
+/// Which end of a call or of a message a span is.
 #[derive(Clone, Copy, PartialEq, Eq, Debug)]
 pub enum Kind {
+    Server,
+    Client,
     Producer,
     Consumer,
     Other,
@@ -18,17 +22,23 @@ pub enum Kind {
 pub struct Span {
     /// The trace that it belongs to, without leading zeros.
     pub trace: Text,
-    /// Its id, in lower case.
+    /// Its id as it is told, in lower case.
     pub id: Text,
+    /// Whether it is the server's half of a span that client and server share; the client's half has its id.
+    pub shared: bool,
     pub service: Text,
     pub name: Text,
+    pub kind: Kind,
+    /// The clock by which its times were told.
+    pub clock: Clock,
+    /// What it called, as far as it tells.
+    pub target: Target,
     pub start: Option<u64>,
     pub end: Option<u64>,
-    /// The ids of the parents that it names in its trace, without leading zeros.
+    /// The keys of the parents that it names in its trace.
     pub parents: TextList,
-    /// The ids of its other references into its trace, without leading zeros.
+    /// The keys of its other references into its trace.
     pub links: TextList,
-    pub kind: Kind,
     pub failed: bool,
     /// The name of the exception with which it failed, where it tells one.
     pub exception: Option<Text>,

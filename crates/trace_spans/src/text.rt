@@ -95,4 +95,21 @@ impl TextList {
     {
         self.items.as_slice()
     }
+
+    /// Whether two lists have the same texts.
+    pub fn same(&self, other: &TextList) -> bool
+        ensures { IsTrue result ↔ (self.now ≡ other.now) }
+    {
+        let texts = self.as_slice();
+        let others = other.as_slice();
+        if texts.len() != others.len() {
+            return false;
+        }
+        for place in 0..texts.len() {
+            if !texts[place].same(&others[place]) {
+                return false;
+            }
+        }
+        true
+    }
 }

@@ -5,11 +5,12 @@ use Rattle.std.specs.Option.{option_or}
 use Rattle.std.proofs.lemmas.List.{append-nil, map-append, take_more}
 use Rattle.std.proofs.lemmas.List.Concat.{flat_map-append}
 use Rattle.trace_stages.specs.Beginnings.{all_begins, begun_from, joined_with_links}
-use Rattle.trace_family.specs.declared.moment.Interval.{Interval}
+use Rattle.trace_relations.specs.declared.moment.Interval.{Interval}
+use Rattle.trace_relations.specs.declared.moment.Moment.{Moment}
 use Rattle.trace_stages.specs.Known.{had_of, plain_hads}
-use Rattle.trace_walk.specs.declared.holding.Begin.{Begin}
-use Rattle.trace_walk.specs.declared.holding.Holding.{Holding}
-use Rattle.trace_walk.specs.declared.stage.StageId.{StageId}
+use Rattle.trace_stages.specs.declared.walk.holding.Begin.{Begin}
+use Rattle.trace_stages.specs.declared.walk.holding.Holding.{Holding}
+use Rattle.trace_stages.specs.declared.walk.stage_id.StageId.{StageId}
 
 one_begun : (begin : Begin) (b : Bool) (found rest : Option StageId) (others more : Option Begin) → option_map (λ those. those.from) others ≡ option_or found rest → option_map (λ those. those.from) more ≡ found → option_map (λ those. those.from) (cond b (Some begin) others) ≡ option_or (option_map (λ those. those.from) (cond b (Some begin) more)) rest
 one_begun begin true found rest others more e f = refl
@@ -57,10 +58,10 @@ all_noted holdings i holding begins old new lt is so_far updated q =
     ∙ sym (begun_from-append (all_begins (plain_hads (take i holdings))) (get_or holdings i holding).begins.items q)
     ∙ ap (λ those. begun_from those q) (sym (begins_more holdings i holding lt))
 
-lone : (intervals : List Interval) (place : ℕ) (from : Option StageId) → joined_with_links intervals place from [] ≡ record { joins = []; stage = from }
-lone intervals place None = refl
-lone intervals place (Some id) = refl
+lone : (intervals : List Interval) (until : Option Moment) (place : ℕ) (from : Option StageId) → joined_with_links intervals until place from [] ≡ record { joins = []; stage = from }
+lone intervals until place None = refl
+lone intervals until place (Some id) = refl
 
 -- a span without links begins from what it has, with no joins
-pub joined_without_links : (intervals : List Interval) (place : ℕ) (from : Option StageId) (links : List ℕ) → links ≡ [] → joined_with_links intervals place from links ≡ record { joins = []; stage = from }
-joined_without_links intervals place from links e = ap (λ those. joined_with_links intervals place from those) e ∙ lone intervals place from
+pub joined_without_links : (intervals : List Interval) (until : Option Moment) (place : ℕ) (from : Option StageId) (links : List ℕ) → links ≡ [] → joined_with_links intervals until place from links ≡ record { joins = []; stage = from }
+joined_without_links intervals until place from links e = ap (λ those. joined_with_links intervals until place from those) e ∙ lone intervals until place from

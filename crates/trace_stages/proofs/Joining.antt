@@ -6,9 +6,10 @@ use Rattle.std.proofs.lemmas.Bool.Decides.{nat_tests}
 use Rattle.std.proofs.lemmas.List.{append-nil, map-append, at_drop_more, take_more}
 use Rattle.std.proofs.lemmas.List.Sums.{fold-append}
 use Rattle.trace_stages.specs.declared.outcomes.Outcome.{Outcome}
-use Rattle.trace_stages.specs.Outcomes.{PlainSight, earlier_of, earliest, failure_of, first_of, has_failed, join_outcome, join_outcomes, latest, outcome_of, plain_joins, with_failure, with_join}
-use Rattle.trace_stages.specs.Scene.{thrown_join}
-use Rattle.trace_walk.specs.declared.stage.StageId.{StageId}
+use Rattle.trace_stages.specs.Outcomes.{PlainSight, earlier_of, earliest, failure_of, first_of, has_failed, join_outcome, join_outcomes, latest, outcome_of, with_failure, with_join}
+use Rattle.trace_stages.specs.PlainJoins.{plain_joins}
+use Rattle.trace_stages.specs.Scene.{handed_join}
+use Rattle.trace_stages.specs.declared.walk.stage_id.StageId.{StageId}
 
 abbrev pub merged : Option Outcome → Option Outcome → Option Outcome
 merged None second = second
@@ -75,14 +76,14 @@ join_pushed sight joins i sources own shown new those outcome lt so_far is_own i
     ∙ sym (join_more sight joins i sources lt)
 
 -- no join more
-pub none_thrown_on : (sight : PlainSight) (joins : List (List StageId)) (thrown : List StageId) (outcomes : List Outcome) → length thrown ≡ 0 → outcomes ≡ join_outcomes sight joins → outcomes ≡ join_outcomes sight (joins ++ thrown_join thrown)
-none_thrown_on sight joins [] outcomes none are = are ∙ ap (λ xs. join_outcomes sight xs) (sym (append-nil joins))
-none_thrown_on sight joins (source ∷ sources) outcomes none are = absurd (omega arith)
+pub none_handed_on : (sight : PlainSight) (joins : List (List StageId)) (handed : List StageId) (outcomes : List Outcome) → length handed ≡ 0 → outcomes ≡ join_outcomes sight joins → outcomes ≡ join_outcomes sight (joins ++ handed_join handed)
+none_handed_on sight joins [] outcomes none are = are ∙ ap (λ xs. join_outcomes sight xs) (sym (append-nil joins))
+none_handed_on sight joins (source ∷ sources) outcomes none are = absurd (omega arith)
 
 -- and one more
-pub one_thrown_on : (sight : PlainSight) (joins : List (List StageId)) (thrown : List StageId) (outcomes shown new : List Outcome) (outcome : Outcome) → 0 < length thrown → outcomes ≡ join_outcomes sight joins → shown ≡ outcomes → outcome ≡ join_outcome (map (outcome_of sight shown) thrown) → new ≡ outcomes ++ outcome ∷ [] → new ≡ join_outcomes sight (joins ++ thrown_join thrown)
-one_thrown_on sight joins [] outcomes shown new outcome some are is_own is pushed = absurd (omega arith)
-one_thrown_on sight joins (source ∷ sources) outcomes shown new outcome some are is_own is pushed =
+pub one_handed_on : (sight : PlainSight) (joins : List (List StageId)) (handed : List StageId) (outcomes shown new : List Outcome) (outcome : Outcome) → 0 < length handed → outcomes ≡ join_outcomes sight joins → shown ≡ outcomes → outcome ≡ join_outcome (map (outcome_of sight shown) handed) → new ≡ outcomes ++ outcome ∷ [] → new ≡ join_outcomes sight (joins ++ handed_join handed)
+one_handed_on sight joins [] outcomes shown new outcome some are is_own is pushed = absurd (omega arith)
+one_handed_on sight joins (source ∷ sources) outcomes shown new outcome some are is_own is pushed =
     pushed
     ∙ ap (λ o. outcomes ++ o ∷ []) (is ∙ ap (λ xs. join_outcome (map (outcome_of sight xs) (source ∷ sources))) is_own)
     ∙ ap (λ xs. with_join sight xs (source ∷ sources)) are

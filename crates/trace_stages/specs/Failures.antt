@@ -1,19 +1,19 @@
 -- With which exceptions spans fail.
-use Rattle.std.specs.Prelude.{ℕ, ◌==◌, List, [], Bool, true, false, nat_eq, if◌then◌else◌, Option, Some, None, fold}
+use Rattle.std.specs.Prelude.{ℕ, ◌==◌, ◌||◌, List, not, if◌then◌else◌, Option, Some, None, fold}
 use Rattle.trace_stages.specs.declared.failures.LastStep.{LastStep}
 use Rattle.trace_stages.specs.declared.fates.Fate.{Fate}
 use Rattle.trace_stages.specs.declared.fates.Fate.TheVariants.{Succeeded, Failed, Threw}
-use Rattle.trace_stages.specs.declared.outcomes.Outcome.{Outcome}
 use Rattle.trace_stages.specs.declared.stage.Action.{Action}
 use Rattle.trace_stages.specs.declared.stage.Action.TheVariants.{Null, Throws, ThrowsIfFailed}
 use Rattle.trace_stages.specs.declared.stage.Exception.{Exception}
 use Rattle.trace_stages.specs.declared.stage.Exception.TheVariants as exception
 use Rattle.trace_stages.specs.declared.stage.Op.TheVariants.{ThenRun, Handle, WhenComplete}
 use Rattle.trace_stages.specs.Fates.{fate_at}
-use Rattle.trace_stages.specs.Known.{PlainKnown, had_at, has_ended}
-use Rattle.trace_stages.specs.Outcomes.{PlainSight, join_outcomes, outcome_of}
-use Rattle.trace_tour.specs.declared.visit.Visit.{Visit}
-use Rattle.trace_tour.specs.declared.visit.Visit.TheVariants.{Enters, Leaves}
+use Rattle.trace_stages.specs.EndOutcomes.{end_outcome}
+use Rattle.trace_stages.specs.HandedOn.{same_exception, thrower}
+use Rattle.trace_stages.specs.Known.{PlainKnown, gave_up, has_ended}
+use Rattle.trace_stages.specs.declared.tour.visit.Visit.{Visit}
+use Rattle.trace_stages.specs.declared.tour.visit.Visit.TheVariants.{Enters, Leaves}
 
 -- a failed span without an exception throws `SpanFailed`
 abbrev pub thrown : Fate → Option Exception
@@ -24,12 +24,6 @@ thrown (Threw own) = Some own
 abbrev pub action_of : Option Exception → Action
 action_of None = Null
 action_of (Some own) = Throws own
-
-abbrev pub same_exception : Exception → Exception → Bool
-same_exception exception.SpanFailed exception.SpanFailed = true
-same_exception exception.SpanFailed (exception.Of place) = false
-same_exception (exception.Of place) exception.SpanFailed = false
-same_exception (exception.Of place) (exception.Of other) = nat_eq place other
 
 abbrev pub handed_on : Exception → LastStep
 handed_on failed = record { op = WhenComplete; action = Null; failure = Some failed }
@@ -45,21 +39,24 @@ abbrev pub last_step : Option Exception → Fate → LastStep
 last_step None fate = record { op = ThenRun; action = action_of (thrown fate); failure = thrown fate }
 last_step (Some failed) fate = after_failure failed fate
 
--- what is known of stages while the joins of spans are not
-abbrev pub own_sight : PlainKnown → (ℕ → Option Exception) → PlainSight
-own_sight known failures = record { intervals = known.family.intervals; failures = failures; joins = [] }
+abbrev pub failure_of_thrower : (ℕ → Option Exception) → Option ℕ → Option Exception
+failure_of_thrower failures None = None
+failure_of_thrower failures (Some child) = failures child
 
--- how that ends what a span has at its end
-abbrev pub end_outcome : PlainKnown → (ℕ → Option Exception) → ℕ → Outcome
-end_outcome known failures place =
-    outcome_of (own_sight known failures) (join_outcomes (own_sight known failures) (had_at known.hads place).joins) (had_at known.hads place).has
+-- with which exception a span is given what it has at its end: that of a child where it hands that on
+abbrev pub given : PlainKnown → (ℕ → Option Exception) → ℕ → Option Exception → Option Exception
+given known failures place None = failure_of_thrower failures (thrower known failures place)
+given known failures place (Some failed) = Some failed
+
+abbrev pub failure_after : PlainKnown → (ℕ → Option Exception) → ℕ → Option Exception
+failure_after known failures place = (last_step (given known failures place (end_outcome known failures place).failure) (fate_at known.fates place)).failure
 
 abbrev pub failure_at_end : PlainKnown → (ℕ → Option Exception) → ℕ → Option Exception
-failure_at_end known failures place = if known.has_two place then (last_step (end_outcome known failures place).failure (fate_at known.fates place)).failure else thrown (fate_at known.fates place)
+failure_at_end known failures place = if gave_up known place || not (known.has_two place) then thrown (fate_at known.fates place) else failure_after known failures place
 
 -- with which exception the last stage of a span fails, where others fail so
 abbrev pub failure : PlainKnown → (ℕ → Option Exception) → ℕ → Option Exception
-failure known failures place = if has_ended known.family.intervals place then failure_at_end known failures place else None
+failure known failures place = if has_ended known.relations.intervals place then failure_at_end known failures place else None
 
 -- a span that is left fails as its children did
 abbrev pub with_visit : PlainKnown → (ℕ → Option Exception) → Visit → ℕ → Option Exception

@@ -2,13 +2,14 @@
 use Rattle.std.specs.Prelude.{ℕ, List, [], ◌∷◌, ◌++◌, Bool, map, max, nat_eq, nat_lt, is_some, if◌then◌else◌, Option, Some, None, option_and_then, unwrap_or, Vec, slice_get, filter, fold}
 use Rattle.std.specs.HashMap.{HashMap, get_by}
 use Rattle.std.specs.declared.alloc.Global.{Global}
-use Rattle.trace_family.specs.declared.moment.Interval.{Interval}
-use Rattle.trace_family.specs.Moments.{interval_at}
+use Rattle.trace_relations.specs.Moments.{interval_at}
+use Rattle.trace_stages.specs.Known.{PlainKnown, had_at, plain_known}
 use Rattle.trace_stages.specs.declared.outcomes.Outcome.{Outcome}
 use Rattle.trace_stages.specs.declared.outcomes.Sight.{Sight}
 use Rattle.trace_stages.specs.declared.stage.Exception.{Exception}
-use Rattle.trace_walk.specs.declared.stage.StageId.{StageId}
-use Rattle.trace_walk.specs.declared.stage.StageId.TheVariants.{Start, Whole, Entry, Join}
+use Rattle.trace_stages.specs.declared.walk.holding.OwnWork.{OwnWork}
+use Rattle.trace_stages.specs.declared.walk.stage_id.StageId.{StageId}
+use Rattle.trace_stages.specs.declared.walk.stage_id.StageId.TheVariants.{Start, Whole, Entry, Join, Work, Tried, Limit, Answer}
 
 abbrev pub has_failed : Outcome → Bool
 has_failed outcome = is_some outcome.failure
@@ -33,11 +34,15 @@ failure_of outcome = option_and_then (λ those. those.failure) outcome
 abbrev pub join_outcome : List Outcome → Outcome
 join_outcome sources = record { tick = latest sources; failure = failure_of (earliest (filter has_failed sources)) }
 
--- what is known of stages: when spans start and end, with which exceptions they fail, and how the joins of spans end
+-- what is known of stages: of spans, with which exceptions they fail, and how the joins of spans end
 pub record PlainSight : Type 0 where
-  pub intervals : List Interval
+  pub known : PlainKnown
   pub failures : ℕ → Option Exception
   pub joins : List (List Outcome)
+
+abbrev pub work_end : Option OwnWork → ℕ
+work_end None = 0
+work_end (Some work) = work.until
 
 abbrev pub outcome_at : List Outcome → ℕ → Outcome
 outcome_at outcomes number = unwrap_or (slice_get outcomes number) (record { tick = 0; failure = None })
@@ -46,10 +51,21 @@ outcome_at outcomes number = unwrap_or (slice_get outcomes number) (record { tic
 abbrev pub outcomes_among : List (List Outcome) → List Outcome → ℕ → List Outcome
 outcomes_among all own span = unwrap_or (slice_get all span) own
 
--- a start is at the tick a, an end at b
+-- own work ends at its tick
+abbrev pub work_outcome : PlainKnown → ℕ → ℕ → Outcome
+work_outcome known span number = record { tick = work_end (slice_get (had_at known.hads span).works number); failure = None }
+
+abbrev pub end_of : PlainSight → ℕ → Outcome
+end_of sight place = record { tick = unwrap_or (interval_at sight.known.relations.intervals place).end 0; failure = sight.failures place }
+
+-- a start is at the tick a, an end at b; what was tried again ends as its last attempt
 abbrev pub outcome_of : PlainSight → List Outcome → StageId → Outcome
-outcome_of sight own (Start place) = record { tick = (interval_at sight.intervals place).start; failure = None }
-outcome_of sight own (Whole place) = record { tick = unwrap_or (interval_at sight.intervals place).end 0; failure = sight.failures place }
+outcome_of sight own (Start place) = record { tick = (interval_at sight.known.relations.intervals place).start; failure = None }
+outcome_of sight own (Whole place) = end_of sight place
+outcome_of sight own (Limit place) = end_of sight place
+outcome_of sight own (Answer place) = end_of sight place
+outcome_of sight own (Tried place) = end_of sight (sight.known.relations.attempts.last place)
+outcome_of sight own (Work span number) = work_outcome sight.known span number
 outcome_of sight own (Entry span number) = outcome_at own number
 outcome_of sight own (Join span number) = outcome_at (outcomes_among sight.joins own span) number
 
@@ -74,8 +90,5 @@ failing failures place = unwrap_or (get_by (nat_eq place) failures) None
 abbrev pub plain_outcomes : List (Vec Outcome Global) → List (List Outcome)
 plain_outcomes all = map (λ outcomes. outcomes.items) all
 
-abbrev pub plain_joins : List (Vec StageId Global) → List (List StageId)
-plain_joins joins = map (λ sources. sources.items) joins
-
 abbrev pub plain_sight : Sight → PlainSight
-plain_sight sight = record { intervals = sight.intervals.now; failures = failing sight.failures.now; joins = plain_outcomes sight.joins.now }
+plain_sight sight = record { known = plain_known sight.known.now; failures = failing sight.failures.now; joins = plain_outcomes sight.joins.now }

@@ -1,8 +1,8 @@
 -- Which spans have two stages.
 use Rattle.std.specs.Prelude.{ℕ, ◌||◌, List, Bool, false, nat_eq, Option, Some, None}
 use Rattle.std.specs.List.{list_any}
-use Rattle.trace_family.specs.declared.hosts.Host.{Host}
-use Rattle.trace_family.specs.declared.hosts.Host.TheVariants.{Nowhere, Inside, After}
+use Rattle.trace_relations.specs.declared.hosts.Host.{Host}
+use Rattle.trace_relations.specs.declared.hosts.Host.TheVariants.{Nowhere, Inside, After}
 
 -- whether it is the span that another starts inside
 abbrev pub hosts : ℕ → Host → Bool

@@ -1,16 +1,18 @@
 //! With which exceptions spans fail.
 ghost use Rattle.std.specs.Prelude.{◌≡◌, ℕ, IfOk};
-ghost use Rattle.trace_stages.specs.Failures.{action_of, end_outcome, failure, failure_at_end, failures_by, last_step, own_sight, thrown};
+ghost use Rattle.trace_stages.specs.EndOutcomes.{end_outcome, own_sight};
+ghost use Rattle.trace_stages.specs.Failures.{action_of, failure, failure_at_end, failures_by, given, last_step, thrown};
 ghost use Rattle.trace_stages.specs.Known.{plain_known};
 ghost use Rattle.trace_stages.specs.Outcomes.{failing, plain_sight};
 
 use crate::fates::{Fate, fate_at};
-use crate::known::{Known, has_at, has_ended, has_two, joins_at};
-use crate::outcomes::{Failures, Outcome, Sight, join_outcomes, outcome_of};
+use crate::handed_on::thrower;
+use crate::known::{Known, gave_up, has_at, has_ended, has_two, joins_at};
+use crate::outcomes::{Failures, Outcome, Sight, failure_at, join_outcomes, outcome_of};
 use crate::stage::{Action, Exception, Op};
+use crate::tour::Visit;
 use std::alloc::{AllocError, Global};
 use std::collections::HashMap;
-use trace_tour::Visit;
 
 /// What the last stage of a span does after its source, and with which exception it then fails.
 #[derive(Clone, Copy, PartialEq, Eq, Debug)]
@@ -74,11 +76,11 @@ pub(crate) fn last_step(failure: Option<Exception>, fate: Fate) -> LastStep
 }
 
 /// What is known of stages while the joins of spans aren't.
-pub(crate) fn own_sight<'a>(known: &'a Known<'_>, failures: &'a Failures) -> Sight<'a>
+pub(crate) fn own_sight<'a, 'k>(known: &'a Known<'k>, failures: &'a Failures) -> Sight<'a, 'k>
     ensures { plain_sight result ≡ own_sight (plain_known known.now) (failing failures.now) }
 {
     Sight {
-        intervals: &known.family.intervals,
+        known,
         failures,
         joins: &[],
     }
@@ -99,6 +101,24 @@ pub(crate) fn end_outcome(
     Ok(outcome_of(sight, &own, has_at(&known.holdings, place)))
 }
 
+/// With which exception a span is given what it has at its end: that of a child where it hands that on.
+fn given(
+    known: &Known<'_>,
+    failures: &Failures,
+    place: usize,
+    outcome: Outcome,
+) -> Option<Exception>
+    ensures { result ≡ given (plain_known known.now) (failing failures.now) place outcome.failure }
+{
+    if let Some(failed) = outcome.failure {
+        return Some(failed);
+    }
+    match thrower(known, failures, place) {
+        Some(child) => failure_at(failures, child),
+        None => None,
+    }
+}
+
 /// With which exception the last stage of a span fails, of those that have ended.
 fn failure_at_end(
     alloc: Global,
@@ -109,11 +129,12 @@ fn failure_at_end(
     ensures { IfOk result (λ exception. exception ≡ failure_at_end (plain_known known.now) (failing failures.now) place) }
 {
     let fate = fate_at(&known.fates, place);
-    if !has_two(known, place) {
+    if gave_up(known, place) || !has_two(known, place) {
         return Ok(thrown(fate));
     }
     let outcome = end_outcome(alloc, known, failures, place)?;
-    Ok(last_step(outcome.failure, fate).failure)
+    let given = given(known, failures, place, outcome);
+    Ok(last_step(given, fate).failure)
 }
 
 /// With which exception the last stage of a span fails.
@@ -125,7 +146,7 @@ fn failure(
 ) -> Result<Option<Exception>, AllocError>
     ensures { IfOk result (λ exception. exception ≡ failure (plain_known known.now) (failing failures.now) place) }
 {
-    if has_ended(&known.family.intervals, place) {
+    if has_ended(&known.relations.intervals, place) {
         failure_at_end(alloc, known, failures, place)
     } else {
         Ok(None)

@@ -16,7 +16,7 @@ const SPAN_FAILED: &str = "SpanFailed";
 
 /// How a span went.
 #[derive(Clone, Copy, PartialEq, Eq, Debug)]
-pub(crate) enum Fate {
+pub enum Fate {
     Succeeded,
     /// It failed, and told no exception.
     Failed,

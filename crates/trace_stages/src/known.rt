@@ -1,34 +1,29 @@
 //! What is known of the spans of a trace before their stages.
 ghost use Rattle.std.specs.Prelude.{◌≡◌};
-ghost use Rattle.trace_family.specs.Ancestry.{parent_at};
-ghost use Rattle.trace_stages.specs.Known.{has_ended, had_at, plain_hads, plain_known};
-ghost use Rattle.trace_stages.specs.Outcomes.{plain_joins};
+ghost use Rattle.trace_stages.specs.Known.{gave_up, had_at, has_ended, plain_hads, plain_known};
+ghost use Rattle.trace_stages.specs.PlainJoins.{plain_joins};
 
 use crate::fates::Fate;
-use crate::outcomes::interval_at;
+use crate::places::interval_at;
+use crate::walk::{Answer, Holding, OwnWork, StageId};
 use std::collections::HashSet;
-use trace_family::{Family, Interval};
-use trace_walk::{Holding, StageId};
+use trace_relations::{Interval, Moment, Relations};
 
 /// What is known of the spans of a trace, by their places.
 #[derive(Drop)]
 pub(crate) struct Known<'a> {
-    pub family: &'a Family,
+    pub relations: &'a Relations,
     pub fates: Vec<Fate>,
     /// Those that have two stages.
     pub with_two: HashSet<usize>,
     /// What each span has.
     pub holdings: Vec<Holding>,
-}
-
-/// The parent of the span at a place.
-pub(crate) fn parent_at(parents: &[Option<usize>], place: usize) -> Option<usize>
-    ensures { result ≡ parent_at parents.now place }
-{
-    match parents.get(place) {
-        Some(parent) => *parent,
-        None => None,
-    }
+    /// The children of each span, in the order of starts.
+    pub children: Vec<Vec<usize>>,
+    /// When the first caller ended that gave up a call in which each span lies.
+    pub bounds: Vec<Option<Moment>>,
+    /// Whether a failure without a name hands on any other.
+    pub hands_on: bool,
 }
 
 /// Whether the span at a place has ended.
@@ -63,4 +58,31 @@ pub(crate) fn joins_at(holdings: &[Holding], place: usize) -> &[Vec<StageId>]
         Some(holding) => holding.joins.as_slice(),
         None => &[],
     }
+}
+
+/// The own work of the span at a place.
+pub(crate) fn works_at(holdings: &[Holding], place: usize) -> &[OwnWork]
+    ensures { result.now ≡ (had_at (plain_hads holdings.now) place).works }
+{
+    match holdings.get(place) {
+        Some(holding) => holding.works.as_slice(),
+        None => &[],
+    }
+}
+
+/// What the span at a place would have had, if it gave calls up.
+pub(crate) fn answer_at(holdings: &[Holding], place: usize) -> Option<Answer>
+    ensures { result ≡ (had_at (plain_hads holdings.now) place).answer }
+{
+    match holdings.get(place) {
+        Some(holding) => holding.answer,
+        None => None,
+    }
+}
+
+/// Whether the span at a place gave calls up.
+pub(crate) fn gave_up(known: &Known<'_>, place: usize) -> bool
+    ensures { result ≡ gave_up (plain_known known.now) place }
+{
+    answer_at(&known.holdings, place).is_some()
 }

@@ -1,25 +1,26 @@
 //! All that is known of the spans of a trace and of the joins of their stages.
 ghost use Rattle.std.specs.Prelude.{◌≡◌, ◌++◌, IfOk, map};
 ghost use Rattle.trace_stages.specs.Known.{plain_known};
-ghost use Rattle.trace_stages.specs.Outcomes.{failing, join_outcomes, plain_joins, plain_outcomes, plain_sight};
-ghost use Rattle.trace_stages.specs.Scene.{all_entry_outcomes, all_outcomes, entry_at, list_at, plain_scene, scene_of, thrown_join, whole_sight};
-ghost use Rattle.trace_walk.specs.Joins.{plain_joined};
+ghost use Rattle.trace_stages.specs.Outcomes.{failing, join_outcomes, plain_outcomes, plain_sight};
+ghost use Rattle.trace_stages.specs.PlainJoins.{plain_joins};
+ghost use Rattle.trace_stages.specs.Scene.{all_entry_outcomes, all_outcomes, entry_at, list_at, plain_scene, scene_of, handed_join, whole_sight};
+ghost use Rattle.trace_stages.specs.Joins.{plain_joined};
 
 use crate::beginnings::all_entries;
 use crate::failures::own_sight;
+use crate::handed_on::all_handed;
 use crate::known::{Known, joins_at};
 use crate::outcomes::{Failures, Outcome, Sight, join_outcome, join_outcomes};
-use crate::throwers::all_thrown;
+use crate::walk::{Joined, StageId};
 use std::alloc::{AllocError, Global};
-use trace_walk::{Joined, StageId};
 
 /// What is known of the spans of a trace and of their joins, by the places of spans.
 #[derive(Drop)]
 pub(crate) struct Scene<'a> {
     pub known: Known<'a>,
     pub failures: Failures,
-    /// The sources of the joins by which spans are thrown on.
-    pub thrown: Vec<Vec<StageId>>,
+    /// The sources of the joins by which spans hand failures on.
+    pub handed: Vec<Vec<StageId>>,
     /// How the joins of what each span has end.
     pub outcomes: Vec<Vec<Outcome>>,
     /// From what each span begins, and its joins.
@@ -28,11 +29,11 @@ pub(crate) struct Scene<'a> {
     pub entry_outcomes: Vec<Vec<Outcome>>,
 }
 
-/// The sources of the join by which a span is thrown on.
-pub(crate) fn thrown_at(thrown: &[Vec<StageId>], place: usize) -> &[StageId]
-    ensures { result.now ≡ list_at (plain_joins thrown.now) place }
+/// The sources of the join by which a span hands a failure on.
+pub(crate) fn handed_at(handed: &[Vec<StageId>], place: usize) -> &[StageId]
+    ensures { result.now ≡ list_at (plain_joins handed.now) place }
 {
-    match thrown.get(place) {
+    match handed.get(place) {
         Some(sources) => sources.as_slice(),
         None => &[],
     }
@@ -68,20 +69,20 @@ pub(crate) fn entry_stage(entries: &[Joined], place: usize) -> Option<StageId>
     }
 }
 
-/// How the joins of what a span has end, and the one by which it is thrown on.
+/// How the joins of what a span has end, and the one by which it hands a failure on.
 fn span_outcomes(
     alloc: Global,
-    sight: Sight<'_>,
+    sight: Sight<'_, '_>,
     joins: &[Vec<StageId>],
-    thrown: &[StageId],
+    handed: &[StageId],
 ) -> Result<Vec<Outcome>, AllocError>
-    ensures { IfOk result (λ outcomes. outcomes.items ≡ join_outcomes (plain_sight sight.entry) (plain_joins joins.now ++ thrown_join thrown.now)) }
+    ensures { IfOk result (λ outcomes. outcomes.items ≡ join_outcomes (plain_sight sight.entry) (plain_joins joins.now ++ handed_join handed.now)) }
 {
     let mut outcomes = join_outcomes(alloc, sight, joins)?;
-    if thrown.is_empty() {
+    if handed.is_empty() {
         return Ok(outcomes);
     }
-    let outcome = join_outcome(sight, &outcomes, thrown);
+    let outcome = join_outcome(sight, &outcomes, handed);
     outcomes.push(outcome)?;
     Ok(outcomes)
 }
@@ -91,15 +92,15 @@ fn all_outcomes(
     alloc: Global,
     known: &Known<'_>,
     failures: &Failures,
-    thrown: &[Vec<StageId>],
+    handed: &[Vec<StageId>],
 ) -> Result<Vec<Vec<Outcome>>, AllocError>
-    ensures { IfOk result (λ all. plain_outcomes all.items ≡ all_outcomes (plain_known known.now) (failing failures.now) (plain_joins thrown.now)) }
+    ensures { IfOk result (λ all. plain_outcomes all.items ≡ all_outcomes (plain_known known.now) (failing failures.now) (plain_joins handed.now)) }
 {
     let sight = own_sight(known, failures);
-    let mut all = Vec::with_capacity(alloc, known.family.intervals.len())?;
-    for place in 0..known.family.intervals.len() {
+    let mut all = Vec::with_capacity(alloc, known.relations.intervals.len())?;
+    for place in 0..known.relations.intervals.len() {
         let joins = joins_at(&known.holdings, place);
-        all.push(span_outcomes(alloc, sight, joins, thrown_at(thrown, place))?)?;
+        all.push(span_outcomes(alloc, sight, joins, handed_at(handed, place))?)?;
     }
     Ok(all)
 }
@@ -107,7 +108,7 @@ fn all_outcomes(
 /// How the joins at the starts of spans end.
 fn all_entry_outcomes(
     alloc: Global,
-    sight: Sight<'_>,
+    sight: Sight<'_, '_>,
     entries: &[Joined],
 ) -> Result<Vec<Vec<Outcome>>, AllocError>
     ensures { IfOk result (λ all. plain_outcomes all.items ≡ all_entry_outcomes (plain_sight sight.entry) (map plain_joined entries.now)) }
@@ -120,15 +121,15 @@ fn all_entry_outcomes(
 }
 
 /// What is known of stages when the outcomes of joins are.
-pub(crate) fn whole_sight<'a>(
-    known: &'a Known<'_>,
+pub(crate) fn whole_sight<'a, 'k>(
+    known: &'a Known<'k>,
     failures: &'a Failures,
     joins: &'a [Vec<Outcome>],
-) -> Sight<'a>
+) -> Sight<'a, 'k>
     ensures { plain_sight result ≡ whole_sight (plain_known known.now) (failing failures.now) (plain_outcomes joins.now) }
 {
     Sight {
-        intervals: &known.family.intervals,
+        known,
         failures,
         joins,
     }
@@ -142,15 +143,15 @@ pub(crate) fn scene_of<'a>(
 ) -> Result<Scene<'a>, AllocError>
     ensures { IfOk result (λ scene. plain_scene scene ≡ scene_of (plain_known known.entry) (failing failures)) }
 {
-    let thrown = all_thrown(alloc, &known, &failures)?;
-    let outcomes = all_outcomes(alloc, &known, &failures, &thrown)?;
+    let handed = all_handed(alloc, &known, &failures)?;
+    let outcomes = all_outcomes(alloc, &known, &failures, &handed)?;
     let entries = all_entries(alloc, &known)?;
     let sight = whole_sight(&known, &failures, &outcomes);
     let entry_outcomes = all_entry_outcomes(alloc, sight, &entries)?;
     Ok(Scene {
         known,
         failures,
-        thrown,
+        handed,
         outcomes,
         entries,
         entry_outcomes,

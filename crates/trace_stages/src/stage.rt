@@ -9,6 +9,14 @@ pub enum StageName {
     Whole(usize),
     /// A join of the span at a place, by its number among all of that span's, counted from 1.
     Join(usize, usize),
+    /// Own work of the span at a place, by its number among that, counted from 1.
+    Work(usize, usize),
+    /// What a call came to that was tried again.
+    Tried(usize),
+    /// The end of a span that gave a call up, by its limit.
+    Limit(usize),
+    /// The end that it would have had with the answer.
+    Answer(usize),
 }
 
 /// What a stage does.
@@ -19,7 +27,9 @@ pub enum Op {
     ThenRun,
     Handle,
     WhenComplete,
+    ExceptionallyCompose,
     AllOf,
+    AnyOf,
 }
 
 /// An exception.
@@ -37,6 +47,8 @@ pub enum Action {
     Throws(Exception),
     /// It throws if its source failed, and else it is null.
     ThrowsIfFailed(Exception),
+    /// The number of the inner stage that goes on: the first.
+    PicksFirst,
 }
 
 /// A stage of a recording.
@@ -46,6 +58,8 @@ pub struct ImportedStage {
     pub op: Op,
     pub created: u64,
     pub sources: Vec<StageName>,
+    /// The stage that goes on where the source failed.
+    pub inner: Option<StageName>,
     pub queued: u64,
     pub runs: u64,
     pub action: Option<Action>,

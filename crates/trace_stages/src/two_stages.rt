@@ -1,12 +1,12 @@
 //! Which spans have two stages.
-ghost use Rattle.std.specs.Prelude.{◌≡◌, ◌||◌, ℕ, List, IfOk, OnOk, nat_eq};
+ghost use Rattle.std.specs.Prelude.{◌≡◌, ◌||◌, ℕ, IfOk, OnOk, nat_eq};
 ghost use Rattle.std.specs.HashSet.{contains_by};
 ghost use Rattle.std.specs.List.{list_any};
 ghost use Rattle.trace_stages.specs.TwoStages.{has_two, hosts, waits};
 
 use std::alloc::{AllocError, Global};
 use std::collections::HashSet;
-use trace_family::{Family, Host};
+use trace_relations::{Host, Relations};
 
 /// Adds the spans in which others start.
 fn add_hosts(places: &mut HashSet<usize>, all: &[Host]) -> Result<(), AllocError>

@@ -1,17 +1,18 @@
 //! What stages of spans wait for and do.
 ghost use Rattle.std.specs.Prelude.{◌≡◌};
 ghost use Rattle.trace_stages.specs.Scene.{plain_scene};
-ghost use Rattle.trace_stages.specs.Works.{after_source, at_end, begin_from, begin_work, last_work, manual, whole_work};
+ghost use Rattle.trace_stages.specs.Works.{after_source, answer_tick, answer_work, at_end, begin_from, begin_work, last_work, limit_work, manual, own_work, whole_work};
 
 use crate::failures::{action_of, last_step, thrown};
 use crate::fates::fate_at;
-use crate::known::{has_at, has_ended, has_two, joins_at};
-use crate::outcomes::{Outcome, interval_at, outcome_of};
-use crate::scene::{Scene, entry_stage, outcomes_at, thrown_at, whole_sight};
+use crate::known::{answer_at, has_at, has_ended, has_two, joins_at, works_at};
+use crate::outcomes::{Outcome, outcome_of};
+use crate::places::interval_at;
+use crate::scene::{Scene, entry_stage, handed_at, outcomes_at, whole_sight};
 use crate::stage::{Action, Op};
-use trace_walk::StageId;
+use crate::walk::{Answer, StageId};
 
-/// What a stage waits for and does that isn't a join.
+/// What a stage waits for and does that has one source at most.
 #[derive(Clone, Copy, PartialEq, Eq, Debug)]
 pub(crate) struct Work {
     pub op: Op,
@@ -64,7 +65,7 @@ fn begin_from(
 ) -> Work
     ensures { result ≡ begin_from (plain_scene scene.now) place runs action source }
 {
-    let start = interval_at(&scene.known.family.intervals, place).start;
+    let start = interval_at(&scene.known.relations.intervals, place).start;
     match source {
         Some(source) => {
             let sight = whole_sight(&scene.known, &scene.failures, &scene.outcomes);
@@ -90,11 +91,24 @@ pub(crate) fn begin_work(scene: &Scene<'_>, place: usize, runs: u64, action: Act
     begin_from(scene, place, runs, action, source)
 }
 
-/// What a span has at its end, with the child that it is thrown on by.
+/// Own work of a span, after what it had until then.
+pub(crate) fn own_work(scene: &Scene<'_>, span: usize, number: usize) -> Work
+    ensures { result ≡ own_work (plain_scene scene.now) span number }
+{
+    let Some(work) = works_at(&scene.known.holdings, span).get(number) else {
+        return manual(0);
+    };
+    let sight = whole_sight(&scene.known, &scene.failures, &scene.outcomes);
+    let outcome = outcome_of(sight, &[], work.after);
+    let runs = work.until.saturating_sub(outcome.tick);
+    after_source(outcome.tick, work.after, outcome, runs, Action::Null)
+}
+
+/// What a span has at its end, with the call whose failure it hands on.
 fn at_end(scene: &Scene<'_>, place: usize) -> StageId
     ensures { result ≡ at_end (plain_scene scene.now) place }
 {
-    if thrown_at(&scene.thrown, place).is_empty() {
+    if handed_at(&scene.handed, place).is_empty() {
         has_at(&scene.known.holdings, place)
     } else {
         StageId::Join(place, joins_at(&scene.known.holdings, place).len())
@@ -119,11 +133,62 @@ fn last_work(scene: &Scene<'_>, place: usize, end: u64) -> Work
     }
 }
 
-/// The stage that ends when a span did.
+/// The tick of what a span would have had with answers: its own end where one of these is open, and nothing else ended.
+fn answer_tick(answer: Answer, outcome: Outcome, end: u64) -> u64
+    ensures { result ≡ answer_tick answer.is_open outcome end }
+{
+    if answer.is_open && outcome.tick == 0 {
+        end
+    } else {
+        outcome.tick
+    }
+}
+
+/// The end that a span which gave calls up would have had with their answers.
+pub(crate) fn answer_work(scene: &Scene<'_>, place: usize) -> Work
+    ensures { result ≡ answer_work (plain_scene scene.now) place }
+{
+    let interval = interval_at(&scene.known.relations.intervals, place);
+    let Some(answer) = answer_at(&scene.known.holdings, place) else {
+        return manual(0);
+    };
+    let Some(end) = interval.end else {
+        return manual(0);
+    };
+    let sight = whole_sight(&scene.known, &scene.failures, &scene.outcomes);
+    let outcome = outcome_of(sight, &[], answer.stage);
+    let gap = answer.since.saturating_sub(interval.start);
+    let left = end.saturating_sub(answer_tick(answer, outcome, end));
+    Work {
+        op: Op::WhenComplete,
+        created: 0,
+        source: Some(answer.stage),
+        queued: 0,
+        runs: gap.max(left),
+        action: Some(Action::Null),
+    }
+}
+
+/// The end of a span that gave calls up, by its limit.
+pub(crate) fn limit_work(scene: &Scene<'_>, place: usize) -> Work
+    ensures { result ≡ limit_work (plain_scene scene.now) place }
+{
+    let interval = interval_at(&scene.known.relations.intervals, place);
+    Work {
+        op: Op::ThenRun,
+        created: 0,
+        source: Some(StageId::Start(place)),
+        queued: 0,
+        runs: interval.end.unwrap_or(0).saturating_sub(interval.start),
+        action: Some(action_of(thrown(fate_at(&scene.known.fates, place)))),
+    }
+}
+
+/// The stage that ends when a span did, which gave no calls up.
 pub(crate) fn whole_work(scene: &Scene<'_>, place: usize) -> Work
     ensures { result ≡ whole_work (plain_scene scene.now) place }
 {
-    let interval = interval_at(&scene.known.family.intervals, place);
+    let interval = interval_at(&scene.known.relations.intervals, place);
     let Some(end) = interval.end else {
         return manual(interval.start);
     };
@@ -140,7 +205,7 @@ pub(crate) fn whole_work(scene: &Scene<'_>, place: usize) -> Work
 pub(crate) fn whole_source(scene: &Scene<'_>, place: usize) -> Option<StageId>
     ensures { result ≡ (whole_work (plain_scene scene.now) place).source }
 {
-    if !has_ended(&scene.known.family.intervals, place) {
+    if !has_ended(&scene.known.relations.intervals, place) {
         return None;
     }
     if has_two(&scene.known, place) {

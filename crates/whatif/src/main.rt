@@ -8,6 +8,7 @@ mod at_once;
 mod export;
 mod fault;
 mod format;
+mod importing;
 
 use at_once::run_many;
 use clap::ArgMatches;
@@ -15,7 +16,7 @@ use command_help::told;
 use command_line::{command, without_help_of_help};
 use console::{
     Fault, ListeningSink, ListeningSource, Named, Remembering, StepTeller, Voice, Watch, flushed,
-    imported, run_check, warn, why_no_stage, with_explanation, with_read_reason, with_reason,
+    run_check, warn, why_no_stage, with_explanation, with_read_reason, with_reason,
 };
 use export::run_export;
 use fault::{reported, served};
@@ -34,7 +35,6 @@ use std::process::ExitCode;
 use std::sync::Wait;
 use std::thread::Threads;
 use text_io::{Sink, Source};
-use trace_import::{Options, Unit, import};
 use version_store::StateRepresentation;
 
 fn main(rt: HostRuntime) -> ExitCode {
@@ -85,10 +85,10 @@ fn answer<'a, K: StateRepresentation, H: Threads + Wait + Copy + Drop + Send + S
         }
         "draw" => run_draw::<K>(rt, matches)?,
         "check" => return run_check(rt, matches),
+        "import" => return importing::run_import(rt, matches),
         "serve" => run_serve::<K, _>(rt, runner, matches)?,
         "export" => run_export::<K, _>(rt, runner, matches)?,
         "many" => run_many(rt, threads, matches)?,
-        "import" => run_import(rt, matches)?,
         _ => return Err(Fault::CommandLine),
     }
     Ok(ExitCode::SUCCESS)
@@ -285,22 +285,4 @@ fn answered<K: StateRepresentation, W: Runner, R: Source, S: Sink>(
     let end = serve_last(alloc, runner, source, sink, graph, format);
     watch.ends();
     flushed(sink, served(end))
-}
-
-/// Writes the recording that a trace makes.
-fn run_import<'a>(rt: &'a HostRuntime, matches: &ArgMatches<'a>) -> Result<(), Fault> {
-    let Some(unit) = matches.get_str("unit").and_then(Unit::new) else {
-        return Err(Fault::CommandLine);
-    };
-    let options = Options {
-        trace: matches.get_str("trace"),
-        unit,
-    };
-    let voice = Voice::new(rt, matches);
-    let trace = console::trace(rt, voice, matches.get_str("FILE"))?;
-    let reason = Cell::new(None);
-    let mut sink = console::output(rt, &reason)?;
-    let end = import(rt.alloc(), &trace, options, &mut sink);
-    let end = flushed(&mut sink, imported(rt.alloc(), voice, &trace, options, end));
-    with_reason(voice, &reason, end)
 }

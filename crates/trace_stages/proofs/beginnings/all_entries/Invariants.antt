@@ -4,7 +4,7 @@ use Rattle.std.specs.HashMap.{get_by}
 use Rattle.std.specs.List.{range_with_len}
 use Rattle.trace_stages.specs.Beginnings.{entry}
 use Rattle.trace_stages.specs.Known.{plain_known}
-use Rattle.trace_walk.specs.Joins.{plain_joined}
+use Rattle.trace_stages.specs.Joins.{plain_joined}
 use Rattle.trace_stages.proofs.beginnings.all_entries.Given as goal
 
 -- those so far

@@ -5,7 +5,7 @@ use Rattle.trace_stages.specs.Known.{plain_known}
 use Rattle.trace_stages.specs.Outcomes.{failing}
 use Rattle.trace_stages.proofs.Failing.{one_entered, one_left}
 use Rattle.trace_stages.proofs.Tables.{one_failure}
-use Rattle.trace_tour.specs.declared.visit.Visit.TheVariants.{Enters}
+use Rattle.trace_stages.specs.declared.tour.visit.Visit.TheVariants.{Enters}
 use Rattle.trace_stages.proofs.failures.failures_of.Goals as goal
 use Rattle.trace_stages.proofs.failures.failures_of.Goals.{in-Leaves+in_ok-exception+in_ok-insert, in_default}
 

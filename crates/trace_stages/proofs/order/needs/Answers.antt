@@ -8,3 +8,6 @@ returns-in-Join c = λ order puts. ap (λ b. not b) (c.contains.ensures ∙ (put
 
 pub returns-in-Entry : goal.returns-in-Entry
 returns-in-Entry c = λ order puts. ap (λ b. not b) (c.contains-in-Entry.ensures ∙ (puts c.in-Entry.span c.in-Entry.number).1) ∙ ap (λ id. needs order id) (sym c.in-Entry.is)
+
+pub returns-in-Work : goal.returns-in-Work
+returns-in-Work c = λ order puts. ap (λ b. not b) (c.contains-in-Work.ensures ∙ (puts c.in-Work.span c.in-Work.number).2) ∙ ap (λ id. needs order id) (sym c.in-Work.is)

@@ -1,5 +1,6 @@
 use Rattle.std.proofs.Common.{◌≡◌, take}
-use Rattle.trace_stages.specs.Outcomes.{join_outcomes, plain_joins, plain_sight}
+use Rattle.trace_stages.specs.Outcomes.{join_outcomes, plain_sight}
+use Rattle.trace_stages.specs.PlainJoins.{plain_joins}
 use Rattle.trace_stages.proofs.outcomes.join_outcomes.Given as goal
 
 -- those so far

@@ -1,7 +1,7 @@
 use Rattle.std.proofs.Common.{◌≡◌, map, take}
 use Rattle.trace_stages.specs.Outcomes.{plain_outcomes, plain_sight}
 use Rattle.trace_stages.specs.Scene.{all_entry_outcomes}
-use Rattle.trace_walk.specs.Joins.{plain_joined}
+use Rattle.trace_stages.specs.Joins.{plain_joined}
 use Rattle.trace_stages.proofs.scene.all_entry_outcomes.Given as goal
 
 -- those so far

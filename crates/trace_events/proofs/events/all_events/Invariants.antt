@@ -1,7 +1,0 @@
-use Rattle.std.proofs.Common.{◌≡◌, take, vec_len}
-use Rattle.trace_events.specs.Events.{HasEvents}
-use Rattle.trace_events.proofs.events.all_events.Given as goal
-
--- what happens by the moments so far
-abbrev pub invariant-loop-at : goal.invariant-loop-at
-invariant-loop-at l = (vec_len l.all ≡ l.count) × HasEvents l.count l.hosts l.waiting (take l.at-index l.moments) l.all.items

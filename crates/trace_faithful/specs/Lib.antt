@@ -1,4 +1,0 @@
-pub mod Circles
-pub mod Completes
-pub mod Faithful
-pub mod Present

@@ -1,4 +1,0 @@
-pub mod Circling
-pub mod Hosting
-pub mod Lineage
-pub mod Placing

@@ -1,5 +1,0 @@
-pub mod Apart
-pub mod Counting
-pub mod Cutting
-pub mod Dots
-pub mod Joining

@@ -1,7 +1,0 @@
-use Rattle.std.proofs.Common.{◌≡◌, map, take}
-use Rattle.trace_names.specs.Names.{base_name}
-use Rattle.trace_names.proofs.base.base_names.Given as goal
-
--- those so far
-abbrev pub invariant-loop-span : goal.invariant-loop-span
-invariant-loop-span l = l.names ≡ map base_name (take l.span-index l.spans)

@@ -1,4 +1,0 @@
-pub mod Apart
-pub mod Names
-pub mod Numbers
-pub mod Words

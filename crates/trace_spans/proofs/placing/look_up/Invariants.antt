@@ -1,0 +1,5 @@
+use Rattle.std.proofs.Common.{length}
+use Rattle.trace_spans.proofs.placing.look_up.Given as goal
+
+abbrev pub decreases-members : goal.decreases-members
+decreases-members l = length l.members

@@ -1,0 +1,15 @@
+use Rattle.std.proofs.Common.{refl}
+use Rattle.std.proofs.lemmas.Bool.{false_from_ne_true}
+use Rattle.std.proofs.lemmas.Str.{IsUtf8-from_is_utf8, is_utf8-from_IsUtf8}
+use Rattle.trace_spans.specs.Texts.{texts_of}
+use Rattle.trace_spans.proofs.trace.read_bytes.Goals as goal
+
+pub returns-in-Ok : goal.returns-in-Ok
+unfolding texts_of
+returns-in-Ok c =
+    rw (is_utf8-from_IsUtf8 c.args.bytes.now c.in-Ok.ensures.cases.1) (rw c.in-Ok.ensures.cases.0 at c.read_text.ensures)
+
+pub returns-in-Err : goal.returns-in-Err
+unfolding texts_of
+returns-in-Err c =
+    rw (false_from_ne_true _ (λ e. c.in-Err.ensures.cases.0 (IsUtf8-from_is_utf8 c.args.bytes.now e))) refl

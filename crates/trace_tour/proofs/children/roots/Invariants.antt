@@ -1,7 +1,0 @@
-use Rattle.std.proofs.Common.{◌≡◌, take}
-use Rattle.trace_tour.specs.Visits.{roots}
-use Rattle.trace_tour.proofs.children.roots.Given as goal
-
--- those so far
-abbrev pub invariant-loop-place : goal.invariant-loop-place
-invariant-loop-place l = l.places.items ≡ roots l.parents (take l.place-index l.order)

@@ -1,0 +1,120 @@
+//! Recordings made from traces.
+use crate::format::format_of;
+use clap::ArgMatches;
+use console::{Fault, Voice, flushed, imported, imported_each, listed, output, trace, with_reason};
+use report_json::Format;
+use std::alloc::{AllocError, Global};
+use std::cell::Cell;
+use std::fmt::Write;
+use std::process::ExitCode;
+use text_io::Sink;
+use trace_import::{AsTold, Mapping, Options, Unit, import, import_each};
+use trace_spans::{Summary, list_traces, row_json};
+
+/// Whether something of a trace is to be taken as it is told.
+fn is_told(matches: &ArgMatches<'_>, what: &str) -> bool {
+    matches.get_str(what) == Some("as-told")
+}
+
+/// How the command line asks traces to be mapped.
+fn mapping_of(matches: &ArgMatches<'_>) -> Result<Mapping, Fault> {
+    let Some(unit) = matches.get_str("unit").and_then(Unit::new) else {
+        return Err(Fault::CommandLine);
+    };
+    Ok(Mapping {
+        unit,
+        as_told: AsTold {
+            clocks: is_told(matches, "clocks"),
+            calls: is_told(matches, "calls"),
+        },
+    })
+}
+
+/// Answers what the command line asks of a trace, or of the traces of a file.
+pub(crate) fn run_import<'a>(
+    rt: &'a HostRuntime,
+    matches: &ArgMatches<'a>,
+) -> Result<ExitCode, Fault> {
+    let mapping = mapping_of(matches)?;
+    let voice = Voice::new(rt, matches);
+    let bytes = trace(rt, voice, matches.get_str("FILE"))?;
+    if matches.get_flag("list") {
+        return run_list(rt, voice, format_of(matches), mapping, &bytes);
+    }
+    if matches.get_flag("each") {
+        return run_import_each(rt, voice, mapping, &bytes);
+    }
+    let options = Options {
+        trace: matches.get_str("trace"),
+        mapping,
+    };
+    run_import_one(rt, voice, options, &bytes)
+}
+
+/// Writes the recording that a trace makes.
+fn run_import_one(
+    rt: &HostRuntime,
+    voice: Voice<'_>,
+    options: Options<'_>,
+    bytes: &[u8],
+) -> Result<ExitCode, Fault> {
+    let reason = Cell::new(None);
+    let mut sink = output(rt, &reason)?;
+    let end = import(rt.alloc(), bytes, options, &mut sink);
+    let end = flushed(&mut sink, imported(rt.alloc(), voice, bytes, options, end));
+    with_reason(voice, &reason, end)?;
+    Ok(ExitCode::SUCCESS)
+}
+
+/// Writes the recording of each trace of a file on one line.
+fn run_import_each(
+    rt: &HostRuntime,
+    voice: Voice<'_>,
+    mapping: Mapping,
+    bytes: &[u8],
+) -> Result<ExitCode, Fault> {
+    let reason = Cell::new(None);
+    let mut sink = output(rt, &reason)?;
+    let end = import_each(rt.alloc(), bytes, mapping, &mut sink);
+    let end = flushed(
+        &mut sink,
+        imported_each(rt.alloc(), voice, bytes, mapping, end),
+    );
+    with_reason(voice, &reason, end)
+}
+
+/// Prints which traces a file has.
+fn run_list(
+    rt: &HostRuntime,
+    voice: Voice<'_>,
+    format: Format,
+    mapping: Mapping,
+    bytes: &[u8],
+) -> Result<ExitCode, Fault> {
+    let alloc = rt.alloc();
+    let rows = listed(alloc, voice, bytes, mapping, list_traces(alloc, bytes))?;
+    let text = rows_text(alloc, format, &rows)?;
+    let reason = Cell::new(None);
+    let mut sink = output(rt, &reason)?;
+    let end = match sink.write(text.as_bytes()) {
+        Ok(()) => Ok(()),
+        Err(_) => Err(Fault::Write(None)),
+    };
+    with_reason(voice, &reason, flushed(&mut sink, end))?;
+    Ok(ExitCode::SUCCESS)
+}
+
+/// The table of traces, a line for each.
+fn rows_text(alloc: Global, format: Format, rows: &[Summary]) -> Result<String, AllocError> {
+    let mut text = String::new(alloc);
+    for row in rows {
+        match format {
+            Format::Text => writeln!(text, "{row}")?,
+            Format::Json => {
+                text.push_str(row_json(alloc, row)?.as_str())?;
+                text.push('\n')?;
+            }
+        }
+    }
+    Ok(text)
+}
