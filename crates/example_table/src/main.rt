@@ -12,6 +12,7 @@
 //! Each representation of graphs and each runner of levels has to tell the same.
 #![tactic(auto)]
 
+mod edits;
 mod graphs;
 mod reports;
 mod runners;

@@ -1,4 +1,5 @@
 //! The versions of an example, line by line.
+use crate::edits::edits_of;
 use crate::graphs::{push_fault, push_graph, push_order};
 use crate::reports::push_report;
 use anyhow::Result;
@@ -9,7 +10,6 @@ use stage_graph::{Edits, Fault};
 use stage_ops::Meter;
 use std::alloc::Global;
 use std::fmt::Write;
-use test_kit::edits_of;
 use version_store::{Draft, StateRepresentation, Version};
 
 /// The marker of the meters.
@@ -103,7 +103,11 @@ fn step<R: StateRepresentation, W: Runner>(
     text: &mut String,
 ) -> Result<()> {
     match edits_of(alloc, step) {
-        Ok(edits) => edit(alloc, runner, scene, edits, text),
+        Ok(Some(edits)) => edit(alloc, runner, scene, edits, text),
+        Ok(None) => {
+            text.push_str("the step edits nothing\n")?;
+            Ok(())
+        }
         Err(fault) => {
             write!(text, "{fault}\n")?;
             Ok(())

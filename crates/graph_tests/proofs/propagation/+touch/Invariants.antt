@@ -1,6 +1,0 @@
-use Rattle.std.proofs.Common.{length}
-use Rattle.graph_tests.proofs.propagation.+touch.Given as goal
-
--- the steps that are left
-abbrev pub decreases-touch : goal.decreases-touch
-decreases-touch g l = length l.rows.now

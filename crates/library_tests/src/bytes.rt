@@ -1,0 +1,60 @@
+//! Counted writers and readers over those that take or give little at a time, are interrupted, and fail.
+use crate::devices::{SlowReader, SlowWriter};
+use std::alloc::Global;
+use std::io::{self, BufWriter};
+use std::process::Abort;
+use std::test::Fail;
+use text_io::{CountedReader, CountedWriter, Sink, Source};
+
+fn slow_and_failing_writers(rt: &impl Abort, alloc: Global) {
+    for (at_once, writes, is_taken, taken) in [
+        (9, 1, true, "first"),
+        (1, 5, true, "first"),
+        (1, 2, false, "fi"),
+        (2, 2, false, "firs"),
+        (0, 9, false, ""),
+        (9, 0, false, ""),
+    ] {
+        let mut sink = CountedWriter::new(SlowWriter::new(alloc, at_once, writes));
+        assert!(rt; sink.write(b"first").is_ok() == is_taken);
+        assert!(rt; sink.into_inner().taken.as_slice() == taken.as_bytes());
+    }
+}
+
+/// Whether a flush passes on what is buffered for a writer that makes so many writes of a byte.
+fn passes_on(alloc: Global, writes: usize) -> io::Result<bool> {
+    let writer = BufWriter::new(alloc, SlowWriter::new(alloc, 1, writes))?;
+    let mut sink = CountedWriter::new(writer);
+    Ok(
+        sink.write(b"kept").is_ok()
+            && sink.flush().is_ok()
+            && sink.into_inner().get_ref().taken.as_slice() == b"kept".as_slice(),
+    )
+}
+
+/// Only a flush passes on what is buffered.
+fn flush_passes_on(rt: &impl Abort, alloc: Global) -> io::Result<()> {
+    assert!(rt; passes_on(alloc, 4)?);
+    assert!(rt; !passes_on(alloc, 2)?);
+    Ok(())
+}
+
+fn slow_and_failing_readers(rt: &impl Abort) {
+    let mut buffer = [0; 4];
+    let mut slow = CountedReader::new(SlowReader::new(b"ab", 1, 2));
+    assert!(rt; slow.read(&mut buffer).ok() == Some(1));
+    assert!(rt; buffer[0] == b'a');
+    assert!(rt; slow.read(&mut buffer).ok() == Some(1));
+    assert!(rt; slow.read(&mut buffer).is_err());
+    let mut source = CountedReader::new(b"abc".as_slice());
+    assert!(rt; source.read(&mut buffer).ok() == Some(3));
+    assert!(rt; source.read(&mut buffer).ok() == Some(0));
+}
+
+#[test]
+fn bytes(rt: HostRuntime) -> Result<(), Fail> {
+    slow_and_failing_writers(&rt, rt.alloc());
+    flush_passes_on(&rt, rt.alloc())?;
+    slow_and_failing_readers(&rt);
+    Ok(())
+}
