@@ -1,5 +1,4 @@
 //! Evaluation from scratch: what is asked of a graph stage by stage.
-use crate::texts::CHAIN;
 use recording::read_recording;
 use scratch_eval::{Answers, QueryFault, chain, dependents_of, evaluate};
 use stage_graph::{Graph, Representation};
@@ -7,6 +6,7 @@ use stage_ops::{JavaOps, Meter};
 use std::alloc::Global;
 use std::process::Abort;
 use std::test::Fail;
+use test_kit::CHAIN;
 
 /// The marker of this module's meters.
 #[derive(Drop)]

@@ -1,9 +1,9 @@
 //! Counted writers and readers over those that take or give little at a time, are interrupted, and fail.
-use crate::devices::{SlowReader, SlowWriter};
 use std::alloc::Global;
 use std::io::{self, BufWriter};
 use std::process::Abort;
 use std::test::Fail;
+use test_kit::{SlowReader, SlowWriter};
 use text_io::{CountedReader, CountedWriter, Sink, Source};
 
 fn slow_and_failing_writers(rt: &impl Abort, alloc: Global) {
@@ -17,25 +17,19 @@ fn slow_and_failing_writers(rt: &impl Abort, alloc: Global) {
     ] {
         let mut sink = CountedWriter::new(SlowWriter::new(alloc, at_once, writes));
         assert!(rt; sink.write(b"first").is_ok() == is_taken);
-        assert!(rt; sink.into_inner().taken.as_slice() == taken.as_bytes());
+        assert!(rt; sink.into_inner().taken() == taken.as_bytes());
     }
 }
 
-/// Whether a flush passes on what is buffered for a writer that makes so many writes of a byte.
-fn passes_on(alloc: Global, writes: usize) -> io::Result<bool> {
-    let writer = BufWriter::new(alloc, SlowWriter::new(alloc, 1, writes))?;
-    let mut sink = CountedWriter::new(writer);
-    Ok(
-        sink.write(b"kept").is_ok()
-            && sink.flush().is_ok()
-            && sink.into_inner().get_ref().taken.as_slice() == b"kept".as_slice(),
-    )
-}
-
-/// Only a flush passes on what is buffered.
+/// Only a flush passes on what is buffered; where the writer fails meanwhile, so does the flush.
 fn flush_passes_on(rt: &impl Abort, alloc: Global) -> io::Result<()> {
-    assert!(rt; passes_on(alloc, 4)?);
-    assert!(rt; !passes_on(alloc, 2)?);
+    for (writes, is_passed_on, taken) in [(4, true, "kept"), (2, false, "ke")] {
+        let writer = BufWriter::new(alloc, SlowWriter::new(alloc, 1, writes))?;
+        let mut sink = CountedWriter::new(writer);
+        assert!(rt; sink.write(b"kept").is_ok());
+        assert!(rt; sink.flush().is_ok() == is_passed_on);
+        assert!(rt; sink.into_inner().get_ref().taken() == taken.as_bytes());
+    }
     Ok(())
 }
 

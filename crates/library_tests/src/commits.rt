@@ -2,8 +2,8 @@
 ghost use Rattle.std.specs.Prelude.{IfOk};
 ghost use Rattle.session_core.specs.Adding.{IsOfState};
 
+use crate::edits::edits_of;
 use crate::sessions::{number_of, table};
-use crate::texts::{FIRST_RUN, edits_of};
 use level_pool::OneThread;
 use session_core::{Refusal, Reply, Table, draft_of};
 use share_tree::{Again, Held};
@@ -11,6 +11,7 @@ use std::alloc::Global;
 use std::process::Abort;
 use std::test::Fail;
 use std::thread::Threads;
+use test_kit::FIRST_RUN;
 use version_store::{Draft, StateRepresentation, Version};
 
 /// A table of a recording, at whose version 0 session 1 stands.

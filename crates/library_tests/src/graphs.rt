@@ -1,12 +1,13 @@
 //! Edits of graphs: the graph that a step makes, or its refusal.
 ghost use Rattle.stage_graph.specs.Walk.{IsRanked};
 
-use crate::texts::{CHAIN, FIRST_RUN, edits_of};
+use crate::edits::edits_of;
 use recording::read_recording;
 use stage_graph::{Fault, Graph, Refusal, Refused, Representation, Stage};
 use std::alloc::{AllocError, Global};
 use std::process::Abort;
 use std::test::Fail;
+use test_kit::{CHAIN, FIRST_RUN};
 
 /// Writes places, with a space before each.
 fn push_places(text: &mut String, alloc: Global, places: &[u32]) -> Result<(), Fail> {

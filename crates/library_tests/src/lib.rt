@@ -1,7 +1,7 @@
 //! Tests of the libraries, through their public calls alone: of expressions, lists that share, runners, and bytes in and out; of
-//! what is read, and of what edits make of a graph, its order and its states; of versions and reports; of sessions and
-//! scripts; and of scripts at once. What is told of examples stands in `example_table`, the faults that are found and the
-//! answers to scripts in `tools/trial`, for the built program.
+//! what is read, and of what edits make of a graph, its order and its states; of versions and reports; and of sessions and
+//! scripts. What is told of examples stands in `example_table`, the faults that are found and the answers to scripts in
+//! `tools/trial`, for the built program, and scripts at once in `many_tests`.
 //!
 //! There is nothing here but tests: a crate with tests is proved twice, so those that need no private name of another crate
 //! stand here, in one crate, which reads the libraries once. They are generic in how a graph is kept, and `all` alone
@@ -13,13 +13,11 @@ mod all;
 #[cfg(test)]
 mod answers;
 #[cfg(test)]
-mod at_once;
-#[cfg(test)]
 mod bytes;
 #[cfg(test)]
 mod commits;
 #[cfg(test)]
-mod devices;
+mod edits;
 #[cfg(test)]
 mod expressions;
 #[cfg(test)]
@@ -33,6 +31,8 @@ mod lists;
 #[cfg(test)]
 mod orders;
 #[cfg(test)]
+mod pipes;
+#[cfg(test)]
 mod propagation;
 #[cfg(test)]
 mod recordings;
@@ -44,8 +44,6 @@ mod runners;
 mod scripts;
 #[cfg(test)]
 mod sessions;
-#[cfg(test)]
-mod texts;
 #[cfg(test)]
 mod versions;
 #[cfg(test)]

@@ -3,7 +3,7 @@ ghost use Rattle.std.specs.Prelude.{◌≡◌, IfOk};
 ghost use Rattle.stage_graph.specs.Walk.{IsRanked};
 ghost use Rattle.stage_graph.specs.Kept.{IsChangeBy};
 
-use crate::texts::{CHAIN, REWIRE_A, REWIRED, edits_of};
+use crate::edits::edits_of;
 use rank_order::{Order, OrderRepresentation, PatchFault};
 use recording::read_recording;
 use share_tree::Held;
@@ -11,6 +11,7 @@ use stage_graph::{Edits, Fault, Graph, NoStage};
 use std::alloc::{AllocError, Global};
 use std::process::Abort;
 use std::test::Fail;
+use test_kit::{CHAIN, REWIRE_A, REWIRED};
 
 fn loaded<R: OrderRepresentation>(alloc: Global, recording: &str) -> Result<Held<Graph<R>>, Fail>
     ensures { IfOk result (λ graph. IsRanked graph.places) }

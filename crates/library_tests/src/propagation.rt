@@ -5,7 +5,7 @@ ghost use Rattle.stage_ops.specs.Java.{java_step};
 ghost use Rattle.stage_ops.specs.JavaLaws.{java_reads_decide, java_blames_read, java_soon};
 ghost use Rattle.propagate.specs.Reach.{AreStates};
 
-use crate::texts::{CHAIN, COMPOSE_PICKS, FIRST_RUN, REWIRE_A, REWIRED, edits_of};
+use crate::edits::edits_of;
 use act_expr::Mode;
 use level_pool::OneThread;
 use propagate::{Old, Patched, StateRepresentation, States, propagate};
@@ -20,6 +20,7 @@ use std::process::Abort;
 use std::sync::atomic::{AtomicU64, Ordering};
 use std::test::Fail;
 use std::thread::Threads;
+use test_kit::{CHAIN, COMPOSE_PICKS, FIRST_RUN, REWIRE_A, REWIRED};
 
 /// The marker of the meters that count the computed stages.
 #[derive(Drop)]

@@ -1,6 +1,4 @@
 //! Reports: of places where no stage stands, and onto writers that take little at a time, nothing, or fail.
-use crate::devices::SlowWriter;
-use crate::texts::FIRST_RUN;
 use crate::versions::made;
 use level_pool::OneThread;
 use report_text::{CountedWriter, ReportFault, What, report};
@@ -8,6 +6,7 @@ use std::alloc::Global;
 use std::process::Abort;
 use std::test::Fail;
 use std::thread::Threads;
+use test_kit::{FIRST_RUN, SlowWriter};
 use version_store::{StateRepresentation, Version};
 
 /// `a` of the first run holds an exception itself.
@@ -59,7 +58,7 @@ fn ends_well<R: StateRepresentation>(
     let mut sink = CountedWriter::new(writer);
     let end = report(alloc, version, what, &mut sink);
     let writer = sink.into_inner();
-    is_taken(end, writer.taken.as_slice(), text.as_bytes())
+    is_taken(end, writer.taken(), text.as_bytes())
 }
 
 /// A report onto writers at which more and more writes succeed, each of at most so many bytes.

@@ -1,6 +1,5 @@
 //! Scripts on the first run by `serve`, with readers and writers that give or take little at a time, nothing, or fail.
-use crate::devices::{Pipe, PipeReader, PipeWriter, SlowReader, SlowWriter};
-use crate::texts::FIRST_RUN;
+use crate::pipes::{Pipe, PipeReader, PipeWriter};
 use level_pool::OneThread;
 use recording::read_recording;
 use report_json::Format;
@@ -10,6 +9,7 @@ use std::process::Abort;
 use std::sync::atomic::{AtomicU64, Ordering};
 use std::test::Fail;
 use std::thread::Threads;
+use test_kit::{FIRST_RUN, SlowReader, SlowWriter};
 use text_io::{CountedReader, CountedWriter};
 use version_store::StateRepresentation;
 
@@ -78,8 +78,8 @@ fn served<R: StateRepresentation, H: Abort + Threads + Sync>(
     let mut sink = CountedWriter::new(writer);
     let end = serve(alloc, &runner, &mut source, &mut sink, graph, Format::Text);
     let writer = sink.into_inner();
-    assert!(rt; answers.as_bytes().starts_with(writer.taken.as_slice()));
-    Ok((end, writer.taken.len()))
+    assert!(rt; answers.as_bytes().starts_with(writer.taken()));
+    Ok((end, writer.taken().len()))
 }
 
 /// A script whose reads give a byte each, up to one that fails: an answer is only written once its step was read.

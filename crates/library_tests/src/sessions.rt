@@ -1,7 +1,7 @@
 //! Sessions on a table of versions: the replies to what they ask.
 ghost use Rattle.std.specs.Prelude.{◌≤◌, ◌^◌};
 
-use crate::texts::{COMPOSE_PICKS, FIRST_RUN, edits_of};
+use crate::edits::edits_of;
 use level_pool::OneThread;
 use recording::read_recording;
 use session_core::{Event, Refusal, Reply, Table, TableFault, run};
@@ -11,6 +11,7 @@ use std::alloc::Global;
 use std::process::Abort;
 use std::test::Fail;
 use std::thread::Threads;
+use test_kit::{COMPOSE_PICKS, FIRST_RUN};
 use version_store::{StateRepresentation, Version};
 
 /// A table of a recording, with room for so many versions.

@@ -1,5 +1,5 @@
 //! Versions, and what is asked of them.
-use crate::texts::{CHAIN, edits_of};
+use crate::edits::edits_of;
 use act_expr::{Outcome, Value};
 use level_pool::Runner;
 use recording::read_recording;
@@ -9,6 +9,7 @@ use stage_ops::{Join, Meter};
 use std::alloc::Global;
 use std::process::Abort;
 use std::test::Fail;
+use test_kit::CHAIN;
 use version_store::{Before, NoStage, StateRepresentation, Version};
 
 /// The marker of the meters.

@@ -1,6 +1,5 @@
 //! Drafts by two workers: each touched stage is computed once, and two stages of one level at the same time.
 use crate::gates::Meeting;
-use crate::texts::{COMPOSE_PICKS, REWIRE_A, REWIRED};
 use crate::versions::made;
 use level_pool::{Gate, Scoped};
 use std::alloc::{AllocError, Global};
@@ -9,6 +8,7 @@ use std::sync::atomic::{AtomicU64, Ordering};
 use std::test::Fail;
 use std::thread::Threads;
 use std::time::Clock;
+use test_kit::{COMPOSE_PICKS, REWIRE_A, REWIRED};
 use version_store::{StateRepresentation, Version};
 
 /// A gate that counts how often each of the first eight pieces ran.

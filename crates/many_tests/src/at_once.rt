@@ -2,8 +2,7 @@
 ghost use Rattle.std.specs.Prelude.{◌≡◌, ◌≤◌, ◌<◌, ◌-◌, ◌^◌, All, IfOk, vec_len};
 ghost use Rattle.text_io.specs.Counted.{read_failures};
 
-use crate::devices::{SlowReader, SlowWriter, Turns};
-use crate::texts::{CHAIN, FIRST_RUN};
+use crate::turns::Turns;
 use many_scripts::{ManyFault, many};
 use recording::read_recording;
 use report_json::Format;
@@ -16,12 +15,13 @@ use std::sync::atomic::AtomicU64;
 use std::test::Fail;
 use std::thread::Threads;
 use std::time::Clock;
+use test_kit::{CHAIN, FIRST_RUN, SlowReader, SlowWriter};
 use text_io::{CountedReader, CountedWriter};
 
 /// As many bytes, reads or writes as a script can need.
 const MANY: usize = 1_000_000;
 
-/// How the scripts end with this writer, and what it has taken then.
+/// How the scripts end with this writer, and the writer then.
 fn played<H, R>(
     rt: H,
     alloc: Global,
@@ -29,7 +29,7 @@ fn played<H, R>(
     scripts: Vec<CountedReader<R>>,
     writer: SlowWriter,
     workers: usize,
-) -> Result<(Result<(), ManyFault>, Vec<u8>), Fail>
+) -> Result<(Result<(), ManyFault>, SlowWriter), Fail>
 where
     H: Threads + Wait + Copy + Drop + Send + Sync,
     R: Read + Send + Drop,
@@ -40,7 +40,7 @@ where
     let mut sink = CountedWriter::new(writer);
     let graph = read_recording::<InShared>(alloc, recording.as_bytes())?;
     let end = many(rt, alloc, scripts, &mut sink, graph, workers, Format::Text);
-    Ok((end, sink.into_inner().taken))
+    Ok((end, sink.into_inner()))
 }
 
 /// A script that gives 20 bytes at a read, and fails at the read after so many.
@@ -70,9 +70,9 @@ fn gives<H: Abort + Threads + Wait + Copy + Drop + Send + Sync>(
     requires { (1 ≤ workers) × (workers ≤ 16) }
 {
     let writer = SlowWriter::new(alloc, MANY, MANY);
-    let (end, taken) = played(rt, alloc, recording, alone(alloc, text)?, writer, workers)?;
+    let (end, writer) = played(rt, alloc, recording, alone(alloc, text)?, writer, workers)?;
     assert!(rt; end == Ok(()));
-    assert!(rt; taken.as_slice() == wanted.as_bytes());
+    assert!(rt; writer.taken() == wanted.as_bytes());
     Ok(())
 }
 
@@ -143,7 +143,7 @@ fn edit_list<H: Abort + Threads + Wait + Copy + Drop + Send + Sync>(
 fn two_at_once<H: Threads + Wait + Clock + Copy + Drop + Send + Sync>(
     rt: H,
     alloc: Global,
-) -> Result<(Result<(), ManyFault>, Vec<u8>), Fail> {
+) -> Result<(Result<(), ManyFault>, SlowWriter), Fail> {
     let one = AtomicU64::new(0);
     let two = AtomicU64::new(0);
     let scripts = vec![in alloc;
@@ -169,7 +169,7 @@ fn scripts_at_once<H: Abort + Threads + Wait + Clock + Copy + Drop + Send + Sync
     rt: H,
     alloc: Global,
 ) -> Result<(), Fail> {
-    let (end, taken) = two_at_once(rt, alloc)?;
+    let (end, writer) = two_at_once(rt, alloc)?;
     assert!(rt; end == Ok(()));
     let wanted = "script 1\n\
         opened 1 at 0\n\
@@ -178,7 +178,7 @@ fn scripts_at_once<H: Abort + Threads + Wait + Clock + Copy + Drop + Send + Sync
         opened 2 at 0\n\
         drift of version 0 from - moved 0\n\
         log 2\n";
-    assert!(rt; taken.as_slice() == wanted.as_bytes());
+    assert!(rt; writer.taken() == wanted.as_bytes());
     Ok(())
 }
 
@@ -196,9 +196,9 @@ fn second_of_three_fails<H: Abort + Threads + Wait + Copy + Drop + Send + Sync>(
             script(ONE_LINE, MANY),
         ]?;
         let writer = SlowWriter::new(alloc, MANY, MANY);
-        let (end, taken) = played(rt, alloc, FIRST_RUN, scripts, writer, 1)?;
+        let (end, writer) = played(rt, alloc, FIRST_RUN, scripts, writer, 1)?;
         assert!(rt; end == Err(ManyFault::Read));
-        assert!(rt; taken.is_empty());
+        assert!(rt; writer.taken().is_empty());
     }
     Ok(())
 }
@@ -211,14 +211,14 @@ fn failing_writers<H: Abort + Threads + Wait + Copy + Drop + Send + Sync>(
     let text = "script 1\nopened 1 at 0\nlog 1\n".as_bytes();
     for allowed in 0..=text.len() {
         let writer = SlowWriter::new(alloc, 1, allowed);
-        let (end, taken) = played(rt, alloc, FIRST_RUN, alone(alloc, ONE_LINE)?, writer, 1)?;
+        let (end, writer) = played(rt, alloc, FIRST_RUN, alone(alloc, ONE_LINE)?, writer, 1)?;
         let wanted = if allowed < text.len() {
             Err(ManyFault::Write)
         } else {
             Ok(())
         };
         assert!(rt; end == wanted);
-        assert!(rt; taken.as_slice() == &text[..allowed]);
+        assert!(rt; writer.taken() == &text[..allowed]);
     }
     Ok(())
 }
