@@ -3,12 +3,10 @@ ghost use Rattle.std.specs.Prelude.{◌≡◌, ◌++◌, IfOk, None, OnOk, map};
 ghost use Rattle.json.specs.Tree.{json_tokens};
 ghost use Rattle.recording_text.specs.Json.{feed_rows, row_tokens, rows_tokens};
 ghost use Rattle.recording_text.specs.Labels.{group_row, label_rows, labelled_head, labelled_json, labelled_text, plain_group, plain_head, plain_label};
-ghost use Rattle.recording_text.specs.Texts.{line_break};
 
 use crate::line::Line;
 use crate::members::{push_count, push_named_list, push_text};
 use crate::stage::{push_op, push_outcome_members, push_times};
-use crate::writing::line_break;
 use json::Token;
 use stage_graph::{NameList, Spec};
 use std::alloc::{AllocError, Global};
@@ -62,7 +60,7 @@ fn push_group(line: &mut Line, group: LabelGroup<'_>) -> Result<(), AllocError>
 pub(crate) fn labelled_head(alloc: Global, head: Head<'_>) -> Result<Vec<u8>, AllocError>
     ensures { IfOk result (λ text. text.items ≡ labelled_head None (plain_head head.entry)) }
 {
-    let mut line = Line::new(alloc);
+    let mut line = Line::new(alloc)?;
     line.token(Token::BeginObject)?;
     push_count(&mut line, "form", 2)?;
     push_labels(&mut line, head.labels)?;
@@ -100,26 +98,14 @@ fn push_labelled(line: &mut Line, stage: &Spec, labels: &[Label<'_>]) -> Result<
 }
 
 /// The JSON of a stage that bears labels, without a space.
-fn labelled_text(alloc: Global, stage: &Spec, labels: &[Label<'_>]) -> Result<Vec<u8>, AllocError>
-    ensures { IfOk result (λ text. text.items ≡ labelled_text (stage.now, map plain_label labels.now)) }
-{
-    let mut line = Line::new(alloc);
-    push_labelled(&mut line, stage, labels)?;
-    Ok(line.into_bytes())
-}
-
-/// The line of a stage that bears labels, behind what ends the line before it.
-pub(crate) fn labelled_line(
+pub(crate) fn labelled_text(
     alloc: Global,
     stage: &Spec,
     labels: &[Label<'_>],
-    later: bool,
 ) -> Result<Vec<u8>, AllocError>
-    ensures { IfOk result (λ line. line.items ≡ line_break later ++ labelled_text (stage.now, map plain_label labels.now)) }
+    ensures { IfOk result (λ text. text.items ≡ labelled_text (stage.now, map plain_label labels.now)) }
 {
-    let text = labelled_text(alloc, stage, labels)?;
-    let mut line = Vec::new(alloc);
-    line.extend_from_slice(line_break(later).as_bytes())?;
-    line.extend_from_slice(text.as_slice())?;
-    Ok(line)
+    let mut line = Line::new(alloc)?;
+    push_labelled(&mut line, stage, labels)?;
+    Ok(line.into_bytes())
 }

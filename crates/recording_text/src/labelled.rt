@@ -2,7 +2,8 @@
 ghost use Rattle.std.specs.Prelude.{◌≡◌, [], IfOk, OnErr, OnOk, length, map};
 ghost use Rattle.recording_text.specs.Labels.{GainsStage, IsFinished, begun, plain_head, plain_label};
 
-use crate::label::{Head, Label, labelled_head, labelled_line};
+use crate::label::{Head, Label, labelled_head, labelled_text};
+use crate::writing::line_break;
 use stage_graph::Spec;
 use std::alloc::{AllocError, Global};
 use std::marker::Model;
@@ -42,8 +43,14 @@ impl LabelledText {
         ensures ok { OnOk result (GainsStage self.old self.new (stage.now, map plain_label labels.now)) }
         ensures err { OnErr result (self.new ≡ self.old) }
     {
-        let line = labelled_line(self.alloc, stage, labels, self.has_stages)?;
-        self.bytes.extend_from_slice(line.as_slice())?;
+        let text = labelled_text(self.alloc, stage, labels)?;
+        let length = self.bytes.len();
+        self.bytes
+            .extend_from_slice(line_break(self.has_stages).as_bytes())?;
+        if let Err(fault) = self.bytes.extend_from_slice(text.as_slice()) {
+            self.bytes.truncate(length);
+            return Err(fault.into());
+        }
         self.has_stages = true;
         Ok(())
     }

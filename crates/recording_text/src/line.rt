@@ -9,6 +9,9 @@ use json::{Token, Writer};
 use std::alloc::{AllocError, Global};
 use std::marker::Model;
 
+/// So many bytes has the line of a usual stage at most.
+const ROOM: usize = 160;
+
 /// A line to which tokens are added. Contracts see it as its tokens.
 #[derive(Drop)]
 pub(crate) struct Line {
@@ -30,12 +33,12 @@ impl Model for Line {
 
 impl Line {
     /// A line without tokens.
-    pub(crate) fn new(alloc: Global) -> Line
-        ensures { result ≡ [] }
+    pub(crate) fn new(alloc: Global) -> Result<Line, AllocError>
+        ensures { IfOk result (λ line. line ≡ []) }
     {
-        Line {
-            writer: Writer::new(Vec::new(alloc)),
-        }
+        Ok(Line {
+            writer: Writer::new(Vec::with_capacity(alloc, ROOM)?),
+        })
     }
 
     /// Adds a token, with the comma that it needs.

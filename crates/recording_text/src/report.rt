@@ -182,7 +182,7 @@ fn report_object<R: Representation>(
 ) -> Result<Vec<u8>, AllocError>
     ensures { IfOk result (λ line. line.items ≡ report_object answered number graph.now) }
 {
-    let mut line = Line::new(alloc);
+    let mut line = Line::new(alloc)?;
     push_report(&mut line, graph, number, answered)?;
     let mut bytes = line.into_bytes();
     bytes.push(b'\n')?;

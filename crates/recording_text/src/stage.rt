@@ -123,7 +123,7 @@ pub(crate) fn stage_line<R: Representation>(
 ) -> Result<Vec<u8>, AllocError>
     ensures { IfOk result (λ line. line.items ≡ stage_text (named_stage graph.now.places stage.now)) }
 {
-    let mut line = Line::new(alloc);
+    let mut line = Line::new(alloc)?;
     push_stage(&mut line, graph, stage)?;
     Ok(line.into_bytes())
 }

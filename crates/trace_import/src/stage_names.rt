@@ -8,6 +8,9 @@ use std::fmt::Write;
 use trace_spans::TextList;
 use trace_stages::StageName;
 
+/// Room for most endings.
+const ROOM: usize = 16;
+
 /// The name of the span at a place.
 pub(crate) fn name_at(names: &TextList, place: usize) -> &str
     ensures { result.now ≡ name_at names.now place }
@@ -68,7 +71,12 @@ pub(crate) fn stage_name(
 ) -> Result<Name, AllocError>
     ensures { IfOk result (λ text. text ≡ stage_name names.now name) }
 {
-    let mut text = String::from_str(alloc, name_at(names, place_of(name)))?;
+    let of_span = name_at(names, place_of(name));
+    if let StageName::Whole(_) = name {
+        return Name::new(alloc, of_span);
+    }
+    let mut text = String::with_capacity(alloc, of_span.len().saturating_add(ROOM))?;
+    text.push_str(of_span)?;
     push_ending(&mut text, name)?;
     Name::new(alloc, text.as_str())
 }

@@ -9,5 +9,5 @@ returns c =
     c.into_bytes.ensures
     ∙ ap print
     (head_pushed (map plain_label c.args.head.labels.now) (plain_group c.args.head.group)
-    c.new-line.result c.token.new.self c.push_count.new.line c.push_labels.new.line c.push_group.new.line c.key.new.self c.token-2.new.self
-    c.new-line.ensures c.in_ok-token.ensures c.in_ok-push_count.ensures c.in_ok-push_labels.ensures c.in_ok-push_group.ensures c.in_ok-key.ensures c.in_ok-token-2.ensures)
+    c.in_ok-line.line c.token.new.self c.push_count.new.line c.push_labels.new.line c.push_group.new.line c.key.new.self c.token-2.new.self
+    c.in_ok-line.ensures c.in_ok-token.ensures c.in_ok-push_count.ensures c.in_ok-push_labels.ensures c.in_ok-push_group.ensures c.in_ok-key.ensures c.in_ok-token-2.ensures)

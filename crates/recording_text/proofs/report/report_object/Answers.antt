@@ -9,4 +9,4 @@ unfolding report_object
 returns g c =
     let tokens = json_tokens (report_json c.args.answered c.args.number c.args.graph.now) in
     c.in_ok-push.ensures.items
-    ∙ ap (λ l. l ++ 10 ∷ []) (c.into_bytes-bytes.ensures ∙ ap print (c.in_ok-push_report.ensures ∙ ap (λ l. l ++ tokens) c.new-line.ensures))
+    ∙ ap (λ l. l ++ 10 ∷ []) (c.into_bytes-bytes.ensures ∙ ap print (c.in_ok-push_report.ensures ∙ ap (λ l. l ++ tokens) c.in_ok-line.ensures))
