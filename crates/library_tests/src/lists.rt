@@ -7,7 +7,6 @@ ghost use Rattle.std.specs.Prelude.{◌≡◌, ◌≤◌, ◌++◌, ◌∷◌, [
 use share_tree::{Again, Held, KeepFault, Keeps, MOST_ITEMS, Shared};
 use std::alloc::{AllocError, Global};
 use std::process::Abort;
-use std::test::Fail;
 
 /// Whether an item stands at a place of a list.
 fn is_at<K: Keeps<u32>>(kept: &K, place: usize, item: u32) -> bool {
@@ -182,17 +181,25 @@ pub(crate) fn hold<K: Keeps<u32>>(rt: &impl Abort, alloc: Global) -> Result<(), 
     a_full_tree_grows::<K>(rt, alloc, 4_096)
 }
 
-#[test]
-fn a_held_value_is_had_again(rt: HostRuntime) -> Result<(), Fail> {
-    let seven = match Held::new(rt.alloc(), 7u32) {
+/// A list has a value that is held, and had again before it is pushed.
+fn a_held_value_is_had_again<K: Keeps<Held<u32>>>(
+    rt: &impl Abort,
+    alloc: Global,
+) -> Result<(), KeepFault> {
+    let seven = match Held::new(alloc, 7u32) {
         Ok(seven) => seven,
-        Err(_) => Held::new(rt.alloc(), 7)?,
+        Err(_) => Held::new(alloc, 7)?,
     };
-    let empty: Shared<Held<u32>> = Shared::empty(rt.alloc());
+    let empty = K::empty(alloc);
     let kept = match empty.push(seven.again()?) {
         Ok(kept) => kept,
         Err(_) => empty.push(seven)?,
     };
     assert!(rt; kept.get(0).is_some_and(|held| **held == 7));
     Ok(())
+}
+
+#[test]
+fn held_values(rt: HostRuntime) -> Result<(), KeepFault> {
+    a_held_value_is_had_again::<Shared<Held<u32>>>(&rt, rt.alloc())
 }
