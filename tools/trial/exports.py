@@ -379,10 +379,11 @@ FIXED = lines("reply thenApply rank 7 value:5499 at 73", "sources page", "inner 
 
 
 def fixed(program, top):
-    """What is told of the late reply in the version that its script made last, opened again."""
+    """What is told of the late reply in the version that its script made last, opened again, and shown in docs/TOUR.md."""
     files = {"r.json": read(top, "examples/late-reply.json"), "s": read(top, "examples/late-reply-why.script")}
     came = ran(program, ["export", "r.json", "s"], files)
-    return differ("explained", FIXED.encode(), ran(program, ["explain", "-", "reply"], {}, came))
+    unshown = "" if f"```\n{FIXED}```\n" in read(top, "docs/TOUR.md") else "docs/TOUR.md doesn't show it"
+    return differ("explained", FIXED.encode(), ran(program, ["explain", "-", "reply"], {}, came)) or unshown
 
 
 def exports(top, program):

@@ -1,4 +1,4 @@
-"""The examples, and what README.md shows of them."""
+"""The examples, and what README.md and docs/TOUR.md show of them."""
 import glob
 import os
 import re
@@ -7,6 +7,7 @@ from .run import Case
 
 COMMAND = re.compile(r"(?<!\| )\./whatif (report|explain|sweep|serve|export|many|import|draw)((?: [\w./-]+)+)(?: < (examples/[\w.-]+))?")
 BLOCK = re.compile(r"^```(\w*)\n(.*?)^```$", re.M | re.S)
+PAGES = ("README.md", os.path.join("docs", "TOUR.md"))
 
 
 def read(top, name):
@@ -58,12 +59,19 @@ def shown_case(top, page, command, blocks):
     return Case(f"{page}: {subcommand} {' '.join(words)}", [subcommand, *map(os.path.basename, words)], out, **how)
 
 
+def of_an_example(command):
+    """Whether what is shown is of a recording that lies in examples/: that of a trace, of a picture or of a recording that the program
+    has made is compared by traces.py, pictures.py and exports.py."""
+    subcommand, words, _ = command
+    return subcommand not in ("import", "draw") and "examples/" in words
+
+
 def readme_cases(top):
-    """What the page shows, and each example taken by the program."""
-    shown = shown_runs(read(top, "README.md"))
-    # (what is shown of a trace and of a picture, traces.py and pictures.py compare)
-    told = [(command, blocks) for command, blocks in shown if command[0] not in ("import", "draw")]
-    cases = [shown_case(top, "README", command, blocks) for command, blocks in told if not missing(top, command)]
+    """What the pages show, and each example taken by the program."""
+    cases = []
+    for page in PAGES:
+        told = [(command, blocks) for command, blocks in shown_runs(read(top, page)) if of_an_example(command)]
+        cases += [shown_case(top, page, command, blocks) for command, blocks in told if not missing(top, command)]
     for path in sorted(glob.glob(os.path.join(top, "examples", "*.json"))):
         name = os.path.basename(path)
         files = {name: read(top, path)}
@@ -75,19 +83,19 @@ def readme_cases(top):
 
 
 def told_apart(top):
-    """Where the page and the examples differ: the name of each check, its complaint or nothing, and no refusal.
+    """Where the pages and the examples differ: the name of each check, its complaint or nothing, and no refusal.
 
     Those of docs/MODELLING.md are its own."""
-    page = read(top, "README.md")
+    texts = {page: read(top, page) for page in PAGES}
     examples = [f"examples/{os.path.basename(it)}" for it in sorted(glob.glob(os.path.join(top, "examples", "*")))]
-    unnamed = [it for it in examples if it not in page and not it.startswith("examples/modelling-")]
-    yield "README names each example", f"it doesn't name {', '.join(unnamed)}" if unnamed else "", set()
-    for command, blocks in shown_runs(page):
+    unnamed = [it for it in examples if not any(it in text for text in texts.values()) and not it.startswith("examples/modelling-")]
+    yield f"{' or '.join(PAGES)} names each example", f"none names {', '.join(unnamed)}" if unnamed else "", set()
+    for page, (command, blocks) in ((page, it) for page, text in texts.items() for it in shown_runs(text)):
         _, words, script = command
         gone = missing(top, command)
         if gone:
-            yield f"README: the examples of {words.strip()} are there", f"these are not: {', '.join(gone)}", set()
+            yield f"{page}: the examples of {words.strip()} are there", f"these are not: {', '.join(gone)}", set()
         elif script and "json" not in words.split():
             steps = read(top, script).splitlines()
             strange = [it for it in "".join(blocks).splitlines() if it.startswith("{") and it not in steps]
-            yield f"README: its steps are those of {script}", f"these are not: {strange}" if strange else "", set()
+            yield f"{page}: its steps are those of {script}", f"these are not: {strange}" if strange else "", set()

@@ -305,10 +305,12 @@ def traces(top, program):
         came = run(program, Case(name, ["import", "--unit", unit, "-"], None, stdin=read(top, f"examples/{name}")))
         yield f"docs/TRACES.md shows the recording of {name}", unshown(came.out, page), set()
     told = run(program, Case("explain", ["explain", "-", "shop.POST-order"], None, stdin=came.out))
-    yield "README shows why the traced order was late", unshown(told.out, read(top, "README.md")), set()
+    tour = read(top, "docs/TOUR.md")
+    yield "docs/TOUR.md shows why the traced order was late", unshown(told.out, tour), set()
     script = read(top, "examples/late-order.script")
     told = run(program, Case("serve", ["serve", "r.json"], None, stdin=script, files={"r.json": came.out}))
-    yield "docs/TRACES.md shows what makes the traced order sooner", unshown(told.out, page), set()
+    for name, text in (("docs/TRACES.md", page), ("docs/TOUR.md", tour)):
+        yield f"{name} shows what makes the traced order sooner", unshown(told.out, text), set()
 
 
 def unshown(out, page):

@@ -337,7 +337,7 @@ TOLD = [
 ]
 
 EXAMPLES = os.path.join(os.path.dirname(os.path.dirname(os.path.dirname(os.path.realpath(__file__)))), "examples")
-# What is told of the stages of the late reply. (README.md shows that of `reply`.)
+# What is told of the stages of the late reply. (README.md and docs/TOUR.md show that of `reply`.)
 LATE_REPLY = [
     (
         ["explain", "stock-north"],

@@ -1,4 +1,7 @@
 //! An argument of a command, as data, and as clap has it.
+use crate::manner::FORMATS;
+use crate::picture::{PICTURE_FORMATS, ROWS_NAMES};
+use crate::traces::{READINGS, UNITS};
 use clap::{Arg, ArgAction, value_parser};
 use std::alloc::{AllocError, Global};
 
@@ -37,26 +40,16 @@ pub(crate) enum Takes {
 #[derive(Clone, Copy)]
 pub(crate) enum Choice {
     /// What an answer is written as.
-    Form,
+    Format,
     /// What a picture is written as.
     Picture,
     /// Which stages have a row in a picture.
-    Scope,
+    Rows,
     /// The unit of an imported recording's ticks.
     Unit,
     /// Whether something of a trace is inferred, or taken as it is told.
-    Inferred,
+    Reading,
 }
-
-static FORMS: [&str; 2] = ["text", "json"];
-
-static PICTURES: [&str; 2] = ["svg", "trace"];
-
-static SCOPES: [&str; 2] = ["all", "path"];
-
-static UNITS: [&str; 3] = ["us", "ns", "ms"];
-
-static INFERRED: [&str; 2] = ["inferred", "as-told"];
 
 /// The argument as clap has it.
 pub(crate) fn arg_of<'a>(alloc: Global, argument: Argument) -> Result<Arg<'a>, AllocError> {
@@ -92,10 +85,10 @@ fn number<'a>(arg: Arg<'a>, most: Option<u8>) -> Arg<'a> {
 
 fn one_of<'a>(arg: Arg<'a>, choice: Choice) -> Arg<'a> {
     match choice {
-        Choice::Form => arg.value_parser(&FORMS[..]).default_value("text"),
-        Choice::Picture => arg.value_parser(&PICTURES[..]).default_value("svg"),
-        Choice::Scope => arg.value_parser(&SCOPES[..]).default_value("all"),
+        Choice::Format => arg.value_parser(&FORMATS[..]).default_value("text"),
+        Choice::Picture => arg.value_parser(&PICTURE_FORMATS[..]).default_value("svg"),
+        Choice::Rows => arg.value_parser(&ROWS_NAMES[..]).default_value("all"),
         Choice::Unit => arg.value_parser(&UNITS[..]).default_value("us"),
-        Choice::Inferred => arg.value_parser(&INFERRED[..]).default_value("inferred"),
+        Choice::Reading => arg.value_parser(&READINGS[..]).default_value("inferred"),
     }
 }

@@ -1,7 +1,22 @@
-//! The words of the command line.
+//! The command line: what the program can be told to do, as types, and the words and the help of it.
 #![tactic(auto)]
 
 mod argument;
+mod command;
+mod input;
+mod manner;
+mod names;
+mod parsing;
+mod picture;
+mod scripts;
+mod subcommand;
+mod traces;
 mod words;
 
-pub use words::{MOST_SCRIPTS, MOST_WORKERS, VERSION, command, without_help_of_help};
+pub use command::{Command, CommandLine};
+pub use input::Input;
+pub use manner::{Format, Manner};
+pub use parsing::{WordsFault, parsed, without_help_of_help};
+pub use picture::{Picture, PictureFormat, Rows};
+pub use scripts::Scripts;
+pub use traces::{Mapping, Reading, Unit, Wanted};

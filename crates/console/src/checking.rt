@@ -5,7 +5,7 @@ use crate::file_name::FileName;
 use crate::input;
 use crate::remembering::{Remembering, with_reason};
 use crate::voice::Voice;
-use clap::ArgMatches;
+use command_line::{Input, Manner};
 use diagnosis::{Findings, Lined, examine_recording, lines_of, trace_like};
 use recording::{Fault as ReadingFault, read_recording};
 use stage_graph::{Graph, InShared};
@@ -45,10 +45,14 @@ fn write_findings<W: Write>(
 
 /// Prints every fault of a recording, and every member that nothing reads; the status is 1 where there is a fault, or a
 /// warning that is to count as one.
-pub fn run_check<'a>(rt: &'a HostRuntime, matches: &ArgMatches<'a>) -> Result<ExitCode, Fault> {
+pub fn run_check<'a>(
+    rt: &'a HostRuntime,
+    manner: Manner,
+    input: Input<'a>,
+) -> Result<ExitCode, Fault> {
     let alloc = rt.alloc();
-    let voice = Voice::new(rt, matches);
-    let recording = input::recording(rt, voice, matches.get_str("FILE"))?;
+    let voice = Voice::new(rt, manner, input);
+    let recording = input::recording(rt, voice, input)?;
     let refusal = refusal(alloc, &recording);
     if let Some(ReadingFault::Memory) = refusal {
         return Err(Fault::Memory);

@@ -5,6 +5,7 @@ ghost use Rattle.stage_graph.specs.Walk.{IsRanked};
 use crate::explaining::why_refused;
 use crate::fault::Fault;
 use crate::voice::Voice;
+use command_line::Input;
 use recording::read_recording;
 use stage_graph::{Graph, Representation};
 use std::alloc::Global;
@@ -57,14 +58,14 @@ pub fn graph<R: Representation>(
     }
 }
 
-/// The bytes of the recording in a file, or of standard input where there is none or it is `-`.
-pub fn recording(rt: &HostRuntime, voice: Voice<'_>, path: Option<&str>) -> Result<Vec<u8>, Fault> {
-    bytes(rt, voice, "recording", path, MOST_OF_RECORDING)
+/// The bytes of a recording.
+pub fn recording(rt: &HostRuntime, voice: Voice<'_>, input: Input<'_>) -> Result<Vec<u8>, Fault> {
+    bytes(rt, voice, "recording", input, MOST_OF_RECORDING)
 }
 
-/// The bytes of the trace in a file, or of standard input where there is none or it is `-`.
-pub fn trace(rt: &HostRuntime, voice: Voice<'_>, path: Option<&str>) -> Result<Vec<u8>, Fault> {
-    bytes(rt, voice, "trace", path, MOST_OF_TRACE)
+/// The bytes of a trace.
+pub fn trace(rt: &HostRuntime, voice: Voice<'_>, input: Input<'_>) -> Result<Vec<u8>, Fault> {
+    bytes(rt, voice, "trace", input, MOST_OF_TRACE)
 }
 
 /// The bytes of the recording in a file.
@@ -94,15 +95,15 @@ fn bytes(
     rt: &HostRuntime,
     voice: Voice<'_>,
     what: &str,
-    path: Option<&str>,
+    input: Input<'_>,
     most: u64,
 ) -> Result<Vec<u8>, Fault> {
-    match path {
-        None | Some("-") => {
+    match input {
+        Input::Standard => {
             voice.say_what_is_read(what);
             read_whole(rt.alloc(), voice, rt.stdin(), most, 0)
         }
-        Some(path) => {
+        Input::File(path) => {
             let file = opened(rt, voice, path, Named::Recording)?;
             bytes_of_file(rt.alloc(), voice, file, most)
         }

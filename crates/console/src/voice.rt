@@ -1,7 +1,7 @@
 //! What is said to people, on standard error. A fault of writing there changes nothing.
 use crate::file_name::FileName;
 use crate::reasons::reason_of;
-use clap::ArgMatches;
+use command_line::{Input, Manner};
 use std::alloc::AllocError;
 use std::fmt::Display;
 use std::io::{self, IsTerminal};
@@ -20,24 +20,24 @@ pub struct Voice<'a> {
 }
 
 impl<'a> Voice<'a> {
-    /// Tells of the file that is named, or of standard input where none is, or `-`.
-    pub fn new(rt: &'a HostRuntime, matches: &ArgMatches<'a>) -> Voice<'a> {
-        let file = match matches.get_str("FILE") {
-            None | Some("-") => "standard input",
-            Some(path) => path,
+    /// Tells of a file, or of standard input.
+    pub fn new(rt: &'a HostRuntime, manner: Manner, input: Input<'a>) -> Voice<'a> {
+        let file = match input {
+            Input::Standard => "standard input",
+            Input::File(path) => path,
         };
-        Voice::of_file(rt, matches, file)
+        Voice::of_file(rt, manner, file)
     }
 
     /// Tells of the file of this name.
-    pub fn of_file(rt: &'a HostRuntime, matches: &ArgMatches<'a>, file: &'a str) -> Voice<'a> {
+    pub fn of_file(rt: &'a HostRuntime, manner: Manner, file: &'a str) -> Voice<'a> {
         Voice {
             rt,
             file,
             script: None,
             trace: None,
-            is_quiet: matches.get_flag("quiet"),
-            is_strict: matches.get_flag("strict"),
+            is_quiet: manner.is_quiet,
+            is_strict: manner.is_strict,
         }
     }
 

@@ -5,13 +5,13 @@ ghost use Rattle.text_io.specs.Counted.{read_failures};
 
 use crate::fault::ended;
 use crate::format::format_of;
-use clap::ArgMatches;
-use command_line::{MOST_SCRIPTS, MOST_WORKERS};
+use command_line::{Manner, Scripts};
 use console::{
     Fault, KeepingSink, KeptScript, Named, StepTeller, Voice, explained, file, graph,
     opened_scripts, unread_scripts, warn, with_reason, with_unread_script,
 };
 use many_scripts::many;
+use report_json::Format;
 use stage_graph::{Graph, InShared};
 use std::alloc::Global;
 use std::cell::Cell;
@@ -24,18 +24,14 @@ fn answered<H: Threads + Wait + Copy + Drop + Send + Sync>(
     rt: &HostRuntime,
     threads: H,
     voice: Voice<'_>,
-    matches: &ArgMatches<'_>,
-    paths: &[&str],
-    scripts: &mut [KeptScript],
+    format: Format,
+    scripts: &Scripts<'_>,
+    kept: &mut [KeptScript],
     graph: Graph<InShared>,
 ) -> Result<Option<Vec<u8>>, Fault>
     requires { IsRanked graph.places }
 {
-    let workers = matches.get_one::<usize>("workers").unwrap_or(1);
-    if paths.is_empty() || paths.len() > MOST_SCRIPTS || workers == 0 || workers > MOST_WORKERS {
-        return Err(Fault::CommandLine);
-    }
-    let sources = opened_scripts(rt, voice, paths, scripts)?;
+    let sources = opened_scripts(rt, voice, scripts.paths(), kept)?;
     let reason = Cell::new(None);
     let output = console::output(rt, &reason)?;
     let is_wanted = !voice.is_quiet() || voice.is_strict();
@@ -46,8 +42,8 @@ fn answered<H: Threads + Wait + Copy + Drop + Send + Sync>(
         sources,
         &mut sink,
         graph,
-        workers,
-        format_of(matches),
+        scripts.workers().count(),
+        format,
     );
     with_reason(voice, &reason, ended(end))?;
     Ok(sink.into_answers())
@@ -58,20 +54,20 @@ fn answered<H: Threads + Wait + Copy + Drop + Send + Sync>(
 pub(crate) fn run_many<'a, H: Threads + Wait + Copy + Drop + Send + Sync>(
     rt: &'a HostRuntime,
     threads: H,
-    matches: &ArgMatches<'a>,
+    manner: Manner,
+    path: &'a str,
+    scripts: &Scripts<'a>,
 ) -> Result<(), Fault> {
-    let Some(path) = matches.get_str("FILE") else {
-        return Err(Fault::CommandLine);
-    };
-    let paths = matches.get_strs("SCRIPT").unwrap_or(&[]);
-    let voice = Voice::of_file(rt, matches, path);
+    let voice = Voice::of_file(rt, manner, path);
     let recording = file(rt, voice, path, Named::Recording)?;
     warn(rt.alloc(), voice, &recording)?;
     let graph = graph(rt.alloc(), voice, &recording)?;
-    let mut scripts = unread_scripts(rt.alloc(), paths.len(), !voice.is_quiet())?;
-    let end = answered(rt, threads, voice, matches, paths, &mut scripts, graph);
-    match with_unread_script(voice, paths, &scripts, end)? {
-        Some(answers) => tell_of_steps(rt.alloc(), voice, recording, paths, &scripts, &answers),
+    let paths = scripts.paths();
+    let mut kept = unread_scripts(rt.alloc(), paths.len(), !voice.is_quiet())?;
+    let format = format_of(manner);
+    let end = answered(rt, threads, voice, format, scripts, &mut kept, graph);
+    match with_unread_script(voice, paths, &kept, end)? {
+        Some(answers) => tell_of_steps(rt.alloc(), voice, recording, paths, &kept, &answers),
         None if voice.is_strict() => Err(Fault::Memory),
         None => Ok(()),
     }

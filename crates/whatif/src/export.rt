@@ -4,7 +4,7 @@ ghost use Rattle.stage_graph.specs.Walk.{IsRanked};
 ghost use Rattle.text_io.specs.Counted.{write_failures};
 
 use crate::fault::{served, written};
-use clap::ArgMatches;
+use command_line::Manner;
 use console::{
     Fault, ListeningSink, ListeningSource, Named, Remembering, StepTeller, Voice, Watch, flushed,
     opened, warn, with_read_reason, with_reason,
@@ -26,15 +26,11 @@ use version_store::{StateRepresentation, Version};
 pub(crate) fn run_export<'a, K: StateRepresentation, W: Runner>(
     rt: &'a HostRuntime,
     runner: &W,
-    matches: &ArgMatches<'a>,
+    manner: Manner,
+    path: &'a str,
+    script: &'a str,
 ) -> Result<(), Fault> {
-    let Some(path) = matches.get_str("FILE") else {
-        return Err(Fault::CommandLine);
-    };
-    let Some(script) = matches.get_str("SCRIPT") else {
-        return Err(Fault::CommandLine);
-    };
-    let voice = Voice::of_file(rt, matches, path);
+    let voice = Voice::of_file(rt, manner, path);
     let recording = console::file(rt, voice, path, Named::Recording)?;
     warn(rt.alloc(), voice, &recording)?;
     match console::graph::<K>(rt.alloc(), voice, &recording) {

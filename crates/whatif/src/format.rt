@@ -1,40 +1,15 @@
 //! What answers are written as, and refusals that end the program.
-use clap::ArgMatches;
+use command_line::Manner;
 use console::{Fault, fault_line, reason_of};
 use report_json::Format;
 use std::io;
 use std::process::ExitCode;
 
 /// What answers are written as.
-pub(crate) fn format_of(matches: &ArgMatches<'_>) -> Format {
-    match matches.get_str("format") {
-        Some("json") => Format::Json,
-        _ => Format::Text,
-    }
-}
-
-/// How it is told why the program ends early.
-#[derive(Clone, Copy)]
-pub(crate) struct Manner {
-    format: Format,
-    is_quiet: bool,
-}
-
-impl Manner {
-    /// Where the command line names nothing to do.
-    pub(crate) fn of_no_command() -> Manner {
-        Manner {
-            format: Format::Text,
-            is_quiet: false,
-        }
-    }
-
-    /// What the words of a command ask for.
-    pub(crate) fn of(matches: &ArgMatches<'_>) -> Manner {
-        Manner {
-            format: format_of(matches),
-            is_quiet: matches.get_flag("quiet"),
-        }
+pub(crate) fn format_of(manner: Manner) -> Format {
+    match manner.format {
+        command_line::Format::Text => Format::Text,
+        command_line::Format::Json => Format::Json,
     }
 }
 
@@ -67,7 +42,7 @@ pub(crate) fn refuse(rt: &HostRuntime, manner: Manner, fault: &Fault) -> ExitCod
             let _ = rt.eprintln(format_args!("{fault}"));
             Ok(())
         }
-        _ => print_refusal(rt, manner.format, fault),
+        _ => print_refusal(rt, format_of(manner), fault),
     };
     say(rt, fault.why());
     match printed {

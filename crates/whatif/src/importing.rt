@@ -1,6 +1,6 @@
 //! Recordings made from traces.
 use crate::format::format_of;
-use clap::ArgMatches;
+use command_line::{Input, Manner, Reading, Wanted};
 use console::{Fault, Voice, flushed, imported, imported_each, listed, output, trace, with_reason};
 use report_json::Format;
 use std::alloc::{AllocError, Global};
@@ -12,43 +12,49 @@ use trace_import::{AsTold, Mapping, Options, Unit, import, import_each};
 use trace_spans::{Summary, list_traces, row_json};
 
 /// Whether something of a trace is to be taken as it is told.
-fn is_told(matches: &ArgMatches<'_>, what: &str) -> bool {
-    matches.get_str(what) == Some("as-told")
+fn is_told(reading: Reading) -> bool {
+    match reading {
+        Reading::Inferred => false,
+        Reading::AsTold => true,
+    }
+}
+
+/// The unit of ticks that the command line asks for.
+fn unit_of(unit: command_line::Unit) -> Unit {
+    match unit {
+        command_line::Unit::Nanosecond => Unit::Nanosecond,
+        command_line::Unit::Microsecond => Unit::Microsecond,
+        command_line::Unit::Millisecond => Unit::Millisecond,
+    }
 }
 
 /// How the command line asks traces to be mapped.
-fn mapping_of(matches: &ArgMatches<'_>) -> Result<Mapping, Fault> {
-    let Some(unit) = matches.get_str("unit").and_then(Unit::new) else {
-        return Err(Fault::CommandLine);
-    };
-    Ok(Mapping {
-        unit,
+fn mapping_of(mapping: command_line::Mapping) -> Mapping {
+    Mapping {
+        unit: unit_of(mapping.unit),
         as_told: AsTold {
-            clocks: is_told(matches, "clocks"),
-            calls: is_told(matches, "calls"),
+            clocks: is_told(mapping.clocks),
+            calls: is_told(mapping.calls),
         },
-    })
+    }
 }
 
 /// Answers what the command line asks of a trace, or of the traces of a file.
 pub(crate) fn run_import<'a>(
     rt: &'a HostRuntime,
-    matches: &ArgMatches<'a>,
+    manner: Manner,
+    input: Input<'a>,
+    wanted: Wanted<'a>,
+    mapping: command_line::Mapping,
 ) -> Result<ExitCode, Fault> {
-    let mapping = mapping_of(matches)?;
-    let voice = Voice::new(rt, matches);
-    let bytes = trace(rt, voice, matches.get_str("FILE"))?;
-    if matches.get_flag("list") {
-        return run_list(rt, voice, format_of(matches), mapping, &bytes);
+    let mapping = mapping_of(mapping);
+    let voice = Voice::new(rt, manner, input);
+    let bytes = trace(rt, voice, input)?;
+    match wanted {
+        Wanted::List => run_list(rt, voice, format_of(manner), mapping, &bytes),
+        Wanted::Each => run_import_each(rt, voice, mapping, &bytes),
+        Wanted::One(trace) => run_import_one(rt, voice, Options { trace, mapping }, &bytes),
     }
-    if matches.get_flag("each") {
-        return run_import_each(rt, voice, mapping, &bytes);
-    }
-    let options = Options {
-        trace: matches.get_str("trace"),
-        mapping,
-    };
-    run_import_one(rt, voice, options, &bytes)
 }
 
 /// Writes the recording that a trace makes.

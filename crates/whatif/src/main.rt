@@ -11,18 +11,21 @@ mod format;
 mod importing;
 
 use at_once::run_many;
-use clap::ArgMatches;
 use command_help::told;
-use command_line::{command, without_help_of_help};
+use command_line::{
+    Command, CommandLine, Input, Manner, Picture, PictureFormat, Rows, WordsFault, parsed,
+    without_help_of_help,
+};
 use console::{
     Fault, ListeningSink, ListeningSource, Named, Remembering, StepTeller, Voice, Watch, flushed,
     run_check, warn, why_no_stage, with_explanation, with_read_reason, with_reason,
 };
 use export::run_export;
 use fault::{reported, served};
-use format::{Manner, format_of, refuse};
+use format::{format_of, refuse};
+use importing::run_import;
 use level_pool::{OneThread, Pooled, Runner};
-use recording_pictures::{Asked, Form as PictureForm, draw_recording, scope_named};
+use recording_pictures::{Asked, Form as PictureForm, draw_recording};
 use recording_reports::{StageReport, report_all, report_stage};
 use report_json::Format;
 use script_lines::AT_ONCE;
@@ -35,61 +38,73 @@ use std::process::ExitCode;
 use std::sync::Wait;
 use std::thread::Threads;
 use text_io::{Sink, Source};
+use version_rows::Scope;
 use version_store::StateRepresentation;
 
 fn main(rt: HostRuntime) -> ExitCode {
-    let manner = Cell::new(Manner::of_no_command());
-    match run::<InShared, _, _>(&rt, rt, &OneThread::new(&rt), &manner) {
+    match run::<InShared, _, _>(&rt, rt, &OneThread::new(&rt)) {
         Ok(code) => code,
-        Err(fault) => refuse(&rt, manner.get(), &fault),
+        Err(fault) => refuse(&rt, Manner::plain(), &fault),
     }
 }
 
-/// Answers the command line; graphs and versions keep their lists as `K` says.
+/// Answers the command line; graphs and versions keep their lists as `K` says. What ends an answer early is told in the
+/// manner that the command line asks for.
 fn run<K: StateRepresentation, H: Threads + Wait + Copy + Drop + Send + Sync, W: Runner>(
     rt: &HostRuntime,
     threads: H,
     runner: &W,
-    manner: &Cell<Manner>,
 ) -> Result<ExitCode, Fault> {
-    let alloc = rt.alloc();
     let words = words(rt)?;
-    let command = command(alloc)?;
-    match command.try_get_matches_from(words.as_slice()) {
-        Ok(matches) => answer::<K, _, _>(rt, threads, runner, &matches, manner),
-        Err(error) => match told(rt, &error) {
+    match parsed(rt.alloc(), words.as_slice()) {
+        Ok(CommandLine { command, manner }) => {
+            match answer::<K, _, _>(rt, threads, runner, manner, command) {
+                Ok(code) => Ok(code),
+                Err(fault) => Ok(refuse(rt, manner, &fault)),
+            }
+        }
+        Err(WordsFault::Told(error)) => match told(rt, &error) {
             Ok(code) => Ok(code),
-            Err(fault) => Err(Fault::of_told(alloc, fault)),
+            Err(fault) => Err(Fault::of_told(rt.alloc(), fault)),
         },
+        Err(WordsFault::Missing) => Err(Fault::CommandLine),
     }
 }
 
-/// Answers what the command line asks for, in the manner that it asks for.
+/// Does what the command line asks for, in the manner that it asks for.
 fn answer<'a, K: StateRepresentation, H: Threads + Wait + Copy + Drop + Send + Sync, W: Runner>(
     rt: &'a HostRuntime,
     threads: H,
     runner: &W,
-    matches: &ArgMatches<'a>,
-    manner: &Cell<Manner>,
+    manner: Manner,
+    command: Command<'a>,
 ) -> Result<ExitCode, Fault> {
-    let Some((name, matches)) = matches.subcommand() else {
-        return Err(Fault::CommandLine);
-    };
-    manner.set(Manner::of(matches));
-    match name {
-        "report" => run_report::<K>(rt, matches)?,
-        "explain" => run_report_stage::<K, _>(rt, threads, matches, StageReport::Explanation)?,
-        "sweep" => {
-            let most = matches.get_one::<usize>("top");
-            run_report_stage::<K, _>(rt, threads, matches, StageReport::Sweep { most })?
+    match command {
+        Command::Report { recording } => run_report::<K>(rt, manner, recording)?,
+        Command::Explain { recording, stage } => {
+            let asked = StageReport::Explanation;
+            run_report_stage::<K, _>(rt, threads, manner, recording, stage, asked)?
         }
-        "draw" => run_draw::<K>(rt, matches)?,
-        "check" => return run_check(rt, matches),
-        "import" => return importing::run_import(rt, matches),
-        "serve" => run_serve::<K, _>(rt, runner, matches)?,
-        "export" => run_export::<K, _>(rt, runner, matches)?,
-        "many" => run_many(rt, threads, matches)?,
-        _ => return Err(Fault::CommandLine),
+        Command::Sweep {
+            recording,
+            stage,
+            most,
+        } => {
+            let asked = StageReport::Sweep { most };
+            run_report_stage::<K, _>(rt, threads, manner, recording, stage, asked)?
+        }
+        Command::Draw { recording, picture } => run_draw::<K>(rt, manner, recording, picture)?,
+        Command::Check { recording } => return run_check(rt, manner, recording),
+        Command::Serve { recording } => run_serve::<K, _>(rt, runner, manner, recording)?,
+        Command::Export { recording, script } => {
+            run_export::<K, _>(rt, runner, manner, recording, script)?
+        }
+        Command::Many { recording, scripts } => run_many(rt, threads, manner, recording, &scripts)?,
+        Command::Import {
+            trace,
+            wanted,
+            mapping,
+        } => return run_import(rt, manner, trace, wanted, mapping),
     }
     Ok(ExitCode::SUCCESS)
 }
@@ -110,17 +125,18 @@ fn words(rt: &HostRuntime) -> Result<Vec<String>, Fault> {
 /// Prints the report of all stages of a recording.
 fn run_report<'a, K: StateRepresentation>(
     rt: &'a HostRuntime,
-    matches: &ArgMatches<'a>,
+    manner: Manner,
+    input: Input<'a>,
 ) -> Result<(), Fault> {
-    let voice = Voice::new(rt, matches);
-    let recording = console::recording(rt, voice, matches.get_str("FILE"))?;
+    let voice = Voice::new(rt, manner, input);
+    let recording = console::recording(rt, voice, input)?;
     warn(rt.alloc(), voice, &recording)?;
     let reason = Cell::new(None);
     let mut sink = console::output(rt, &reason)?;
     let end = report_all::<K, _>(
         rt.alloc(),
         &recording,
-        format_of(matches).form(None),
+        format_of(manner).form(None),
         &mut sink,
     );
     let end = flushed(&mut sink, reported(end));
@@ -136,14 +152,13 @@ fn run_report<'a, K: StateRepresentation>(
 fn run_report_stage<'a, K: StateRepresentation, H: Threads + Wait + Copy + Drop + Send + Sync>(
     rt: &'a HostRuntime,
     threads: H,
-    matches: &ArgMatches<'a>,
+    manner: Manner,
+    input: Input<'a>,
+    name: &str,
     asked: StageReport,
 ) -> Result<(), Fault> {
-    let Some(name) = matches.get_str("STAGE") else {
-        return Err(Fault::CommandLine);
-    };
-    let voice = Voice::new(rt, matches);
-    let recording = console::recording(rt, voice, matches.get_str("FILE"))?;
+    let voice = Voice::new(rt, manner, input);
+    let recording = console::recording(rt, voice, input)?;
     warn(rt.alloc(), voice, &recording)?;
     let reason = Cell::new(None);
     let mut sink = console::output(rt, &reason)?;
@@ -153,7 +168,7 @@ fn run_report_stage<'a, K: StateRepresentation, H: Threads + Wait + Copy + Drop 
         name,
         asked,
         &Pooled::new(&threads),
-        format_of(matches).form(None),
+        format_of(manner).form(None),
         &mut sink,
     );
     let end = with_reason(voice, &reason, flushed(&mut sink, reported(end)));
@@ -177,24 +192,30 @@ fn with_name_explained(
 }
 
 /// The picture that the command line asks for.
-fn asked<'a>(matches: &ArgMatches<'a>) -> Option<Asked<'a>> {
-    Some(Asked {
-        form: PictureForm::new(matches.get_str("format")?)?,
-        scope: scope_named(matches.get_str("what")?)?,
-        stage: matches.get_str("stage"),
-    })
+fn asked<'a>(picture: Picture<'a>) -> Asked<'a> {
+    Asked {
+        form: match picture.format {
+            PictureFormat::Svg => PictureForm::Svg,
+            PictureFormat::TraceEvents => PictureForm::TraceEvents,
+        },
+        scope: match picture.rows {
+            Rows::All => Scope::All,
+            Rows::Path => Scope::Path,
+        },
+        stage: picture.path_of,
+    }
 }
 
 /// Writes a picture of a recording.
 fn run_draw<'a, K: StateRepresentation>(
     rt: &'a HostRuntime,
-    matches: &ArgMatches<'a>,
+    manner: Manner,
+    input: Input<'a>,
+    picture: Picture<'a>,
 ) -> Result<(), Fault> {
-    let Some(asked) = asked(matches) else {
-        return Err(Fault::CommandLine);
-    };
-    let voice = Voice::new(rt, matches);
-    let recording = console::recording(rt, voice, matches.get_str("FILE"))?;
+    let asked = asked(picture);
+    let voice = Voice::new(rt, manner, input);
+    let recording = console::recording(rt, voice, input)?;
     warn(rt.alloc(), voice, &recording)?;
     let reason = Cell::new(None);
     let mut sink = console::output(rt, &reason)?;
@@ -208,18 +229,16 @@ fn run_draw<'a, K: StateRepresentation>(
 fn run_serve<'a, K: StateRepresentation, W: Runner>(
     rt: &'a HostRuntime,
     runner: &W,
-    matches: &ArgMatches<'a>,
+    manner: Manner,
+    path: &'a str,
 ) -> Result<(), Fault> {
-    let Some(path) = matches.get_str("FILE") else {
-        return Err(Fault::CommandLine);
-    };
-    let voice = Voice::of_file(rt, matches, path);
+    let voice = Voice::of_file(rt, manner, path);
     let recording = console::file(rt, voice, path, Named::RecordingOfInput)?;
     warn(rt.alloc(), voice, &recording)?;
     match console::graph::<K>(rt.alloc(), voice, &recording) {
         Ok(graph) => {
             let teller = StepTeller::new(rt.alloc(), voice, recording);
-            serve_listening(rt, runner, voice, teller, graph, format_of(matches))
+            serve_listening(rt, runner, voice, teller, graph, format_of(manner))
         }
         Err(fault) => Err(fault.before_script(rt.alloc())),
     }

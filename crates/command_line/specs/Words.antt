@@ -1,0 +1,47 @@
+-- What the words of the command line ask for. Where an option is left out it has no word.
+use Rattle.std.specs.Prelude.{ℕ, List, Option, None, Some, bytes_eq, codes, if◌then◌else◌}
+use Rattle.command_line.specs.declared.input.Input.{Input}
+use Rattle.command_line.specs.declared.input.Input.TheVariants.{Standard, File}
+use Rattle.command_line.specs.declared.manner.Format.{Format}
+use Rattle.command_line.specs.declared.manner.Format.TheVariants.{Text, Json}
+use Rattle.command_line.specs.declared.picture.PictureFormat.{PictureFormat}
+use Rattle.command_line.specs.declared.picture.PictureFormat.TheVariants.{Svg, TraceEvents}
+use Rattle.command_line.specs.declared.picture.Rows.{Rows}
+use Rattle.command_line.specs.declared.picture.Rows.TheVariants as rows
+use Rattle.command_line.specs.declared.traces.Unit.{Unit}
+use Rattle.command_line.specs.declared.traces.Unit.TheVariants.{Microsecond, Nanosecond, Millisecond}
+use Rattle.command_line.specs.declared.traces.Reading.{Reading}
+use Rattle.command_line.specs.declared.traces.Reading.TheVariants.{Inferred, AsTold}
+
+-- the path of a file; standard input has none
+abbrev pub path_of : Input → Option (List ℕ)
+path_of Standard = None
+path_of (File path) = Some path.now
+
+-- the path that a word names: `-` is standard input
+abbrev pub wanted_path : Option (List ℕ) → Option (List ℕ)
+wanted_path None = None
+wanted_path (Some word) = if bytes_eq word (codes "-") then None else Some word
+
+abbrev pub format_of : Option (List ℕ) → Format
+format_of None = Text
+format_of (Some word) = if bytes_eq word (codes "json") then Json else Text
+
+abbrev pub picture_format_of : Option (List ℕ) → PictureFormat
+picture_format_of None = Svg
+picture_format_of (Some word) = if bytes_eq word (codes "trace") then TraceEvents else Svg
+
+abbrev pub rows_of : Option (List ℕ) → Rows
+rows_of None = rows.All
+rows_of (Some word) = if bytes_eq word (codes "path") then rows.Path else rows.All
+
+abbrev pub unit_of : Option (List ℕ) → Unit
+unit_of None = Microsecond
+unit_of (Some word) =
+    if bytes_eq word (codes "ns") then Nanosecond
+    else if bytes_eq word (codes "ms") then Millisecond
+    else Microsecond
+
+abbrev pub reading_of : Option (List ℕ) → Reading
+reading_of None = Inferred
+reading_of (Some word) = if bytes_eq word (codes "as-told") then AsTold else Inferred

@@ -1,0 +1,63 @@
+//! What the program is told to do.
+use crate::input::Input;
+use crate::manner::Manner;
+use crate::picture::Picture;
+use crate::scripts::Scripts;
+use crate::traces::{Mapping, Wanted};
+
+/// What the program is told to do. A recording by a path alone stands in a file, as standard input has the script or is not
+/// read.
+#[derive(Debug, Drop)]
+pub enum Command<'a> {
+    /// To print each stage of a recording.
+    Report {
+        recording: Input<'a>,
+    },
+    /// To print how a stage ended, and why.
+    Explain {
+        recording: Input<'a>,
+        stage: &'a str,
+    },
+    /// To print which stages would make a stage complete sooner, and no more of them than `most`.
+    Sweep {
+        recording: Input<'a>,
+        stage: &'a str,
+        most: Option<usize>,
+    },
+    /// To write a picture of a recording.
+    Draw {
+        recording: Input<'a>,
+        picture: Picture<'a>,
+    },
+    /// To print every fault of a recording.
+    Check {
+        recording: Input<'a>,
+    },
+    /// To answer the steps that come on standard input.
+    Serve {
+        recording: &'a str,
+    },
+    /// To write the version that a script made last.
+    Export {
+        recording: &'a str,
+        script: &'a str,
+    },
+    /// To answer several scripts at once.
+    Many {
+        recording: &'a str,
+        scripts: Scripts<'a>,
+    },
+    /// To write the recordings that traces make, or to list them.
+    Import {
+        trace: Input<'a>,
+        wanted: Wanted<'a>,
+        mapping: Mapping,
+    },
+}
+
+/// What the words of the command line ask for.
+#[derive(Debug, Drop)]
+pub struct CommandLine<'a> {
+    pub command: Command<'a>,
+    pub manner: Manner,
+}

@@ -1,0 +1,35 @@
+//! The names of arguments: those of options stand after two dashes.
+
+pub(crate) const FILE: &str = "FILE";
+
+pub(crate) const STAGE: &str = "STAGE";
+
+pub(crate) const SCRIPT: &str = "SCRIPT";
+
+pub(crate) const QUIET: &str = "quiet";
+
+pub(crate) const STRICT: &str = "strict";
+
+pub(crate) const FORMAT: &str = "format";
+
+pub(crate) const TOP: &str = "top";
+
+pub(crate) const WORKERS: &str = "workers";
+
+/// The stage whose path is drawn.
+pub(crate) const PATH_OF: &str = "stage";
+
+/// Which stages have a row in a picture.
+pub(crate) const ROWS: &str = "what";
+
+pub(crate) const LIST: &str = "list";
+
+pub(crate) const EACH: &str = "each";
+
+pub(crate) const TRACE: &str = "trace";
+
+pub(crate) const UNIT: &str = "unit";
+
+pub(crate) const CLOCKS: &str = "clocks";
+
+pub(crate) const CALLS: &str = "calls";

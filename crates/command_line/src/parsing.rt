@@ -1,0 +1,191 @@
+//! From the words of the command line to what they ask for.
+ghost use Rattle.std.specs.Prelude.{◌≡◌, codes, None, Some, false, true, option_map};
+ghost use Rattle.clap.specs.Matches.{first_value, found_of, one_text};
+ghost use Rattle.command_line.specs.Words.{format_of, path_of, picture_format_of, reading_of, rows_of, unit_of, wanted_path};
+ghost use Rattle.command_line.specs.declared.traces.Wanted.TheVariants.{List, Each};
+
+use crate::command::{Command, CommandLine};
+use crate::input::Input;
+use crate::manner::{Format, Manner};
+use crate::names;
+use crate::picture::{Picture, PictureFormat, Rows};
+use crate::scripts::Scripts;
+use crate::subcommand::{Subcommand, command};
+use crate::traces::{Mapping, Reading, Unit, Wanted};
+use crate::words::MOST_WORKERS;
+use clap::ArgMatches;
+use level_pool::Workers;
+use std::alloc::{AllocError, Global};
+
+/// Why the words ask for nothing that the program can do.
+#[derive(Debug, Drop)]
+pub enum WordsFault {
+    /// There is something to say in place of an answer: help or the version that was asked for, or what is wrong with the
+    /// words; or memory ran out.
+    Told(clap::Error),
+    /// A word is missing that clap requires, or is one that it refuses, so what it takes is never so.
+    Missing,
+}
+
+impl From<clap::Error> for WordsFault {
+    fn from(error: clap::Error) -> WordsFault {
+        WordsFault::Told(error)
+    }
+}
+
+impl From<AllocError> for WordsFault {
+    fn from(error: AllocError) -> WordsFault {
+        WordsFault::Told(clap::Error::from(error))
+    }
+}
+
+/// Leaves out what asks for the help of `help` itself, whose help is that of the program.
+pub fn without_help_of_help(words: &mut Vec<String>) {
+    let asks_for_help = match words.get(1) {
+        Some(word) => word.as_str() == "help",
+        None => false,
+    };
+    if asks_for_help {
+        words.retain(|word| word.as_str() != "--help" && word.as_str() != "-h");
+    }
+}
+
+/// What the words of the command line ask for.
+pub fn parsed<'a>(alloc: Global, words: &'a [String]) -> Result<CommandLine<'a>, WordsFault> {
+    let matches = command(alloc)?.try_get_matches_from(words)?;
+    let (name, matches) = required(matches.subcommand())?;
+    let subcommand = required(Subcommand::named(name))?;
+    let command = command_of(alloc, subcommand, matches)?;
+    Ok(CommandLine {
+        command,
+        manner: manner_of(matches),
+    })
+}
+
+/// What clap sees to: that a word is there, and is one that is taken.
+fn required<T: Drop>(word: Option<T>) -> Result<T, WordsFault> {
+    word.ok_or(WordsFault::Missing)
+}
+
+/// What a subcommand's words ask for.
+fn command_of<'a>(
+    alloc: Global,
+    subcommand: Subcommand,
+    matches: &ArgMatches<'a>,
+) -> Result<Command<'a>, WordsFault> {
+    Ok(match subcommand {
+        Subcommand::Report => Command::Report {
+            recording: input_of(matches),
+        },
+        Subcommand::Explain => Command::Explain {
+            recording: input_of(matches),
+            stage: stage_of(matches)?,
+        },
+        Subcommand::Sweep => Command::Sweep {
+            recording: input_of(matches),
+            stage: stage_of(matches)?,
+            most: matches.get_one::<usize>(names::TOP),
+        },
+        Subcommand::Draw => Command::Draw {
+            recording: input_of(matches),
+            picture: picture_of(matches),
+        },
+        Subcommand::Check => Command::Check {
+            recording: input_of(matches),
+        },
+        Subcommand::Serve => Command::Serve {
+            recording: file_of(matches)?,
+        },
+        Subcommand::Export => Command::Export {
+            recording: file_of(matches)?,
+            script: required(matches.get_str(names::SCRIPT))?,
+        },
+        Subcommand::Many => Command::Many {
+            recording: file_of(matches)?,
+            scripts: scripts_of(alloc, matches)?,
+        },
+        Subcommand::Import => Command::Import {
+            trace: input_of(matches),
+            wanted: wanted_of(matches),
+            mapping: mapping_of(matches),
+        },
+    })
+}
+
+fn manner_of(matches: &ArgMatches<'_>) -> Manner
+    ensures format { result.format ≡ format_of (first_value (found_of matches.now) (codes "format")) }
+    ensures quiet { one_text (found_of matches.now) (codes "quiet") ≡ Some (codes "true") → result.is_quiet ≡ true }
+    ensures loud { one_text (found_of matches.now) (codes "quiet") ≡ None → result.is_quiet ≡ false }
+    ensures strict { one_text (found_of matches.now) (codes "strict") ≡ Some (codes "true") → result.is_strict ≡ true }
+    ensures lenient { one_text (found_of matches.now) (codes "strict") ≡ None → result.is_strict ≡ false }
+{
+    Manner {
+        format: Format::of(matches.get_str(names::FORMAT)),
+        is_quiet: matches.get_flag(names::QUIET),
+        is_strict: matches.get_flag(names::STRICT),
+    }
+}
+
+fn input_of<'a>(matches: &ArgMatches<'a>) -> Input<'a>
+    ensures { path_of result ≡ wanted_path (first_value (found_of matches.now) (codes "FILE")) }
+{
+    Input::of(matches.get_str(names::FILE))
+}
+
+fn file_of<'a>(matches: &ArgMatches<'a>) -> Result<&'a str, WordsFault> {
+    required(matches.get_str(names::FILE))
+}
+
+fn stage_of<'a>(matches: &ArgMatches<'a>) -> Result<&'a str, WordsFault> {
+    required(matches.get_str(names::STAGE))
+}
+
+fn picture_of<'a>(matches: &ArgMatches<'a>) -> Picture<'a>
+    ensures format { result.format ≡ picture_format_of (first_value (found_of matches.now) (codes "format")) }
+    ensures rows { result.rows ≡ rows_of (first_value (found_of matches.now) (codes "what")) }
+    ensures path { option_map (λ stage. stage.now) result.path_of ≡ first_value (found_of matches.now) (codes "stage") }
+{
+    Picture {
+        format: PictureFormat::of(matches.get_str(names::FORMAT)),
+        rows: Rows::of(matches.get_str(names::ROWS)),
+        path_of: matches.get_str(names::PATH_OF),
+    }
+}
+
+fn scripts_of<'a>(alloc: Global, matches: &ArgMatches<'a>) -> Result<Scripts<'a>, WordsFault> {
+    let paths = required(matches.get_strs(names::SCRIPT))?;
+    required(Scripts::new(alloc, paths, workers_of(matches)?)?)
+}
+
+fn workers_of(matches: &ArgMatches<'_>) -> Result<Workers, WordsFault> {
+    let count = required(matches.get_one::<usize>(names::WORKERS))?;
+    if count == 0 || count > MOST_WORKERS {
+        return Err(WordsFault::Missing);
+    }
+    Ok(Workers::new(count))
+}
+
+fn wanted_of<'a>(matches: &ArgMatches<'a>) -> Wanted<'a>
+    ensures list { one_text (found_of matches.now) (codes "list") ≡ Some (codes "true") → result ≡ List }
+    ensures each { one_text (found_of matches.now) (codes "list") ≡ None → one_text (found_of matches.now) (codes "each") ≡ Some (codes "true") → result ≡ Each }
+{
+    if matches.get_flag(names::LIST) {
+        Wanted::List
+    } else if matches.get_flag(names::EACH) {
+        Wanted::Each
+    } else {
+        Wanted::One(matches.get_str(names::TRACE))
+    }
+}
+
+fn mapping_of(matches: &ArgMatches<'_>) -> Mapping
+    ensures unit { result.unit ≡ unit_of (first_value (found_of matches.now) (codes "unit")) }
+    ensures clocks { result.clocks ≡ reading_of (first_value (found_of matches.now) (codes "clocks")) }
+    ensures calls { result.calls ≡ reading_of (first_value (found_of matches.now) (codes "calls")) }
+{
+    Mapping {
+        unit: Unit::of(matches.get_str(names::UNIT)),
+        clocks: Reading::of(matches.get_str(names::CLOCKS)),
+        calls: Reading::of(matches.get_str(names::CALLS)),
+    }
+}
