@@ -146,20 +146,19 @@ fn two_at_once<H: Threads + Wait + Clock + Copy + Drop + Send + Sync>(
 ) -> Result<(Result<(), ManyFault>, SlowWriter), Fail> {
     let one = AtomicU64::new(0);
     let two = AtomicU64::new(0);
-    let scripts = vec![in alloc;
-        CountedReader::new(Turns {
-            clock: rt,
-            rest: b"{\"do\":\"open\",\"session\":1,\"version\":0}\n{\"do\":\"report\",\"version\":0,\"what\":\"drift\"}\n",
-            reads: &one,
-            other: &two
-        }),
-        CountedReader::new(Turns {
-            clock: rt,
-            rest: b"{\"do\":\"open\",\"session\":2,\"version\":0}\n{\"do\":\"report\",\"version\":0,\"what\":\"drift\"}\n",
-            reads: &two,
-            other: &one
-        }),
-    ]?;
+    let mut scripts = Vec::new(alloc);
+    scripts.push(CountedReader::new(Turns {
+        clock: rt,
+        rest: b"{\"do\":\"open\",\"session\":1,\"version\":0}\n{\"do\":\"report\",\"version\":0,\"what\":\"drift\"}\n",
+        reads: &one,
+        other: &two,
+    }))?;
+    scripts.push(CountedReader::new(Turns {
+        clock: rt,
+        rest: b"{\"do\":\"open\",\"session\":2,\"version\":0}\n{\"do\":\"report\",\"version\":0,\"what\":\"drift\"}\n",
+        reads: &two,
+        other: &one,
+    }))?;
     let writer = SlowWriter::new(alloc, MANY, MANY);
     played(rt, alloc, FIRST_RUN, scripts, writer, 1)
 }
