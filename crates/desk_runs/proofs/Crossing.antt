@@ -9,11 +9,11 @@ use Rattle.stage_graph.proofs.Crossing.{edits_send, edits_sync}
 use Rattle.desk.proofs.Crossing.{client_send, desk_sync}
 use Rattle.desk.proofs.SharedCrossing.{states_send, states_sync, ranks_send, ranks_sync, dependents_send, dependents_sync, stages_send, stages_sync}
 use Rattle.desk.specs.declared.name.Naming as Naming
-use Rattle.job_bench.specs.contracts.clients.seats.Seat as seat
-use Rattle.job_bench.specs.contracts.clients.steps.Answer as answer
-use Rattle.job_bench.specs.contracts.clients.steps.Request as request
-use Rattle.job_bench.specs.contracts.clients.steps.Script as script
-use Rattle.job_bench.specs.contracts.clients.steps.Step as step
+use Rattle.desk_runs.specs.contracts.seats.Seat as seat
+use Rattle.desk_runs.specs.contracts.steps.Answer as answer
+use Rattle.desk_runs.specs.contracts.steps.Request as request
+use Rattle.desk_runs.specs.contracts.steps.Script as script
+use Rattle.desk_runs.specs.contracts.steps.Step as step
 
 request_send : IsSend request.the_row
 request_send = search (sendable, crosses, edits_send, edits_sync) depth 60 fits 100000

@@ -1,5 +1,5 @@
 //! What a client does, one step after the other, and what it is answered.
-use crate::clients::signals::{Signals, Way};
+use crate::signals::{Signals, Way};
 use desk::{EditFault, ReadFault};
 use session_core::{Entry, Event, Refusal, Reply, TableFault};
 use share_tree::Held;

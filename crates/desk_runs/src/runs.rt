@@ -3,18 +3,18 @@ ghost use Rattle.std.specs.Prelude.{◌≡◌, ◌≤◌, ◌^◌};
 ghost use Rattle.version_store.specs.Plain.{opening_version};
 ghost use Rattle.session_core.specs.Machine.{opening};
 
-use crate::clients::checking::{MOST, text_of_walks};
-use crate::clients::closing::{text_of_close, text_of_closes};
-use crate::clients::examples::{
+use crate::checking::{MOST, text_of_walks};
+use crate::closing::{text_of_close, text_of_closes};
+use crate::examples::{
     asks_in_vain, commits_often, edits_at_gate, text_of_commits, text_of_meeting, text_of_refusals,
     undoes_meanwhile,
 };
-use crate::clients::measures::Plan;
-use crate::clients::seats::{Played, play_all};
-use crate::clients::signals::{Signals, Way};
-use crate::clients::stages::{MANY_STAGES, TWO_STAGES, opened};
-use crate::clients::steps::Script;
-use crate::clients::walks::walks;
+use crate::measures::Plan;
+use crate::seats::{Played, play_all};
+use crate::signals::{Signals, Way};
+use crate::stages::{MANY_STAGES, TWO_STAGES, opened};
+use crate::steps::Script;
+use crate::walks::walks;
 use desk::{Client, Desk, Naming, NewArchive, start};
 use stage_graph::InShared;
 use std::alloc::{AllocError, Global};

@@ -1,7 +1,7 @@
 //! The clients in threads of their own.
-use crate::clients::asking::{Access, play};
-use crate::clients::signals::{Gated, Signals};
-use crate::clients::steps::Script;
+use crate::asking::{Access, play};
+use crate::signals::{Gated, Signals};
+use crate::steps::Script;
 use desk::{Client, Desk, Naming};
 use stage_graph::InShared;
 use std::alloc::{AllocError, Global};

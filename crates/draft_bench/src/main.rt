@@ -1,31 +1,38 @@
-//! How long a draft of a version takes, against evaluation of its graph from scratch: a recording is loaded, and then so many
-//! versions are made, each a draft of the last one by one list of edits, which sets how long each of some stages runs.
+//! How long a draft of a version takes, against evaluation of its graph from scratch.
+//!
+//! `draft_bench FILE EDITS STAGE..` loads the recording, and then makes so many versions, each a draft of the last one by
+//! one list of edits, which sets how long each of the named stages runs. Without words it does nothing, so that the gate
+//! builds it and doesn't time it.
+#![tactic(auto)]
+
 ghost use Rattle.std.specs.Prelude.{IfOk};
 ghost use Rattle.stage_graph.specs.Walk.{IsRanked};
 
-use crate::clock::{now, since};
 use anyhow::{Result, bail};
-use level_pool::Runner;
+use level_pool::{OneThread, Runner};
 use recording::read_recording;
 use scratch_eval::evaluate;
 use share_tree::Held;
-use stage_graph::{Edit, Edits, Graph, Name};
+use stage_graph::{Edit, Edits, Graph, InShared, Name};
 use stage_ops::{JavaOps, Meter};
 use std::alloc::Global;
-use std::time::Clock;
+use std::env;
+use std::fs::File;
+use std::io::Read;
+use std::thread::Threads;
+use std::time::{Clock, Instant};
 use version_store::{StateRepresentation, Version};
 
-/// The marker of these meters.
+/// The marker of this program's meters.
 #[derive(Drop)]
 struct Measured;
 
 /// What is measured.
-#[derive(Clone, Copy)]
-pub(crate) struct Plan<'a> {
-    pub(crate) recording: &'a [u8],
-    pub(crate) edits: u32,
-    /// The stages whose times are set.
-    pub(crate) stages: &'a [String],
+#[derive(Drop)]
+struct Plan {
+    path: String,
+    edits: u32,
+    stages: Vec<String>,
 }
 
 /// The graph of a recording.
@@ -88,14 +95,27 @@ fn drafted_in<R: StateRepresentation, W: Runner>(
 fn draft_all<R: StateRepresentation, W: Runner>(
     alloc: Global,
     runner: &W,
-    plan: Plan<'_>,
+    plan: &Plan,
     first: Version<R>,
 ) -> Result<usize> {
     let mut last = first;
     for turn in 0..plan.edits {
-        last = drafted_in(alloc, runner, &last, plan.stages, turn)?;
+        last = drafted_in(alloc, runner, &last, plan.stages.as_slice(), turn)?;
     }
     Ok(last.touched().len())
+}
+
+/// The moment by the clock.
+fn now(clock: &impl Clock) -> Option<Instant> {
+    Instant::now(clock).ok()
+}
+
+/// The microseconds since a moment.
+fn micros_since(clock: &impl Clock, start: Option<Instant>) -> u128 {
+    match start.and_then(|start| start.elapsed(clock).ok()) {
+        Some(took) => took.as_micros(),
+        None => 0,
+    }
 }
 
 /// The microseconds of one evaluation of the graph from scratch.
@@ -109,7 +129,7 @@ fn evaluated<R: StateRepresentation, H: Clock>(
     let start = now(rt);
     let mut meter = Meter::new(Measured);
     let _answers = evaluate(alloc, graph, &JavaOps, &mut meter)?;
-    Ok(since(rt, start).as_micros())
+    Ok(micros_since(rt, start))
 }
 
 /// Version 0 of a graph, and the microseconds that it took.
@@ -122,7 +142,7 @@ fn loaded<R: StateRepresentation, H: Clock>(
 {
     let start = now(rt);
     let version = Version::load(alloc, graph)?;
-    Ok((version, since(rt, start).as_micros()))
+    Ok((version, micros_since(rt, start)))
 }
 
 /// What was measured: microseconds, and how many stages the last draft touches.
@@ -139,7 +159,7 @@ fn timed<R: StateRepresentation, W: Runner, H: Clock>(
     alloc: Global,
     runner: &W,
     graph: Graph<R>,
-    plan: Plan<'_>,
+    plan: &Plan,
 ) -> Result<Times>
     requires { IsRanked graph.places }
 {
@@ -149,18 +169,19 @@ fn timed<R: StateRepresentation, W: Runner, H: Clock>(
     Ok(Times {
         loading,
         touched,
-        drafts: since(rt, start).as_micros(),
+        drafts: micros_since(rt, start),
     })
 }
 
 /// The line of what was measured of a recording.
-pub(crate) fn line_of<R: StateRepresentation, W: Runner, H: Clock>(
+fn line_of<R: StateRepresentation, W: Runner, H: Clock>(
     rt: &H,
     alloc: Global,
     runner: &W,
-    plan: Plan<'_>,
+    recording: &[u8],
+    plan: &Plan,
 ) -> Result<String> {
-    let graph: Graph<R> = read(alloc, plan.recording)?;
+    let graph: Graph<R> = read(alloc, recording)?;
     let stages = graph.len();
     let scratch = evaluated(rt, alloc, &graph)?;
     let Times {
@@ -172,4 +193,39 @@ pub(crate) fn line_of<R: StateRepresentation, W: Runner, H: Clock>(
         "{stages} stages: from scratch {scratch} us, version 0 {loading} us, {} drafts of {touched} touched {drafts} us",
         plan.edits
     )?)
+}
+
+/// The line of what was measured of a recording, with shared lists and in one thread.
+fn shared_line<H: Threads + Clock + Sync>(
+    rt: &H,
+    alloc: Global,
+    recording: &[u8],
+    plan: &Plan,
+) -> Result<String> {
+    line_of::<InShared, OneThread<H>, H>(rt, alloc, &OneThread::new(rt), recording, plan)
+}
+
+/// The plan of the words behind the name of the program, if there are any.
+fn plan_of(alloc: Global, words: Vec<String>) -> Result<Option<Plan>> {
+    let mut words = words.into_iter();
+    let (Some(path), Some(edits)) = (words.next(), words.next()) else {
+        return Ok(None);
+    };
+    Ok(Some(Plan {
+        edits: edits.parse()?,
+        path,
+        stages: words.collect(alloc)?,
+    }))
+}
+
+fn main(rt: HostRuntime) -> Result<()> {
+    let words = env::args(&rt)?.skip(1).collect(rt.alloc())?;
+    let Some(plan) = plan_of(rt.alloc(), words)? else {
+        return Ok(());
+    };
+    let mut recording = Vec::new(rt.alloc());
+    File::open(&rt, plan.path.as_str())?.read_to_end(&mut recording)?;
+    let line = shared_line(&rt, rt.alloc(), &recording, &plan)?;
+    println!(rt; "{line}")?;
+    Ok(())
 }

@@ -1,10 +1,10 @@
 //! What a closed desk's log tells goes together with the machine, and each version with evaluation from scratch.
 ghost use Rattle.std.specs.Prelude.{◌≡◌};
 
-use crate::clients::closing::log_of;
-use crate::clients::stages::{MANY_STAGES, opened};
-use crate::clients::steps::Script;
-use crate::clients::walks::all_agree;
+use crate::closing::log_of;
+use crate::stages::{MANY_STAGES, opened};
+use crate::steps::Script;
+use crate::walks::all_agree;
 use desk::{Client, CloseFault, Desk, Known, Log, Naming, ReadFault};
 use level_pool::OneThread;
 use scratch_eval::{Answers, evaluate};

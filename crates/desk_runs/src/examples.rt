@@ -1,7 +1,7 @@
 //! Two clients that meet, what a desk refuses, and clients that find their own commits.
-use crate::clients::signals::{ENTERED, Way};
-use crate::clients::stages::set_times;
-use crate::clients::steps::{Answer, Request, Script, Step, edit};
+use crate::signals::{ENTERED, Way};
+use crate::stages::set_times;
+use crate::steps::{Answer, Request, Script, Step, edit};
 use session_core::{Event, Refusal, Reply};
 use std::alloc::{AllocError, Global};
 

@@ -1,8 +1,7 @@
 //! What clients ask of their desk.
-use crate::clients::signals::Signals;
-use crate::clients::stages::{ONE_STAGE, opened};
-use crate::clients::steps::{Answer, Request, Step};
-use crate::clock::{now, since};
+use crate::signals::Signals;
+use crate::stages::{ONE_STAGE, opened};
+use crate::steps::{Answer, Request, Step};
 use desk::{Client, Desk, EditFault, Known, Naming};
 use level_pool::Runner;
 use session_core::{Event, Reply};
@@ -224,9 +223,17 @@ fn holds<N: Naming, K: StateRepresentation>(
     }
 }
 
+/// The moment by the clock.
+fn now(clock: &impl Clock) -> Option<Instant> {
+    Instant::now(clock).ok()
+}
+
 /// The nanoseconds since a moment.
 fn nanos_since(clock: &impl Clock, start: Option<Instant>) -> u64 {
-    (since(clock, start).as_nanos() % 18_446_744_073_709_551_616) as u64
+    match start.and_then(|start| start.elapsed(clock).ok()) {
+        Some(took) => (took.as_nanos() % 18_446_744_073_709_551_616) as u64,
+        None => 0,
+    }
 }
 
 /// A client takes a step. Answers the version at hand after it.

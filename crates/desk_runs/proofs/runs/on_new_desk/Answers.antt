@@ -1,6 +1,6 @@
 use denote.Param.Send.{sendable}
 use Rattle.desk.proofs.SharedCrossing.{stages_send, stages_sync}
-use Rattle.job_bench.proofs.clients.runs.on_new_desk.Goals as goal
+use Rattle.desk_runs.proofs.runs.on_new_desk.Goals as goal
 
 pub new-archive-requires-send-R-Stages : goal.new-archive-requires-send-R-Stages
 new-archive-requires-send-R-Stages g c κs = search (sendable, stages_send)

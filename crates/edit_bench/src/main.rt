@@ -1,17 +1,22 @@
-//! How long single edits of a graph take, and what the graphs that they leave cost to keep: of a chain of so many stages so
-//! many edits of one kind are made, each on the graph that the last one left.
-use crate::clock::{now, since};
+//! How long single edits of a graph take, and what the graphs that they leave cost to keep.
+//!
+//! `edit_bench KIND STAGES EDITS [keep]` makes a chain of so many stages, and then so many edits of
+//! one kind, each on the graph that the last one left; with `keep` all graphs are kept to the end.
+//! Without words it does nothing, so that the gate builds it and doesn't time it.
+#![tactic(auto)]
+
 use act_expr::{Expr, Form, Mode, Outcome, Value};
 use anyhow::{Result, bail};
 use stage_graph::{
-    Act, Edit, Edits, End, Ends, Graph, Name, NameList, Op, Representation, Spec, Specs,
+    Act, Edit, Edits, End, Ends, Graph, InShared, Name, NameList, Op, Representation, Spec, Specs,
 };
 use std::alloc::{AllocError, Global};
-use std::time::Clock;
+use std::env;
+use std::time::Instant;
 
 /// Which edit is made.
 #[derive(Clone, Copy)]
-pub(crate) enum Kind {
+enum Kind {
     PinResult,
     PinMoment,
     SetTimes,
@@ -23,17 +28,16 @@ pub(crate) enum Kind {
 }
 
 impl Kind {
-    /// The edit of a name.
-    pub(crate) fn named(word: &str) -> Option<Kind> {
-        match word {
-            "pin-result" => Some(Kind::PinResult),
-            "pin-moment" => Some(Kind::PinMoment),
-            "set-times" => Some(Kind::SetTimes),
-            "set-action" => Some(Kind::SetAction),
-            "set-ends" => Some(Kind::SetEnds),
-            "rewire" => Some(Kind::Rewire),
-            "add" => Some(Kind::Add),
-            "remove" => Some(Kind::Remove),
+    fn named(word: &str) -> Option<Kind> {
+        match word.as_bytes() {
+            b"pin-result" => Some(Kind::PinResult),
+            b"pin-moment" => Some(Kind::PinMoment),
+            b"set-times" => Some(Kind::SetTimes),
+            b"set-action" => Some(Kind::SetAction),
+            b"set-ends" => Some(Kind::SetEnds),
+            b"rewire" => Some(Kind::Rewire),
+            b"add" => Some(Kind::Add),
+            b"remove" => Some(Kind::Remove),
             _ => None,
         }
     }
@@ -141,12 +145,11 @@ fn edited<R: Representation>(alloc: Global, graph: &Graph<R>, edit: Edit) -> Res
 
 /// What is measured.
 #[derive(Clone, Copy)]
-pub(crate) struct Plan {
-    pub(crate) kind: Kind,
-    pub(crate) stages: u32,
-    pub(crate) edits: u32,
-    /// Whether all graphs are kept to the end.
-    pub(crate) keep: bool,
+struct Plan {
+    kind: Kind,
+    stages: u32,
+    edits: u32,
+    keep: bool,
 }
 
 /// The graph of a chain of so many stages.
@@ -157,27 +160,14 @@ fn loaded<R: Representation>(alloc: Global, stages: u32) -> Result<Graph<R>> {
     }
 }
 
-/// The graph of the plan's chain, and the microseconds that it took.
-fn timed_chain<R: Representation, H: Clock>(
-    clock: &H,
+/// The graph that the plan's edits leave, one after the other; those before it are kept if the plan says so.
+fn edit_all<R: Representation>(
     alloc: Global,
     plan: Plan,
-) -> Result<(Graph<R>, u128)> {
-    let start = now(clock);
-    let graph = loaded(alloc, plan.stages)?;
-    Ok((graph, since(clock, start).as_micros()))
-}
-
-/// How many places the graph has that the plan's edits leave, one after the other, and the microseconds that they took.
-fn timed_edits<R: Representation, H: Clock>(
-    clock: &H,
-    alloc: Global,
-    plan: Plan,
-    first: Graph<R>,
-) -> Result<(usize, u128)> {
-    let start = now(clock);
-    let mut kept = Vec::new(alloc);
-    let mut graph = first;
+    graph: Graph<R>,
+    kept: &mut Vec<Graph<R>>,
+) -> Result<Graph<R>> {
+    let mut graph = graph;
     for turn in 0..plan.edits {
         let next = edited(alloc, &graph, edit(alloc, plan.kind, plan.stages, turn)?)?;
         if plan.keep {
@@ -185,19 +175,41 @@ fn timed_edits<R: Representation, H: Clock>(
         }
         graph = next;
     }
-    Ok((graph.len(), since(clock, start).as_micros()))
+    Ok(graph)
 }
 
-/// The line of what was measured.
-pub(crate) fn line_of<R: Representation, H: Clock>(
-    clock: &H,
-    alloc: Global,
-    plan: Plan,
-) -> Result<String> {
-    let (graph, loaded): (Graph<R>, _) = timed_chain(clock, alloc, plan)?;
-    let (places, took) = timed_edits(clock, alloc, plan, graph)?;
-    let Plan { stages, edits, .. } = plan;
-    Ok(format!(in alloc;
+fn measure<R: Representation>(rt: &HostRuntime, plan: Plan) -> Result<()> {
+    let mut kept = Vec::new(rt.alloc());
+    let start = Instant::now(rt)?;
+    let graph: Graph<R> = loaded(rt.alloc(), plan.stages)?;
+    let loaded = start.elapsed(rt)?.as_micros();
+    let start = Instant::now(rt)?;
+    let graph = edit_all(rt.alloc(), plan, graph, &mut kept)?;
+    let took = start.elapsed(rt)?.as_micros();
+    let (stages, edits, places) = (plan.stages, plan.edits, graph.len());
+    println!(rt;
         "{stages} stages loaded in {loaded} us, {edits} edits in {took} us, {places} places"
-    )?)
+    )?;
+    Ok(())
+}
+
+fn main(rt: HostRuntime) -> Result<()> {
+    let mut words = env::args(&rt)?;
+    let _program = words.next();
+    let Some(kind) = words.next() else {
+        return Ok(());
+    };
+    let Some(kind) = Kind::named(kind.as_str()) else {
+        bail!("no such kind of edit");
+    };
+    let (Some(stages), Some(edits)) = (words.next(), words.next()) else {
+        bail!("how many stages, and how many edits?");
+    };
+    let plan = Plan {
+        kind,
+        stages: stages.parse()?,
+        edits: edits.parse()?,
+        keep: words.next().is_some(),
+    };
+    measure::<InShared>(&rt, plan)
 }

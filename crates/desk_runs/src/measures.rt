@@ -1,6 +1,6 @@
 //! How many edits and reads a second the clients of a desk come to, each on a session of its own.
-use crate::clients::stages::set_times;
-use crate::clients::steps::{Request, Script, Step, edit};
+use crate::stages::set_times;
+use crate::steps::{Request, Script, Step, edit};
 use session_core::{Event, Reply};
 use share_tree::{Again, Held};
 use stage_graph::Edits;

@@ -1,7 +1,7 @@
 //! Random steps of clients on shared sessions.
 ghost use Rattle.std.specs.Prelude.{◌<◌};
 
-use crate::clients::steps::{Request, Script, Step, edit};
+use crate::steps::{Request, Script, Step, edit};
 use act_expr::{Expr, Form, Outcome, Value};
 use session_core::{Entry, Event};
 use share_tree::Held;

@@ -1,6 +1,6 @@
 use denote.Param.Send.{sendable}
 use Rattle.desk.proofs.SharedCrossing.{stages_send, stages_sync}
-use Rattle.job_bench.proofs.clients.runs.on_named_desk.Goals as goal
+use Rattle.desk_runs.proofs.runs.on_named_desk.Goals as goal
 
 pub text_of_run-requires-send-K-Stages : goal.text_of_run-requires-send-K-Stages
 text_of_run-requires-send-K-Stages g c κs within = search (sendable, stages_send)
