@@ -2,8 +2,10 @@
 use crate::scene::Scene;
 use anyhow::Result;
 use level_pool::Runner;
-use report_text::{Comparison, CountedWriter, What, compare, report, report_sweep};
+use report_rows::{Comparison, What};
+use report_text::{compare, report, report_sweep};
 use std::alloc::Global;
+use text_io::CountedWriter;
 use version_store::{NoStage, StateRepresentation, Version};
 
 /// What is asked of a version by its words.

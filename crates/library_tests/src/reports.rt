@@ -1,12 +1,14 @@
 //! Reports: of places where no stage stands, and onto writers that take little at a time, nothing, or fail.
 use crate::versions::made;
 use level_pool::OneThread;
-use report_text::{CountedWriter, ReportFault, What, report};
+use report_rows::{ReportFault, What};
+use report_text::report;
 use std::alloc::Global;
 use std::process::Abort;
 use std::test::Fail;
 use std::thread::Threads;
 use test_kit::{FIRST_RUN, SlowWriter};
+use text_io::CountedWriter;
 use version_store::{StateRepresentation, Version};
 
 /// `a` of the first run holds an exception itself.

@@ -2,7 +2,7 @@
 use crate::pipes::{Pipe, PipeReader, PipeWriter};
 use level_pool::OneThread;
 use recording::read_recording;
-use report_json::Format;
+use report_form::Format;
 use serve_script::{ServeFault, serve};
 use std::alloc::Global;
 use std::process::Abort;

@@ -1,7 +1,7 @@
 -- What one client has done for its script.
 use Rattle.std.proofs.Common.{◌≡◌, ℕ, ◌<◌, ◌^◌, List, [], ◌++◌, length, sym, ap, ◌∙◌, subst, Option, Some}
 use Rattle.std.specs.Io.KnownBytes.{Appends}
-use Rattle.report_json.specs.declared.form.Format.{Format}
+use Rattle.report_form.specs.declared.form.Format.{Format}
 use Rattle.session_core.specs.declared.event.Entry.{Entry}
 use Rattle.script_lines.specs.Lines.{lines_of}
 use Rattle.desk.specs.Clients.{ClientView}

@@ -9,7 +9,7 @@ use Rattle.session_core.specs.Log.{opening_of}
 use Rattle.session_core.specs.Machine.{State}
 use Rattle.session_core.specs.TableView.{TableView}
 use Rattle.session_core.specs.declared.event.Entry.{Entry}
-use Rattle.report_json.specs.declared.form.Format.{Format}
+use Rattle.report_form.specs.declared.form.Format.{Format}
 use Rattle.script_lines.specs.Lines.{lines_of}
 use Rattle.serve_script.specs.Answers.{opening_state}
 use Rattle.desk.specs.Clients.{AreNew, ClientView, HasSeen, IsNew, entries_of}

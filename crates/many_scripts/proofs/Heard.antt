@@ -9,7 +9,7 @@ use Rattle.session_core.specs.declared.event.Entry.{Entry}
 use Rattle.session_core.specs.declared.event.Event.{Event}
 use Rattle.session_core.specs.declared.event.Event.TheVariants.{Commit}
 use Rattle.session_core.specs.declared.event.Reply.{Reply}
-use Rattle.report_json.specs.declared.form.Form.{Form}
+use Rattle.report_form.specs.declared.form.Form.{Form}
 use Rattle.serve_script.specs.Told.{reply_told}
 use Rattle.desk.specs.Clients.{ClientView, HasSeen, IsSameClient, SeesOn, named}
 use Rattle.many_scripts.specs.Played.{IsBooked, IsCommit, IsUnheardOf}

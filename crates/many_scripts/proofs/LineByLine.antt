@@ -15,9 +15,9 @@ use Rattle.recording.specs.declared.step.Step.{Step}
 use Rattle.recording.specs.declared.step.Step.TheVariants as step
 use Rattle.script_lines.specs.Lines.{ScriptLine, kept, too_long}
 use Rattle.session_core.specs.declared.event.Entry.{Entry}
-use Rattle.report_json.specs.Forms.{form_of}
-use Rattle.report_json.specs.declared.form.Form.{Form}
-use Rattle.report_json.specs.declared.form.Format.{Format}
+use Rattle.report_form.specs.Forms.{form_of}
+use Rattle.report_form.specs.declared.form.Form.{Form}
+use Rattle.report_form.specs.declared.form.Format.{Format}
 use Rattle.serve_script.specs.Answers.{against_in}
 use Rattle.serve_script.specs.Told.{fault_told}
 use Rattle.desk.specs.Clients.{ClientView}

@@ -10,9 +10,9 @@ use Rattle.serve_script.proofs.Steps.{unfailed_in_answer}
 use Rattle.serve_script.specs.declared.fault.AnswerFault.{AnswerFault}
 use Rattle.script_lines.specs.declared.fault.LineFault.{LineFault}
 use Rattle.script_lines.specs.declared.fault.LineFault.TheVariants as line
-use Rattle.report_json.specs.Forms.{form_of}
-use Rattle.report_json.specs.declared.form.Form.{Form}
-use Rattle.report_json.specs.declared.form.Format.{Format}
+use Rattle.report_form.specs.Forms.{form_of}
+use Rattle.report_form.specs.declared.form.Form.{Form}
+use Rattle.report_form.specs.declared.form.Format.{Format}
 use Rattle.desk.specs.Clients.{ClientView}
 use Rattle.many_scripts.specs.Played.{IsLine, IsPlayed}
 use Rattle.many_scripts.specs.Playing.{Answers, HasHeard, PlaysScript}

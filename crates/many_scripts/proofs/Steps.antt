@@ -10,7 +10,7 @@ use Rattle.session_core.specs.declared.event.Entry.{Entry}
 use Rattle.session_core.specs.declared.event.Event.TheVariants.{Head}
 use Rattle.session_core.specs.declared.event.Reply.TheVariants.{At, Refused}
 use Rattle.session_core.specs.declared.refusal.Refusal.{Refusal}
-use Rattle.report_json.specs.declared.form.Form.{Form}
+use Rattle.report_form.specs.declared.form.Form.{Form}
 use Rattle.serve_script.specs.Answers.{report_asked}
 use Rattle.serve_script.specs.Told.{no_version_told, reply_told}
 use Rattle.desk.specs.Clients.{ClientView, HasSeen, IsSameClient, IsSeen, Keeps, SeesOn}

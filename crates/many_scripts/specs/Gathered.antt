@@ -1,7 +1,7 @@
 -- Lists of what several clients have and have done.
 use Rattle.std.specs.Prelude.{◌≡◌, ℕ, List, ◌++◌, map, length, Option, Result, Ok, Err}
 use Rattle.std.specs.List.{AllZip, flat_map, zip}
-use Rattle.report_json.specs.declared.form.Format.{Format}
+use Rattle.report_form.specs.declared.form.Format.{Format}
 use Rattle.session_core.specs.Log.{opening_of}
 use Rattle.session_core.specs.Machine.{State}
 use Rattle.session_core.specs.TableView.{TableView}

@@ -4,12 +4,12 @@ use Rattle.std.specs.Fmt.{decimal}
 use mathlib.Core.List.{IsPrefix}
 use Rattle.stage_graph.specs.Plain.{PlainGraph}
 use Rattle.version_store.specs.Plain.{PlainVersion}
-use Rattle.report_text.specs.Texts.{line_end}
+use Rattle.text_io.specs.Writes.{line_end}
 use Rattle.session_core.specs.Machine.{State}
 use Rattle.session_core.specs.declared.event.Entry.{Entry}
 use Rattle.report_json.specs.Json.{count, line_text, object}
-use Rattle.report_json.specs.declared.form.Format.{Format}
-use Rattle.report_json.specs.declared.form.Format.TheVariants.{Text, Json}
+use Rattle.report_form.specs.declared.form.Format.{Format}
+use Rattle.report_form.specs.declared.form.Format.TheVariants.{Text, Json}
 use Rattle.script_lines.specs.Lines.{lines_of}
 use Rattle.serve_script.specs.Answers.{opening_state}
 use Rattle.desk.specs.Clients.{entries_of}

@@ -23,9 +23,9 @@ use Rattle.session_core.specs.declared.event.Event.TheVariants.{Open, Head, Comm
 use Rattle.session_core.specs.declared.event.Reply.{Reply}
 use Rattle.session_core.specs.declared.event.Reply.TheVariants.{At, Refused}
 use Rattle.session_core.specs.declared.refusal.Refusal.{Refusal}
-use Rattle.report_json.specs.Forms.{form_of}
-use Rattle.report_json.specs.declared.form.Form.{Form}
-use Rattle.report_json.specs.declared.form.Format.{Format}
+use Rattle.report_form.specs.Forms.{form_of}
+use Rattle.report_form.specs.declared.form.Form.{Form}
+use Rattle.report_form.specs.declared.form.Format.{Format}
 use Rattle.serve_script.specs.Answers.{against_in, report_asked}
 use Rattle.serve_script.specs.Told.{fault_told, no_version_told, reply_told}
 use Rattle.desk.specs.Clients.{named}

@@ -10,7 +10,7 @@ use Rattle.session_core.specs.declared.event.Event.TheVariants.{Commit}
 use Rattle.session_core.specs.declared.event.Reply.{Reply}
 use Rattle.session_core.specs.declared.event.Reply.TheVariants.{Refused}
 use Rattle.session_core.specs.declared.refusal.Refusal.{Refusal}
-use Rattle.report_json.specs.declared.form.Format.{Format}
+use Rattle.report_form.specs.declared.form.Format.{Format}
 use Rattle.script_lines.specs.Lines.{lines_of}
 use Rattle.desk.specs.Clients.{ClientView, HasSeen, IsSameClient, Keeps, SeesOn}
 use Rattle.many_scripts.specs.Played.{IsPlayed}

@@ -4,7 +4,7 @@ use Rattle.std.specs.List.{AllZip}
 use Rattle.std.specs.Io.KnownBytes.{Appends, Consumes, IsAtEnd}
 use Rattle.text_io.specs.Sink.{AppendsPrefix}
 use Rattle.stage_graph.specs.Plain.{PlainGraph}
-use Rattle.report_json.specs.declared.form.Format.{Format}
+use Rattle.report_form.specs.declared.form.Format.{Format}
 use Rattle.script_lines.specs.Lines.{lines_of}
 use Rattle.desk.specs.Clients.{ClientView, SeesOn}
 use Rattle.many_scripts.specs.Outputs.{IsOutput, script_text}

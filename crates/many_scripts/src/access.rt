@@ -2,7 +2,7 @@
 ghost use Rattle.std.specs.Prelude.{◌≡◌};
 
 use desk::{Desk, Naming};
-use report_json::Form;
+use report_form::Form;
 use std::alloc::Global;
 use std::sync::Wait;
 use version_store::StateRepresentation;

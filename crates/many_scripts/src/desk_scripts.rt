@@ -20,7 +20,7 @@ use crate::gathering::{Ended, ended_by};
 use crate::headings::log_line;
 use desk::{Client, CloseFault, Desk, Naming, NewArchive, start};
 use level_pool::Workers;
-use report_json::Format;
+use report_form::Format;
 use stage_graph::{Graph, InShared};
 use std::alloc::{AllocError, Global};
 use std::marker::Brand;

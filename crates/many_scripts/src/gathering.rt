@@ -10,7 +10,7 @@ use crate::fault::ManyFault;
 use crate::seats::{Seat, play_by_workers};
 use desk::{Client, Desk, Naming};
 use level_pool::Workers;
-use report_json::Format;
+use report_form::Format;
 use stage_graph::InShared;
 use std::alloc::{AllocError, Global};
 use std::sync::Wait;

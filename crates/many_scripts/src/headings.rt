@@ -5,7 +5,8 @@ ghost use Rattle.serde_json.specs.Written.{has_float};
 ghost use Rattle.report_json.specs.Json.{count, line_text, object};
 ghost use Rattle.many_scripts.specs.Outputs.{log_line, script_line};
 
-use report_json::{Format, Object};
+use report_form::Format;
+use report_json::Object;
 use serde_json::Value;
 use std::alloc::{AllocError, Global};
 use std::fmt::Write;

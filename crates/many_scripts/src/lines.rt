@@ -17,7 +17,7 @@ use crate::answering::answer_step;
 use desk::{Client, Naming};
 use level_pool::Runner;
 use recording::{Fault, StepReader};
-use report_json::Form;
+use report_form::Form;
 use script_lines::Line;
 use serve_script::{AnswerFault, tell_fault};
 use std::alloc::Global;

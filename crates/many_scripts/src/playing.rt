@@ -9,7 +9,7 @@ use crate::lines::answer_any;
 use desk::{Client, Naming};
 use level_pool::Runner;
 use recording::StepReader;
-use report_json::Format;
+use report_form::Format;
 use script_lines::LineReader;
 use serve_script::ServeFault;
 use std::sync::Wait;

@@ -9,7 +9,7 @@ use crate::headings::script_line;
 use crate::playing::play;
 use desk::{Client, Desk, Naming};
 use level_pool::{NoGate, OneThread, Runner, Scoped, Workers};
-use report_json::Format;
+use report_form::Format;
 use script_lines::LineReader;
 use serve_script::ServeFault;
 use stage_graph::InShared;

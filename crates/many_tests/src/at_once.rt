@@ -5,7 +5,7 @@ ghost use Rattle.text_io.specs.Counted.{read_failures};
 use crate::turns::Turns;
 use many_scripts::{ManyFault, many};
 use recording::read_recording;
-use report_json::Format;
+use report_form::Format;
 use stage_graph::InShared;
 use std::alloc::Global;
 use std::io::Read;

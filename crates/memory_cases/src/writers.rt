@@ -12,7 +12,7 @@ use crate::written::{push_written, room};
 use anyhow::Result;
 use level_pool::Runner;
 use recording_reports::{RecordingFault, StageReport, report_all, report_stage};
-use report_json::{Form, Format};
+use report_form::{Form, Format};
 use serve_script::{ServeFault, serve};
 use stage_graph::Graph;
 use std::alloc::Global;

@@ -1,5 +1,5 @@
 //! The states of a graph's places, in a persistent list.
-ghost use Rattle.std.specs.Prelude.{◌≡◌, ◌<◌, ◌≤◌, ◌++◌, ◌∷◌, [], ℕ, length, slice_get, slice_set, Some, IfOk, OnOk, All, map, if◌then◌else◌};
+ghost use Rattle.std.specs.Prelude.{◌≡◌, ◌<◌, ◌≤◌, ◌++◌, ◌∷◌, [], ℕ, length, option_copied, slice_get, slice_set, Some, IfOk, OnOk, All, map, if◌then◌else◌};
 ghost use Rattle.rank_order.specs.Lists.{is_among};
 ghost use Rattle.stage_ops.specs.declared.state.State.{State};
 ghost use Rattle.stage_graph.specs.Plain.{stage_at};
@@ -18,6 +18,7 @@ use stage_graph::Graph;
 use stage_ops::{Done, Look, Reads, State};
 use std::alloc::{AllocError, Global};
 use std::marker::Model;
+use std::ops::Deref;
 
 /// The state of each place. Contracts see the list.
 #[derive(Drop)]
@@ -110,6 +111,17 @@ impl<R: StateRepresentation> States<R> {
     {
         match self.list.get(place as usize) {
             Some(kept) => Some(kept.state()),
+            None => None,
+        }
+    }
+
+    /// The state at a place where it is stored; none past the end. Allocates nothing.
+    #[inline(always)]
+    pub fn kept(&self, place: u32) -> Option<&KeptState>
+        ensures { option_copied result ≡ slice_get self.now place }
+    {
+        match self.list.get(place as usize) {
+            Some(kept) => Some(kept.deref()),
             None => None,
         }
     }

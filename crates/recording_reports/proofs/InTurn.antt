@@ -12,10 +12,10 @@ use Rattle.recording.specs.Reads.{IsNamed}
 use Rattle.recording.specs.RecordingOf.{named}
 use Rattle.version_store.specs.Plain.{PlainVersion, opening_version}
 use Rattle.version_store.specs.Queries.{found}
-use Rattle.report_text.specs.declared.what.What.TheVariants.{All}
-use Rattle.report_json.specs.Told.{report_told}
-use Rattle.report_json.specs.declared.form.Form.{Form}
-use Rattle.report_json.specs.declared.form.Form.TheVariants.{Text, Json}
+use Rattle.report_rows.specs.declared.what.What.TheVariants.{All}
+use Rattle.report_form.specs.Told.{report_told}
+use Rattle.report_form.specs.declared.form.Form.{Form}
+use Rattle.report_form.specs.declared.form.Form.TheVariants.{Text, Json}
 use Rattle.recording_reports.specs.declared.stage.StageReport.{StageReport}
 use Rattle.recording_reports.specs.Reported.{all_of, stage_of, stage_text, told, IsTextOf}
 

@@ -8,10 +8,10 @@ use Rattle.recording.specs.Reads.{IsNamed}
 use Rattle.recording.specs.RecordingOf.{named}
 use Rattle.recording.specs.FaultTexts.{fault_number}
 use Rattle.version_store.specs.Plain.{PlainVersion, opening_version}
-use Rattle.report_text.specs.declared.what.What.{What}
-use Rattle.report_text.specs.declared.what.What.TheVariants.{All, One, Blame, Path}
-use Rattle.report_json.specs.Told.{report_told, sweep_told}
-use Rattle.report_json.specs.declared.form.Form.{Form}
+use Rattle.report_rows.specs.declared.what.What.{What}
+use Rattle.report_rows.specs.declared.what.What.TheVariants.{All, One, Blame, Path}
+use Rattle.report_form.specs.Told.{report_told, sweep_told}
+use Rattle.report_form.specs.declared.form.Form.{Form}
 use Rattle.recording_reports.specs.declared.fault.RecordingFault.{RecordingFault}
 use Rattle.recording_reports.specs.declared.fault.RecordingFault.TheVariants.{Refused, NoStage, Write, Memory}
 use Rattle.recording_reports.specs.declared.stage.StageReport.{StageReport}

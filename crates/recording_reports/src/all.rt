@@ -4,8 +4,8 @@ ghost use Rattle.recording_reports.specs.Reported.{IsReported, all_of, failed_wr
 
 use crate::fault::RecordingFault;
 use recording::{Fault, read_recording};
-use report_json::{Form, tell_report};
-use report_text::{ReportFault, What};
+use report_form::{Form, tell_report};
+use report_rows::{ReportFault, What};
 use stage_graph::Graph;
 use std::alloc::Global;
 use text_io::Sink;

@@ -3,16 +3,16 @@ ghost use Rattle.std.specs.Prelude.{◌≡◌, ◌≢◌, ◌+◌, ◌-◌, ◌^
 ghost use Rattle.std.specs.Io.KnownBytes.{Appends};
 ghost use Rattle.stage_graph.specs.Plain.{IsLive};
 ghost use Rattle.text_io.specs.Sink.{AppendsPrefix};
-ghost use Rattle.report_text.specs.Reports.{failed_writes as failed_report_writes};
-ghost use Rattle.report_text.specs.declared.fault.ReportFault.{ReportFault};
+ghost use Rattle.report_rows.specs.Faults.{failed_writes as failed_report_writes};
+ghost use Rattle.report_rows.specs.declared.fault.ReportFault.{ReportFault};
 ghost use Rattle.recording_reports.specs.Reported.{IsReported, failed_writes, stage_of, stage_text};
 ghost use Rattle.recording_reports.specs.declared.stage.StageReport.{StageReport};
 
 use crate::fault::RecordingFault;
 use level_pool::Runner;
 use recording::{Fault, read_recording};
-use report_json::{Form, tell_report, tell_sweep};
-use report_text::{ReportFault, What};
+use report_form::{Form, tell_report, tell_sweep};
+use report_rows::{ReportFault, What};
 use stage_graph::Graph;
 use std::alloc::Global;
 use text_io::Sink;

@@ -1,7 +1,7 @@
 -- Values that have no float and do not nest deeper than some number.
 use Rattle.std.proofs.Common.{◌≡◌, ℕ, suc, ◌≤◌, max, List, [], ◌∷◌, Bool, true, false, ◌||◌, Option, None, Some, Ordering, Less, Equal, Greater, pos, negsuc, refl, sym, subst, arith, rules}
-use Rattle.std.specs.Prelude.{codes, filter_map, IfSome}
-use Rattle.std.specs.List.{cons_option, AllByRecursion}
+use Rattle.std.specs.Prelude.{codes, map}
+use Rattle.std.specs.List.{AllByRecursion}
 use Rattle.std.specs.Ordering.{nat_cmp, match_ordering}
 use Rattle.std.specs.Cmp.Lexicographic.{slice_cmp}
 use Rattle.act_expr.specs.declared.outcome.Value.{Value}
@@ -71,16 +71,12 @@ object_exact n named h =
     let members = with_exact n named no_members (none_exact n) h in
     record { no_float = members.no_float; shallow = search (arith, members.shallow) }
 
-cons_exact : (n : ℕ) (first : Option Data) (ds : List Data) → IfSome first (IsExact n) → ItemsAreExact n (items_of ds) → ItemsAreExact n (items_of (cons_option first ds))
-cons_exact n None ds h k = k
-cons_exact n (Some d) ds h k = item_exact n d _ h k
-
-items_exact : {X : Type 0} (n : ℕ) (f : X → Option Data) (xs : List X) → ((x : X) → IfSome (f x) (IsExact n)) → ItemsAreExact n (items_of (filter_map f xs))
+items_exact : {X : Type 0} (n : ℕ) (f : X → Data) (xs : List X) → ((x : X) → IsExact n (f x)) → ItemsAreExact n (items_of (map f xs))
 items_exact n f [] h = record { no_float = refl; shallow = omega arith }
-items_exact n f (x ∷ xs) h = cons_exact n (f x) _ (h x) (items_exact n f xs h)
+items_exact n f (x ∷ xs) h = item_exact n (f x) _ (h x) (items_exact n f xs h)
 
 -- a list is, where each of its items is
-pub list_exact : {X : Type 0} (n : ℕ) (f : X → Option Data) (xs : List X) → ((x : X) → IfSome (f x) (IsExact n)) → IsExact (suc n) (list (filter_map f xs))
+pub list_exact : {X : Type 0} (n : ℕ) (f : X → Data) (xs : List X) → ((x : X) → IsExact n (f x)) → IsExact (suc n) (list (map f xs))
 list_exact n f xs h =
     let items = items_exact n f xs h in
     record { no_float = items.no_float; shallow = search (arith, items.shallow) }
@@ -125,15 +121,3 @@ at_line_exact n (Some line) (array ds) h = h
 at_line_exact n (Some line) (tree.object ms) h =
     let members = put_exact n (codes "line") (count line) ms (count_exact n line) (record { no_float = h.no_float; shallow = search (arith, h.shallow) }) in
     record { no_float = members.no_float; shallow = search (arith, members.shallow) }
-
--- ---- what is written is exact, and far from the depth that is read
-
-of_some : {d other : Data} → Some d ≡ Some other → d ≡ other
-of_some is = cc
-
-pub far_from_the_limit : (d : Data) → IsExact 5 d → IsExact 127 d
-far_from_the_limit d h = deeper 5 127 d (omega arith) h
-
-pub exact_where_some : (d : Data) (found : Option Data) → Some d ≡ found → IfSome found (IsExact 5) → IsExact 127 d
-exact_where_some d None is h = cc
-exact_where_some d (Some other) is h = far_from_the_limit d (subst (IsExact 5) (sym (of_some is)) h)

@@ -1,7 +1,5 @@
 pub mod Exact
 pub mod ExactReports
+pub mod InOrder
 pub mod Listing
-pub mod OfStages
 pub mod Pushed
-pub mod SweepReport
-pub mod Untouched

@@ -1,10 +1,8 @@
 -- What was added to a line, token by token.
 use Rattle.std.proofs.Common.{◌≡◌, ℕ, suc, ◌+◌, ◌^◌, ◌<◌, ◌≤◌, max, ℤ, pos, negsuc, List, [], ◌∷◌, ◌++◌, length, take, get_or, Option, None, Some, Result, Ok, Err, OnOk, FitsSigned, w64, codes, decimal, refl, sym, ap, ap₂, ◌∙◌, subst, append_assoc, append-nil, arith}
 use Rattle.std.specs.Fmt.{signed_decimal}
-use Rattle.std.specs.List.{AllByRecursion, cons_option, flat_map, range_with_len}
-use Rattle.std.specs.Prelude.{filter_map, option_and_then, option_map}
-use Rattle.std.proofs.lemmas.List.{take_more}
-use Rattle.std.proofs.lemmas.List.Elements.{filter_map-append}
+use Rattle.std.specs.List.{AllByRecursion, flat_map}
+use Rattle.std.specs.Prelude.{option_and_then, option_map}
 use Rattle.json.specs.Json.{Json, if_last, value}
 use Rattle.json.specs.Lex.{tokens}
 use Rattle.json.specs.Print.{print}
@@ -19,7 +17,6 @@ use Rattle.serde_json.specs.View.{items_of}
 use Rattle.serde_json.specs.Written.{compact_text, items_outline, members_outline, outline}
 use Rattle.serde_json.proofs.Numbers.{number_of-decimal, number_of-negative}
 use Rattle.serde_json.proofs.Texts.{print-outline}
-use Rattle.time_sweep.proofs.Hurrying.{range_more}
 use Rattle.report_json.specs.Json.{NamedValues, at_line, count, list, object, with}
 use Rattle.report_json.specs.Tokens.{ReadsBack, Tells, TellsItems, TellsMember, TellsRows, data_tokens, line_rows, members_in, rows_tokens}
 
@@ -59,6 +56,12 @@ named_told name d old so_far new named told = record {
 pub one_row : (name : List ℕ) (d : Data) (old new : List Token) → TellsMember name d old new → TellsRows ((name, d) ∷ []) old new
 one_row name d old new told = record { tokens = told.tokens ∙ ap (λ l. old ++ key name ∷ l) (sym (append-nil (data_tokens d))); reads = (told.reads, tt) }
 
+-- the only one, added by the call that is returned
+pub only_row : {E : Type 0} (r : Result (Unit {0}) E) (name : List ℕ) (d e : Data) (old new : List Token) → d ≡ e → OnOk r (TellsMember name d old new)
+    → OnOk r (TellsRows ((name, e) ∷ []) old new)
+only_row (Ok done) name d e old new is told = one_row name e old new (member_is name d e old new is told)
+only_row (Err fault) name d e old new is told = tt
+
 rows_append : (xs ys : NamedValues) → rows_tokens (xs ++ ys) ≡ rows_tokens xs ++ rows_tokens ys
 rows_append [] ys = refl
 rows_append (x ∷ xs) ys = ap (λ l. (key x.0 ∷ data_tokens x.1) ++ l) (rows_append xs ys) ∙ sym (append_assoc (key x.0 ∷ data_tokens x.1) (rows_tokens xs) (rows_tokens ys))
@@ -87,6 +90,12 @@ both_rows xs ys old so_far new first then = record {
       ∙ ap (λ l. old ++ l) (sym (rows_append xs ys));
   reads = all_read xs ys first.reads then.reads;
 }
+
+-- the same where the call that added the last ones is returned
+pub then_rows : {E : Type 0} (r : Result (Unit {0}) E) (xs ys : NamedValues) (old so_far new : List Token) → TellsRows xs old so_far → OnOk r (TellsRows ys so_far new)
+    → OnOk r (TellsRows (xs ++ ys) old new)
+then_rows (Ok done) xs ys old so_far new first then = both_rows xs ys old so_far new first then
+then_rows (Err fault) xs ys old so_far new first then = tt
 
 pub no_rows_told : (old : List Token) → TellsRows [] old old
 no_rows_told old = record { tokens = sym (append-nil old); reads = tt }
@@ -160,7 +169,7 @@ items_read : (xs ys : List Data) → AllByRecursion ReadsBack xs → AllByRecurs
 items_read [] ys h k = k
 items_read (x ∷ xs) ys h k = (h.0, items_read xs ys h.1 k)
 
-both_told : (xs ys : List Data) (old so_far new : List Token) → TellsItems xs old so_far → TellsItems ys so_far new → TellsItems (xs ++ ys) old new
+pub both_told : (xs ys : List Data) (old so_far new : List Token) → TellsItems xs old so_far → TellsItems ys so_far new → TellsItems (xs ++ ys) old new
 both_told xs ys old so_far new first then = record {
   tokens =
       then.tokens ∙ ap (λ l. l ++ flat_map data_tokens ys) first.tokens ∙ append_assoc old (flat_map data_tokens xs) (flat_map data_tokens ys)
@@ -168,26 +177,11 @@ both_told xs ys old so_far new first then = record {
   reads = items_read xs ys first.reads then.reads;
 }
 
+pub one_told : (d : Data) (old new : List Token) → Tells d old new → TellsItems (d ∷ []) old new
+one_told d old new told = record { tokens = told.tokens ∙ ap (λ l. old ++ l) (sym (append-nil (data_tokens d))); reads = (told.reads, tt) }
+
 pub begun_told : (old new : List Token) → new ≡ old → TellsItems [] old new
 begun_told old new is = rw is (no_items_told old)
-
-pub items_are : {E : Type 0} (r : Result (Unit {0}) E) (found same : Option Data) (old new : List Token) → found ≡ same → OnOk r (TellsItems (cons_option found []) old new)
-    → OnOk r (TellsItems (cons_option same []) old new)
-items_are r found same old new is told = subst (λ (here : Option Data). OnOk r (TellsItems (cons_option here []) old new)) is told
-
--- one more place of a list
-pub next_told : {X : Type 0} (f : X → Option Data) (places : List X) (i : ℕ) (d : X) (old so_far new : List Token) → i < length places
-    → TellsItems (filter_map f (take i places)) old so_far → TellsItems (cons_option (f (get_or places i d)) []) so_far new → TellsItems (filter_map f (take (i + 1) places)) old new
-next_told f places i d old so_far new within first then =
-    subst (λ (ds : List Data). TellsItems ds old new) (sym (ap (filter_map f) (take_more places i d within) ∙ filter_map-append f (take i places) (get_or places i d ∷ [])))
-    (both_told (filter_map f (take i places)) (cons_option (f (get_or places i d)) []) old so_far new first then)
-
--- one more place
-pub next_place_told : (f : ℕ → Option Data) (place : ℕ) (old so_far new : List Token) → TellsItems (filter_map f (range_with_len 0 place)) old so_far
-    → TellsItems (cons_option (f place) []) so_far new → TellsItems (filter_map f (range_with_len 0 (place + 1))) old new
-next_place_told f place old so_far new first then =
-    subst (λ (ds : List Data). TellsItems ds old new) (sym (ap (filter_map f) (range_more place) ∙ filter_map-append f (range_with_len 0 place) (place ∷ [])))
-    (both_told (filter_map f (range_with_len 0 place)) (cons_option (f place) []) old so_far new first then)
 
 items_listed : (ds : List Data) → items_tokens (items_outline (items_of ds)) ≡ flat_map data_tokens ds ++ end_array ∷ []
 items_listed [] = refl
@@ -212,12 +206,6 @@ pub list_told : {E : Type 0} (r : Result (Unit {0}) E) (ds same : List Data) (ol
     → OnOk r (three ≡ two ++ end_array ∷ []) → OnOk r (Tells (list same) old three)
 list_told (Ok done) ds same old one two three is begun told ended = subst (λ (items : List Data). Tells (list items) old three) is (list_of ds old one two three begun told ended)
 list_told (Err fault) ds same old one two three is begun told ended = tt
-
--- one item
-pub one_item : {E : Type 0} (r : Result (Unit {0}) E) (d : Data) (found : Option Data) (old new : List Token) → found ≡ Some d → OnOk r (Tells d old new)
-    → OnOk r (TellsItems (cons_option found []) old new)
-one_item (Ok done) d found old new is told = rw is (record { tokens = told.tokens ∙ ap (λ l. old ++ l) (sym (append-nil (data_tokens d))); reads = (told.reads, tt) })
-one_item (Err fault) d found old new is told = tt
 
 -- ---- the line of an object, and what is read of it
 

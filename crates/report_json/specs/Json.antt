@@ -10,7 +10,7 @@ use Rattle.serde_json.specs.Data.{Data, null, number, string, array, unsigned, M
 use Rattle.serde_json.specs.Find.{of_integer}
 use Rattle.serde_json.specs.View.{items_of}
 use Rattle.serde_json.specs.Written.{compact_text}
-use Rattle.report_text.specs.Texts.{line_end}
+use Rattle.text_io.specs.Writes.{line_end}
 
 abbrev pub text : List ℕ → Data
 text bytes = string bytes

@@ -1,11 +1,7 @@
-pub mod Entries
-pub mod Forms
+pub mod Heads
 pub mod Json
-pub mod Lists
 pub mod Objects
-pub mod OfStage
 pub mod Reports
-pub mod Stages
+pub mod Rows
 pub mod Tokens
-pub mod Told
 pub mod Versions

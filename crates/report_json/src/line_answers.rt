@@ -4,15 +4,17 @@ ghost use Rattle.std.specs.Io.KnownBytes.{Appends};
 ghost use Rattle.text_io.specs.Sink.{AppendsPrefix};
 ghost use Rattle.serde_json.specs.Read.{read};
 ghost use Rattle.serde_json.specs.Written.{compact_text};
-ghost use Rattle.report_text.specs.Reports.{failed_writes};
+ghost use Rattle.report_rows.specs.Faults.{failed_writes};
 ghost use Rattle.report_json.specs.Json.{answer_text, at_line, line_text};
 ghost use Rattle.report_json.specs.Tokens.{Tells};
 ghost use Rattle.report_json.specs.Versions.{at_version_json};
 
+use crate::heads::push_number;
 use crate::line::Line;
-use crate::line_reports::{ended, push_number};
-use report_text::{ReportFault, Sink};
+use crate::writing::ended;
+use report_rows::ReportFault;
 use std::alloc::{AllocError, Global};
+use text_io::Sink;
 
 // The reply and the version's number.
 fn push_at_version(

@@ -1,7 +1,6 @@
-//! Outcomes and states in a line.
-ghost use Rattle.std.specs.Prelude.{◌∷◌, [], None, OnOk, Some};
+//! Outcomes in a line.
+ghost use Rattle.std.specs.Prelude.{◌∷◌, [], OnOk};
 ghost use Rattle.report_json.specs.Json.{object, outcome_json, text, value_json};
-ghost use Rattle.report_json.specs.Stages.{state_members};
 ghost use Rattle.report_json.specs.Tokens.{Tells, TellsMember};
 
 use crate::line::Line;
@@ -46,28 +45,4 @@ pub(crate) fn push_outcome_member(
 {
     line.name(name)?;
     push_outcome(line, outcome)
-}
-
-/// Adds how and when a stage completed.
-pub(crate) fn push_completed(
-    line: &mut Line,
-    outcome: &Outcome,
-    moment: u64,
-) -> Result<(), AllocError>
-    ensures { OnOk result (Tells (object (state_members (Some outcome.now) (Some moment))) line.old line.new) }
-{
-    line.begin_object()?;
-    line.count("moment", moment)?;
-    push_outcome_member(line, "outcome", outcome)?;
-    line.end_object()
-}
-
-/// Adds that a stage is pending: it has neither an outcome nor a moment.
-pub(crate) fn push_pending(line: &mut Line) -> Result<(), AllocError>
-    ensures { OnOk result (Tells (object (state_members None None)) line.old line.new) }
-{
-    line.begin_object()?;
-    line.none("moment")?;
-    line.none("outcome")?;
-    line.end_object()
 }

@@ -1,15 +1,12 @@
 //! Objects that are put together member by member.
-ghost use Rattle.std.specs.Prelude.{◌≡◌, IfOk, OnOk};
+ghost use Rattle.std.specs.Prelude.{◌≡◌, OnOk};
 ghost use Rattle.serde_json.specs.Data.{no_members, object as object_of, put};
 ghost use Rattle.serde_json.specs.View.{members_view, view};
-ghost use Rattle.report_json.specs.Json.{count, optional, text, with};
+ghost use Rattle.report_json.specs.Json.{count, text};
 ghost use Rattle.report_json.specs.Objects.{held};
-ghost use Rattle.report_json.specs.Reports.{title};
 
-use propagate::StateRepresentation;
 use serde_json::{Map, Value};
 use std::alloc::{AllocError, Global};
-use version_store::Version;
 
 /// An object to which members are added.
 #[derive(Drop)]
@@ -58,16 +55,6 @@ impl Object {
         self.value(name, Value::from(number))
     }
 
-    /// Adds a number, or null where there is none.
-    pub fn optional_count(&mut self, name: &str, number: Option<u64>) -> Result<(), AllocError>
-        ensures { OnOk result (held self.new ≡ put name.now (optional count number) (held self.old)) }
-    {
-        match number {
-            Some(number) => self.count(name, number),
-            None => self.value(name, Value::Null),
-        }
-    }
-
     /// The object as a value.
     pub fn into_value(self) -> Value
         ensures { view result ≡ object_of (held self) }
@@ -75,18 +62,4 @@ impl Object {
         let Object { members, .. } = self;
         Value::Object(members)
     }
-}
-
-/// The object of a report, which begins with its name and the version's number.
-pub(crate) fn titled<R: StateRepresentation>(
-    alloc: Global,
-    report: &str,
-    version: &Version<R>,
-) -> Result<Object, AllocError>
-    ensures { IfOk result (λ object. held object ≡ with no_members (title report.now version.now)) }
-{
-    let mut object = Object::new(alloc);
-    object.text("report", report)?;
-    object.count("version", u64::from(version.number()))?;
-    Ok(object)
 }

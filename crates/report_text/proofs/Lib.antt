@@ -1,5 +1,1 @@
-pub mod EmptyPlaces
-pub mod LinesOfOne
-pub mod LinesOfPlaces
-pub mod Pushed
-pub mod Untouched
+pub mod Lines

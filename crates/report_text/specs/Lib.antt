@@ -1,6 +1,2 @@
-pub mod AgainstTexts
-pub mod Lines
-pub mod PathTexts
 pub mod Reports
-pub mod SweepTexts
 pub mod Texts

@@ -1,177 +1,140 @@
--- The texts of the reports, each written as one chain in the order of its parts.
-use Rattle.std.specs.Prelude.{ℕ, ◌-◌, List, [], ◌∷◌, ◌++◌, Option, None, Some, codes, is_some, count_by, length, nat_lt, if◌then◌else◌}
+-- What a report says, as text: a head, and a line for each row.
+use Rattle.std.specs.Prelude.{ℕ, List, [], ◌∷◌, ◌++◌, Option, None, Some, codes, length}
 use Rattle.std.specs.List.{flat_map}
 use Rattle.std.specs.Fmt.{decimal}
-use Rattle.act_expr.specs.declared.outcome.Mode.{Mode}
-use Rattle.act_expr.specs.declared.outcome.Mode.TheVariants.{Computed, Literal}
 use Rattle.act_expr.specs.OutcomeText.{outcome_text}
-use Rattle.stage_graph.specs.declared.stage.Stage.{Stage}
-use Rattle.stage_graph.specs.Plain.{PlainGraph, stage_at, name_of, all_places, dependents}
 use Rattle.stage_graph.specs.Texts.{op_text}
-use Rattle.stage_graph.specs.Walk.{rank}
-use Rattle.stage_ops.specs.Java.{java_step}
-use Rattle.stage_ops.specs.Joins.{joined}
-use Rattle.stage_ops.specs.Texts.{state_text, join_text}
-use Rattle.scratch_eval.specs.Blame.{chain}
-use Rattle.version_store.specs.declared.before.Before.{Before}
-use Rattle.version_store.specs.declared.before.Before.TheVariants as stood
-use Rattle.version_store.specs.Plain.{PlainVersion, parent_of}
-use Rattle.version_store.specs.Queries.{state_of, moment_in, start_in, before, touched_of}
-use Rattle.report_text.specs.declared.shift.Shift.{Shift}
-use Rattle.report_text.specs.declared.shift.Shift.TheVariants.{Later, Earlier}
+use Rattle.stage_ops.specs.declared.state.Join.{Join}
+use Rattle.stage_ops.specs.Texts.{join_text}
+use Rattle.report_rows.specs.declared.because.Because.{Because}
+use Rattle.report_rows.specs.declared.because.Because.TheVariants.{Created, After, Inner, Pinned, Ended, Waiting, Open}
+use Rattle.report_rows.specs.declared.head.Head.{Head}
+use Rattle.report_rows.specs.declared.head.Head.TheVariants as a_head
+use Rattle.report_rows.specs.declared.row.Row.{Row}
+use Rattle.report_rows.specs.declared.row.Row.TheVariants as a_row
+use Rattle.report_rows.specs.declared.shift.Shift.{Shift}
+use Rattle.report_rows.specs.declared.shift.Shift.TheVariants.{Later, Earlier}
+use Rattle.report_rows.specs.declared.standing.Standing.{Standing}
+use Rattle.report_rows.specs.declared.standing.Standing.TheVariants.{Absent, Pending, Completed}
+use Rattle.report_rows.specs.Modes.{mode_text}
+use Rattle.report_rows.specs.Report.{Report}
+use Rattle.text_io.specs.Writes.{line_end}
 
-abbrev pub line_end : List ℕ
-line_end = 10 ∷ []
+-- ---- words
 
 abbrev pub number_or_dash : Option ℕ → List ℕ
 number_or_dash None = codes "-"
 number_or_dash (Some number) = decimal number
 
-abbrev pub mode_text : Mode → List ℕ
-mode_text Computed = codes "computed"
-mode_text Literal = codes "literal"
+-- the moment of a completed stage; else another text
+abbrev pub at_text : List ℕ → Option ℕ → List ℕ
+at_text otherwise None = otherwise
+at_text otherwise (Some moment) = codes " at " ++ decimal moment
 
--- TITLE of version N from P
-abbrev pub comparison : List ℕ → PlainVersion → List ℕ
-comparison title version = title ++ codes " of version " ++ decimal version.number ++ codes " from " ++ number_or_dash (parent_of version)
-
--- ---- the places
-
--- the line of the stage at a place; none at an empty place
-abbrev pub line_of : (ℕ → Stage → List ℕ) → ℕ → Option Stage → List ℕ
-line_of line place None = []
-line_of line place (Some stage) = line place stage
-
--- the line of each live stage, by place
-abbrev pub each_stage : (ℕ → Stage → List ℕ) → List (Option Stage) → List ℕ
-each_stage line places = flat_map (λ place. line_of line place (stage_at places place)) (all_places places)
-
--- how many stages are live
-abbrev pub live_count : List (Option Stage) → ℕ
-live_count places = count_by (λ place. is_some (stage_at places place)) (all_places places)
-
--- ---- lists of stages
-
--- a space, and the name of the stage at a place
-abbrev pub spaced_name : List (Option Stage) → ℕ → List ℕ
-spaced_name places place = codes " " ++ name_of (stage_at places place)
-
--- the names of the stages at these places, with a space before each; a dash for none
-abbrev pub names_text : List (Option Stage) → List ℕ → List ℕ
-names_text places [] = codes " -"
-names_text places (first ∷ others) = flat_map (spaced_name places) (first ∷ others)
-
--- TITLE NAMES
-abbrev pub names_line : List ℕ → List (Option Stage) → List ℕ → List ℕ
-names_line title places listed = title ++ names_text places listed ++ line_end
-
--- ---- all: every live stage
-
--- NAME OP rank R STATE
-abbrev pub stage_line : PlainGraph → ℕ → Stage → List ℕ
-stage_line graph place stage = stage.name ++ codes " " ++ op_text stage.op ++ codes " rank " ++ decimal (rank graph.places place)
-    ++ codes " " ++ state_text (state_of graph place) ++ line_end
-
--- version N parent P mode MODE stages K
-abbrev pub all_header : PlainVersion → ℕ → List ℕ
-all_header version count = codes "version " ++ decimal version.number ++ codes " parent " ++ number_or_dash (parent_of version)
-    ++ codes " mode " ++ mode_text version.graph.mode ++ codes " stages " ++ decimal count ++ line_end
-
-abbrev pub all_text : PlainVersion → List ℕ
-all_text version = all_header version (live_count version.graph.places) ++ each_stage (stage_line version.graph) version.graph.places
-
--- ---- times: when each live stage ran
-
--- NAME start S queued Q runs R
-abbrev pub times_line : PlainGraph → ℕ → Stage → List ℕ
-times_line graph place stage = stage.name ++ codes " start " ++ number_or_dash (start_in (state_of graph place))
-    ++ codes " queued " ++ decimal stage.queued ++ codes " runs " ++ decimal stage.runs ++ line_end
-
--- times of version N stages K
-abbrev pub times_header : PlainVersion → ℕ → List ℕ
-times_header version count = codes "times of version " ++ decimal version.number ++ codes " stages " ++ decimal count ++ line_end
-
-abbrev pub times_text : PlainVersion → List ℕ
-times_text version = times_header version (live_count version.graph.places) ++ each_stage (times_line version.graph) version.graph.places
-
--- ---- drift: the stages that complete at another moment than in the parent
-
--- how much later or earlier the second moment is, if it is another
-abbrev pub shift_between : ℕ → ℕ → Option Shift
-shift_between old new = if nat_lt old new then Some (Later (new - old)) else if nat_lt new old then Some (Earlier (old - new)) else None
-
--- the same for a completion in the parent and one here, if there are both
-abbrev pub shift_since : Before → Option ℕ → Option Shift
-shift_since stood.Absent new = None
-shift_since stood.Pending new = None
-shift_since (stood.Done outcome old) None = None
-shift_since (stood.Done outcome old) (Some new) = shift_between old new
-
--- how much later or earlier than in the parent the stage at a place completes
-abbrev pub shift_at : PlainVersion → ℕ → Option Shift
-shift_at version place = shift_since (before version.origin place) (moment_in (state_of version.graph place))
+abbrev pub standing_text : Standing → List ℕ
+standing_text Absent = codes "absent"
+standing_text Pending = codes "pending"
+standing_text (Completed outcome moment) = outcome_text outcome ++ codes " at " ++ decimal moment
 
 -- later D, or earlier D
 abbrev pub shift_text : Shift → List ℕ
 shift_text (Later ticks) = codes "later " ++ decimal ticks
 shift_text (Earlier ticks) = codes "earlier " ++ decimal ticks
 
--- NAME later D, or NAME earlier D; no line where the moment is the same
-abbrev pub shift_line : Stage → Option Shift → List ℕ
-shift_line stage None = []
-shift_line stage (Some shift) = stage.name ++ codes " " ++ shift_text shift ++ line_end
+-- a space, and a name
+abbrev pub spaced : List ℕ → List ℕ
+spaced name = codes " " ++ name
 
-abbrev pub drift_line : PlainVersion → ℕ → Stage → List ℕ
-drift_line version place stage = shift_line stage (shift_at version place)
+-- names, with a space before each; a dash for none
+abbrev pub names_text : List (List ℕ) → List ℕ
+names_text [] = codes " -"
+names_text (first ∷ others) = flat_map spaced (first ∷ others)
 
-abbrev pub drift_at : PlainVersion → ℕ → List ℕ
-drift_at version place = line_of (drift_line version) place (stage_at version.graph.places place)
+-- TITLE NAMES
+abbrev pub names_line : List ℕ → List (List ℕ) → List ℕ
+names_line title names = title ++ names_text names ++ line_end
 
--- how many stages have such a line
-abbrev pub shifted_count : PlainVersion → ℕ
-shifted_count version = count_by (λ place. is_some (shift_at version place)) (all_places version.graph.places)
+-- how long its own action was queued and ran
+abbrev pub own_text : ℕ → ℕ → List ℕ
+own_text queued ran = codes " queued " ++ decimal queued ++ codes " ran " ++ decimal ran
 
--- drift of version N from P moved K
-abbrev pub drift_header : PlainVersion → ℕ → List ℕ
-drift_header version count = comparison (codes "drift") version ++ codes " moved " ++ decimal count ++ line_end
+-- after which event it completed, or what it waits for
+abbrev pub because_text : ℕ → ℕ → Because → List ℕ
+because_text queued ran (Created tick) = own_text queued ran ++ codes " created " ++ decimal tick
+because_text queued ran (After name) = own_text queued ran ++ codes " after " ++ name
+because_text queued ran (Inner name) = codes " took over " ++ name
+because_text queued ran Pinned = codes " pinned"
+because_text queued ran (Ended kind) = codes " ended by " ++ kind
+because_text queued ran (Waiting name) = codes " waits for " ++ name
+because_text queued ran Open = codes " open"
 
-abbrev pub drift_text : PlainVersion → List ℕ
-drift_text version = drift_header version (shifted_count version) ++ each_stage (drift_line version) version.graph.places
+-- ---- rows
 
--- ---- changes: the stages that the edits touch
+-- NAME OP rank R STANDING
+abbrev pub state_text : List ℕ → List ℕ → ℕ → Standing → List ℕ
+state_text name op rank standing = name ++ codes " " ++ op ++ codes " rank " ++ decimal rank ++ codes " " ++ standing_text standing ++ line_end
 
--- what a stage was in the parent
-abbrev pub before_text : Before → List ℕ
-before_text stood.Absent = codes "absent"
-before_text stood.Pending = codes "pending"
-before_text (stood.Done outcome moment) = outcome_text outcome ++ codes " at " ++ decimal moment
-
+abbrev pub row_text : Row → List ℕ
+-- NAME OP rank R STANDING
+row_text (a_row.State name op rank standing) = state_text name (op_text op) rank standing
+-- NAME start S queued Q runs R
+row_text (a_row.Times name start queued runs) =
+    name ++ codes " start " ++ number_or_dash start ++ codes " queued " ++ decimal queued ++ codes " runs " ++ decimal runs ++ line_end
+-- NAME at M queued Q ran R after NEXT, or NAME waits for NEXT
+row_text (a_row.Step name moment queued ran because) = name ++ at_text [] moment ++ because_text queued ran because ++ line_end
 -- NAME OLD -> NEW
-abbrev pub change_line : PlainVersion → ℕ → Stage → List ℕ
-change_line version place stage =
-    stage.name ++ codes " " ++ before_text (before version.origin place) ++ codes " -> " ++ state_text (state_of version.graph place) ++ line_end
+row_text (a_row.Change name old new) = name ++ codes " " ++ standing_text old ++ codes " -> " ++ standing_text new ++ line_end
+-- NAME later D, or NAME earlier D
+row_text (a_row.Shift name shift) = name ++ codes " " ++ shift_text shift ++ line_end
+-- NAME sooner D -> OUTCOME at T
+row_text (a_row.Trial name sooner outcome moment) =
+    name ++ codes " sooner " ++ decimal sooner ++ codes " -> " ++ outcome_text outcome ++ codes " at " ++ decimal moment ++ line_end
 
-abbrev pub change_at : PlainVersion → ℕ → List ℕ
-change_at version place = line_of (change_line version) place (stage_at version.graph.places place)
+-- ---- heads
 
+-- TITLE of version N
+abbrev pub of_version : List ℕ → ℕ → List ℕ
+of_version title version = title ++ codes " of version " ++ decimal version
+
+-- TITLE of NAME at M, or TITLE of NAME pending
+abbrev pub of_stage : List ℕ → List ℕ → Option ℕ → List ℕ
+of_stage title name moment = title ++ codes " of " ++ name ++ at_text (codes " pending") moment
+
+-- the feeds, the dependents and `join` of a stage, each on a line
+abbrev pub around_text : List (List ℕ) → List (List ℕ) → List (List ℕ) → Join → List ℕ
+around_text sources inner dependents join =
+    names_line (codes "sources") sources ++ names_line (codes "inner") inner ++ names_line (codes "dependents") dependents ++ codes "join " ++ join_text join ++ line_end
+
+-- WORD K, the end of the first line of a report with so many rows
+abbrev pub counted : List ℕ → ℕ → List ℕ
+counted word count = codes " " ++ word ++ codes " " ++ decimal count ++ line_end
+
+-- what stands before the rows, of which there are so many
+abbrev pub head_text : Head → ℕ → List ℕ
+-- version N parent P mode MODE stages K
+head_text (a_head.All version parent mode) count =
+    codes "version " ++ decimal version ++ codes " parent " ++ number_or_dash parent ++ codes " mode " ++ mode_text mode ++ counted (codes "stages") count
+-- times of version N stages K
+head_text (a_head.Times version) count = of_version (codes "times") version ++ counted (codes "stages") count
+-- a line of the stage, and its feeds, dependents and `join`, each on a line
+head_text (a_head.One version name op rank standing sources inner dependents join) count =
+    state_text name (op_text op) rank standing ++ around_text sources inner dependents join
+-- blame NAMES
+head_text (a_head.Blame version name chain) count = names_line (codes "blame") chain
+-- path of NAME at M stages K
+head_text (a_head.Path version name moment) count = of_stage (codes "path") name moment ++ counted (codes "stages") count
 -- changes of version N from P touched K
-abbrev pub changes_header : PlainVersion → ℕ → List ℕ
-changes_header version count = comparison (codes "changes") version ++ codes " touched " ++ decimal count ++ line_end
+head_text (a_head.Changes version parent) count = of_version (codes "changes") version ++ codes " from " ++ number_or_dash parent ++ counted (codes "touched") count
+-- drift of version N from P moved K
+head_text (a_head.Drift version parent) count = of_version (codes "drift") version ++ codes " from " ++ number_or_dash parent ++ counted (codes "moved") count
+-- changes of version N against B changed K
+head_text (a_head.ChangesAgainst version against) count = of_version (codes "changes") version ++ codes " against " ++ decimal against ++ counted (codes "changed") count
+-- drift of version N against B moved K
+head_text (a_head.DriftAgainst version against) count = of_version (codes "drift") version ++ codes " against " ++ decimal against ++ counted (codes "moved") count
+-- sweep of NAME at M stages K, of which not all may have a row
+head_text (a_head.Sweep version name moment all) count = of_stage (codes "sweep") name moment ++ counted (codes "stages") all
 
-abbrev pub changes_text : PlainVersion → List ℕ
-changes_text version = changes_header version (length (touched_of version)) ++ flat_map (change_at version) (touched_of version)
+-- ---- a report
 
--- ---- blame: how a stage came by its exception
-
-abbrev pub blame_text : PlainGraph → ℕ → List ℕ
-blame_text graph place = names_line (codes "blame") graph.places (chain (java_step graph.mode) graph.places place)
-
--- ---- one: a stage, its feeds and its dependents
-
-abbrev pub join_line : PlainGraph → ℕ → List ℕ
-join_line graph place = codes "join " ++ join_text (joined (state_of graph place)) ++ line_end
-
-abbrev pub one_text : PlainGraph → ℕ → Stage → List ℕ
-one_text graph place stage =
-    stage_line graph place stage ++ names_line (codes "sources") graph.places stage.sources ++ names_line (codes "inner") graph.places stage.inner
-    ++ names_line (codes "dependents") graph.places (dependents graph.places place) ++ join_line graph place
+abbrev pub report_text : Report → List ℕ
+report_text report = head_text report.head (length report.rows) ++ flat_map row_text report.rows

@@ -2,19 +2,12 @@
 ghost use Rattle.std.specs.Prelude.{◌≡◌, ◌≢◌, ◌↔◌, ◌+◌, ◌-◌, ◌^◌, ◌<◌, [], None, unwrap_or, OnOk, OnErr};
 ghost use Rattle.std.specs.Io.KnownBytes.{Appends};
 ghost use Rattle.text_io.specs.Sink.{AppendsPrefix};
-ghost use Rattle.report_text.specs.AgainstTexts.{comparison_text};
-ghost use Rattle.report_text.specs.Reports.{failed_writes, text};
+ghost use Rattle.report_text.specs.Reports.{comparison_text, failed_writes, sweep_report, text};
 
-use crate::blame::write_blame;
-use crate::comparison::Comparison;
-use crate::fault::ReportFault;
-use crate::lines::Lines;
-use crate::one::write_one;
-use crate::path::write_path;
-use crate::touched::{write_changes, write_drift};
-use crate::what::What;
-use crate::writing::write_lines;
+use crate::writing::write_said;
+use level_pool::Runner;
 use propagate::StateRepresentation;
+use report_rows::{Comparison, ReportFault, What, say_comparison, say_report, say_sweep};
 use std::alloc::Global;
 use text_io::Sink;
 use version_store::Version;
@@ -35,16 +28,9 @@ pub fn report<R: StateRepresentation, S: Sink>(
     ensures no_stage { (result ≡ Err ReportFault.NoStage) ↔ (text version.now what ≡ None) }
     ensures failures { S.failures sink.new ≡ S.failures sink.old + failed_writes result }
 {
-    let mut line = String::new(alloc);
-    match what {
-        What::All => write_lines(&mut line, Lines::States, version, version, sink),
-        What::One(place) => write_one(&mut line, version, place, sink),
-        What::Blame(place) => write_blame(alloc, &mut line, version, place, sink),
-        What::Path(place) => write_path(alloc, &mut line, version, place, sink),
-        What::Changes => write_changes(&mut line, version, sink),
-        What::Drift => write_drift(alloc, &mut line, version, sink),
-        What::Times => write_lines(&mut line, Lines::Times, version, version, sink),
-    }
+    let said = say_report(alloc, version, what)?;
+    write_said(alloc, &said, sink)?;
+    Ok(())
 }
 
 /// Writes a report of how a version stands against another one, a line at a time.
@@ -63,15 +49,31 @@ pub fn compare<R: StateRepresentation, S: Sink>(
     ensures found { result ≢ Err ReportFault.NoStage }
     ensures failures { S.failures sink.new ≡ S.failures sink.old + failed_writes result }
 {
-    let mut line = String::new(alloc);
-    match comparison {
-        Comparison::Changes => write_lines(
-            &mut line,
-            Lines::ChangesAgainst,
-            version,
-            against,
-            sink,
-        ),
-        Comparison::Drift => write_lines(&mut line, Lines::ShiftsAgainst, version, against, sink),
-    }
+    let said = say_comparison(alloc, version, against, comparison)?;
+    write_said(alloc, &said, sink)?;
+    Ok(())
+}
+
+/// Writes which stages, if their action took no time, would make a stage complete sooner, a line at a time: the soonest
+/// first, and at one tick by place. The header counts all of them; no more than `most` lines follow it.
+///
+/// Errors: `NoStage` where the stage is not live, and then nothing is written; `Write` where a write failed or took
+/// nothing; `Memory`.
+pub fn report_sweep<R: StateRepresentation, W: Runner, S: Sink>(
+    alloc: Global,
+    version: &Version<R>,
+    target: u32,
+    most: Option<usize>,
+    runner: &W,
+    sink: &mut S,
+) -> Result<(), ReportFault>
+    requires { S.failures sink.old < 2 ^ 64 - 1 }
+    ensures ok { OnOk result (Appends (S.held sink.old) (S.held sink.new) (unwrap_or (sweep_report version.now target most) [])) }
+    ensures err { OnErr result (AppendsPrefix (S.held sink.old) (S.held sink.new) (unwrap_or (sweep_report version.now target most) [])) }
+    ensures no_stage { (result ≡ Err ReportFault.NoStage) ↔ (sweep_report version.now target most ≡ None) }
+    ensures failures { S.failures sink.new ≡ S.failures sink.old + failed_writes result }
+{
+    let said = say_sweep(alloc, version, target, most, runner)?;
+    write_said(alloc, &said, sink)?;
+    Ok(())
 }

@@ -1,23 +1,20 @@
-//! The parts of a line, each appended to a text.
-ghost use Rattle.std.specs.Prelude.{◌≡◌, ◌++◌, OnOk, string_bytes};
-ghost use Rattle.stage_graph.specs.Plain.{stage_at};
-ghost use Rattle.report_text.specs.Texts.{mode_text, names_line, names_text, number_or_dash};
+//! The words of a line, each appended to a text.
+//!
+//! A report has some for each of its rows, so their pieces are appended one by one: to format them would be a good part of
+//! a report's time.
+ghost use Rattle.std.specs.Prelude.{◌≡◌, ◌++◌, OnOk, codes, string_bytes};
+ghost use Rattle.std.specs.Fmt.{decimal};
+ghost use Rattle.act_expr.specs.OutcomeText.{outcome_text};
+ghost use Rattle.stage_ops.specs.Texts.{join_text};
+ghost use Rattle.report_text.specs.Texts.{at_text, because_text, number_or_dash, own_text, shift_text, standing_text};
 
-use crate::digits::push_number;
-use act_expr::Mode;
-use stage_graph::{Graph, Representation};
+use crate::digits::{push_number, push_signed};
+use act_expr::{ExName, Outcome, Value};
+use report_rows::{Because, Shift, Standing};
+use stage_ops::Join;
 use std::alloc::AllocError;
 
-/// The mode, by its name in recordings.
-pub fn mode_text(mode: Mode) -> &'static str
-    ensures { result.now ≡ mode_text mode }
-{
-    match mode {
-        Mode::Computed => "computed",
-        Mode::Literal => "literal",
-    }
-}
-
+/// A number, or a dash where there is none.
 pub(crate) fn push_number_or_dash(line: &mut String, number: Option<u64>) -> Result<(), AllocError>
     ensures { OnOk result (string_bytes line.new ≡ string_bytes line.old ++ number_or_dash number) }
 {
@@ -27,33 +24,155 @@ pub(crate) fn push_number_or_dash(line: &mut String, number: Option<u64>) -> Res
     }
 }
 
-/// A title, and the names of the stages at these places.
-pub(crate) fn push_names_line<R: Representation>(
+/// The moment, and another text where there is none.
+pub(crate) fn push_at(
     line: &mut String,
-    title: &str,
-    graph: &Graph<R>,
-    places: &[u32],
+    otherwise: &str,
+    moment: Option<u64>,
 ) -> Result<(), AllocError>
-    ensures { OnOk result (string_bytes line.new ≡ string_bytes line.old ++ names_line title.now graph.now.places places.now) }
+    ensures { OnOk result (string_bytes line.new ≡ string_bytes line.old ++ at_text otherwise.now moment) }
 {
-    line.push_str(title)?;
-    push_names(line, graph, places)?;
-    line.push_str("\n")
+    match moment {
+        Some(moment) => {
+            line.push_str(" at ")?;
+            push_number(line, moment)
+        }
+        None => line.push_str(otherwise),
+    }
 }
 
-fn push_names<R: Representation>(
-    line: &mut String,
-    graph: &Graph<R>,
-    places: &[u32],
-) -> Result<(), AllocError>
-    ensures { OnOk result (string_bytes line.new ≡ string_bytes line.old ++ names_text graph.now.places places.now) }
+// What is said of an exception, and its name.
+fn push_named(line: &mut String, said: &str, name: &ExName) -> Result<(), AllocError>
+    ensures { OnOk result (string_bytes line.new ≡ string_bytes line.old ++ said.now ++ name.now) }
 {
-    if places.is_empty() {
-        return line.push_str(" -");
+    line.push_str(said)?;
+    line.push_str(name.text())
+}
+
+/// The outcome's kind, and its value or its exception's name.
+pub(crate) fn push_outcome(line: &mut String, outcome: &Outcome) -> Result<(), AllocError>
+    ensures { OnOk result (string_bytes line.new ≡ string_bytes line.old ++ outcome_text outcome.now) }
+{
+    match outcome {
+        Outcome::Value(Value::Null) => line.push_str("value:null"),
+        Outcome::Value(Value::Num(number)) => {
+            line.push_str("value:")?;
+            push_signed(line, *number)
+        }
+        Outcome::Bare(name) => push_named(line, "bare:", name),
+        Outcome::Wrapped(name) => push_named(line, "wrapped:", name),
     }
-    for place in places {
-        line.push_str(" ")?;
-        line.push_str(graph.name_of(*place))?;
+}
+
+// OUTCOME at MOMENT
+fn push_completed(line: &mut String, outcome: &Outcome, moment: u64) -> Result<(), AllocError>
+    ensures { OnOk result (string_bytes line.new ≡ string_bytes line.old ++ outcome_text outcome.now ++ codes " at " ++ decimal moment) }
+{
+    push_outcome(line, outcome)?;
+    line.push_str(" at ")?;
+    push_number(line, moment)
+}
+
+/// What a stage is in a version.
+#[inline(always)]
+pub(crate) fn push_standing(line: &mut String, standing: &Standing) -> Result<(), AllocError>
+    ensures { OnOk result (string_bytes line.new ≡ string_bytes line.old ++ standing_text standing.now) }
+{
+    match standing {
+        Standing::Absent => line.push_str("absent"),
+        Standing::Pending => line.push_str("pending"),
+        Standing::Completed(outcome, moment) => push_completed(line, outcome, *moment),
     }
-    Ok(())
+}
+
+/// How much later or earlier.
+pub(crate) fn push_shift(line: &mut String, shift: Shift) -> Result<(), AllocError>
+    ensures { OnOk result (string_bytes line.new ≡ string_bytes line.old ++ shift_text shift) }
+{
+    match shift {
+        Shift::Later(ticks) => {
+            line.push_str("later ")?;
+            push_number(line, ticks)
+        }
+        Shift::Earlier(ticks) => {
+            line.push_str("earlier ")?;
+            push_number(line, ticks)
+        }
+    }
+}
+
+// How long a stage's own action was queued and ran.
+fn push_own(line: &mut String, queued: u64, ran: u64) -> Result<(), AllocError>
+    ensures { OnOk result (string_bytes line.new ≡ string_bytes line.old ++ own_text queued ran) }
+{
+    line.push_str(" queued ")?;
+    push_number(line, queued)?;
+    line.push_str(" ran ")?;
+    push_number(line, ran)
+}
+
+// The same, and when the stage was created.
+fn push_created(line: &mut String, queued: u64, ran: u64, tick: u64) -> Result<(), AllocError>
+    ensures { OnOk result (string_bytes line.new ≡ string_bytes line.old ++ own_text queued ran ++ codes " created " ++ decimal tick) }
+{
+    push_own(line, queued, ran)?;
+    line.push_str(" created ")?;
+    push_number(line, tick)
+}
+
+// The same, and after which stage.
+fn push_after(line: &mut String, queued: u64, ran: u64, name: &str) -> Result<(), AllocError>
+    ensures { OnOk result (string_bytes line.new ≡ string_bytes line.old ++ own_text queued ran ++ codes " after " ++ name.now) }
+{
+    push_own(line, queued, ran)?;
+    line.push_str(" after ")?;
+    line.push_str(name)
+}
+
+// What is said of a name, and the name.
+fn push_said(line: &mut String, said: &str, name: &str) -> Result<(), AllocError>
+    ensures { OnOk result (string_bytes line.new ≡ string_bytes line.old ++ said.now ++ name.now) }
+{
+    line.push_str(said)?;
+    line.push_str(name)
+}
+
+/// After which event a stage completed, or what it waits for.
+pub(crate) fn push_because(
+    line: &mut String,
+    queued: u64,
+    ran: u64,
+    because: &Because<'_>,
+) -> Result<(), AllocError>
+    ensures { OnOk result (string_bytes line.new ≡ string_bytes line.old ++ because_text queued ran because.now) }
+{
+    match because {
+        Because::Created(tick) => push_created(line, queued, ran, *tick),
+        Because::After(name) => push_after(line, queued, ran, name.as_str()),
+        Because::Inner(name) => push_said(line, " took over ", name.as_str()),
+        Because::Pinned => line.push_str(" pinned"),
+        Because::Ended(kind) => push_said(line, " ended by ", kind.as_str()),
+        Because::Waiting(name) => push_said(line, " waits for ", name.as_str()),
+        Because::Open => line.push_str(" open"),
+    }
+}
+
+/// The answer of `join`.
+pub(crate) fn push_answer(line: &mut String, join: &Join) -> Result<(), AllocError>
+    ensures { OnOk result (string_bytes line.new ≡ string_bytes line.old ++ join_text join.now) }
+{
+    match join {
+        Join::Waits => line.push_str("waits"),
+        Join::Returns(Value::Null) => line.push_str("returns null"),
+        Join::Returns(Value::Num(number)) => {
+            line.push_str("returns ")?;
+            push_signed(line, *number)
+        }
+        Join::Cancelled => line.push_str("throws java.util.concurrent.CancellationException"),
+        Join::Throws(name) => push_named(
+            line,
+            "throws java.util.concurrent.CompletionException cause ",
+            name,
+        ),
+    }
 }

@@ -1,80 +1,54 @@
-//! The loops that write a header and then a line for each place.
-ghost use Rattle.std.specs.Prelude.{◌≡◌, ◌≢◌, ◌+◌, ◌-◌, ◌^◌, ◌<◌, ◌++◌, OnOk, OnErr, string_bytes};
+//! What a report says, written as text.
+ghost use Rattle.std.specs.Prelude.{◌-◌, ◌^◌, ◌<◌};
 ghost use Rattle.std.specs.List.{flat_map};
-ghost use Rattle.std.specs.Io.KnownBytes.{Appends};
-ghost use Rattle.stage_graph.specs.Plain.{all_places};
-ghost use Rattle.text_io.specs.Sink.{AppendsPrefix};
-ghost use Rattle.report_text.specs.Lines.{lines_text, place_line};
-ghost use Rattle.report_text.specs.Reports.{failed_writes};
+ghost use Rattle.text_io.specs.Writes.{Writes};
+ghost use Rattle.report_text.specs.Texts.{report_text, row_text};
 
-use crate::fault::ReportFault;
-use crate::headers::push_header;
-use crate::lines::{Lines, line_count, push_line};
+use crate::heads::push_head;
+use crate::rows::push_row;
 use propagate::StateRepresentation;
-use text_io::Sink;
-use version_store::Version;
+use report_rows::{Row, Rows, Said};
+use std::alloc::Global;
+use text_io::{Sink, Stopped};
 
-/// Writes the header and the lines of a report on all places; `against` is the version that two of
-/// these reports compare with.
-pub(crate) fn write_lines<R: StateRepresentation, S: Sink>(
-    line: &mut String,
-    lines: Lines,
-    version: &Version<R>,
-    against: &Version<R>,
+/// Writes what a report says, a line at a time.
+pub(crate) fn write_said<R: StateRepresentation, S: Sink>(
+    alloc: Global,
+    said: &Said<'_, R>,
     sink: &mut S,
-) -> Result<(), ReportFault>
+) -> Result<(), Stopped>
     requires { S.failures sink.old < 2 ^ 64 - 1 }
-    ensures ok { OnOk result (Appends (S.held sink.old) (S.held sink.new) (lines_text lines version.now against.now)) }
-    ensures err { OnErr result (AppendsPrefix (S.held sink.old) (S.held sink.new) (lines_text lines version.now against.now)) }
-    ensures found { result ≢ Err ReportFault.NoStage }
-    ensures failures { S.failures sink.new ≡ S.failures sink.old + failed_writes result }
+    ensures { Writes S.held S.failures sink.old sink.new result (report_text said.now) }
 {
-    line.clear();
-    let count = line_count(lines, version, against);
-    push_header(line, lines, version, against, count)?;
-    write_each_place(line, lines, version, against, sink)
+    let mut line = String::new(alloc);
+    let mut rows = said.rows();
+    push_head(&mut line, &said.head, rows.count())?;
+    sink.write(line.as_bytes())?;
+    write_rows(&mut line, &mut rows, sink)
 }
 
-// Writes the header, which is in the line buffer, and then the line of each place.
-fn write_each_place<R: StateRepresentation, S: Sink>(
+// Writes a line for each row.
+fn write_rows<R: StateRepresentation, S: Sink>(
     line: &mut String,
-    lines: Lines,
-    version: &Version<R>,
-    against: &Version<R>,
+    rows: &mut Rows<'_, R>,
     sink: &mut S,
-) -> Result<(), ReportFault>
+) -> Result<(), Stopped>
     requires { S.failures sink.old < 2 ^ 64 - 1 }
-    ensures ok { OnOk result (Appends (S.held sink.old) (S.held sink.new)
-        (string_bytes line.old ++ flat_map (place_line lines version.now against.now) (all_places version.now.graph.places))) }
-    ensures err { OnErr result (AppendsPrefix (S.held sink.old) (S.held sink.new)
-        (string_bytes line.old ++ flat_map (place_line lines version.now against.now) (all_places version.now.graph.places))) }
-    ensures found { result ≢ Err ReportFault.NoStage }
-    ensures failures { S.failures sink.new ≡ S.failures sink.old + failed_writes result }
+    ensures { Writes S.held S.failures sink.old sink.new result (flat_map row_text rows.old) }
 {
-    sink.write(line.as_bytes())?;
-    for place in 0..version.graph().len() as u32 {
-        write_place(line, lines, version, against, place, sink)?;
+    while let Some(row) = rows.next() {
+        write_row(line, &row, sink)?;
     }
     Ok(())
 }
 
-/// Writes the line of a place, or nothing if it has none.
-pub(crate) fn write_place<R: StateRepresentation, S: Sink>(
-    line: &mut String,
-    lines: Lines,
-    version: &Version<R>,
-    against: &Version<R>,
-    place: u32,
-    sink: &mut S,
-) -> Result<(), ReportFault>
+// Writes the line of a row.
+fn write_row<S: Sink>(line: &mut String, row: &Row<'_>, sink: &mut S) -> Result<(), Stopped>
     requires { S.failures sink.old < 2 ^ 64 - 1 }
-    ensures ok { OnOk result (Appends (S.held sink.old) (S.held sink.new) (place_line lines version.now against.now place)) }
-    ensures err { OnErr result (AppendsPrefix (S.held sink.old) (S.held sink.new) (place_line lines version.now against.now place)) }
-    ensures found { result ≢ Err ReportFault.NoStage }
-    ensures failures { S.failures sink.new ≡ S.failures sink.old + failed_writes result }
+    ensures { Writes S.held S.failures sink.old sink.new result (row_text row.now) }
 {
     line.clear();
-    push_line(line, lines, version, against, place)?;
+    push_row(line, row)?;
     sink.write(line.as_bytes())?;
     Ok(())
 }

@@ -20,9 +20,9 @@ use Rattle.recording.specs.declared.fault.Fault.TheVariants as fault
 use Rattle.recording.specs.declared.step.Asked.{Asked}
 use Rattle.recording.specs.declared.step.Asked.TheVariants as asked
 use Rattle.recording.specs.declared.step.Step.{Step}
-use Rattle.report_json.specs.Forms.{form_of}
-use Rattle.report_json.specs.declared.form.Form.{Form}
-use Rattle.report_json.specs.declared.form.Format.{Format}
+use Rattle.report_form.specs.Forms.{form_of}
+use Rattle.report_form.specs.declared.form.Form.{Form}
+use Rattle.report_form.specs.declared.form.Format.{Format}
 use Rattle.serve_script.specs.Replies.{base_in}
 use Rattle.serve_script.specs.Told.{reply_told}
 

@@ -5,9 +5,9 @@ use Rattle.script_lines.specs.Lines.{IsBegun, ScriptLine, comes_after, lines_of}
 use Rattle.script_lines.specs.ReaderView.{ReaderView}
 use Rattle.script_lines.proofs.LineLemmas.{comes_after-last}
 use Rattle.session_core.specs.Machine.{State}
-use Rattle.report_json.specs.Forms.{form_of}
-use Rattle.report_json.specs.declared.form.Form.{Form}
-use Rattle.report_json.specs.declared.form.Format.{Format}
+use Rattle.report_form.specs.Forms.{form_of}
+use Rattle.report_form.specs.declared.form.Form.{Form}
+use Rattle.report_form.specs.declared.form.Format.{Format}
 use Rattle.serve_script.specs.Serves.{ServesAll}
 use Rattle.stage_graph.specs.Plain.{PlainGraph}
 use Rattle.version_store.specs.Plain.{PlainVersion}

@@ -6,14 +6,14 @@ use Rattle.stage_graph.specs.Plain.{PlainGraph, place_named}
 use Rattle.stage_graph.specs.declared.edit.Edit.{Edit}
 use Rattle.stage_graph.specs.declared.stage.Stage.{Stage}
 use Rattle.version_store.specs.Plain.{PlainVersion, opening_version}
-use Rattle.report_text.specs.declared.comparison.Comparison.{Comparison}
-use Rattle.report_text.specs.declared.comparison.Comparison.TheVariants as comparison
-use Rattle.report_text.specs.declared.what.What.{What}
-use Rattle.report_text.specs.declared.what.What.TheVariants as what
-use Rattle.report_json.specs.Forms.{form_of}
-use Rattle.report_json.specs.Told.{comparison_told, report_told, sweep_told}
-use Rattle.report_json.specs.declared.form.Form.{Form}
-use Rattle.report_json.specs.declared.form.Format.{Format}
+use Rattle.report_rows.specs.declared.comparison.Comparison.{Comparison}
+use Rattle.report_rows.specs.declared.comparison.Comparison.TheVariants as comparison
+use Rattle.report_rows.specs.declared.what.What.{What}
+use Rattle.report_rows.specs.declared.what.What.TheVariants as what
+use Rattle.report_form.specs.Forms.{form_of}
+use Rattle.report_form.specs.Told.{comparison_told, report_told, sweep_told}
+use Rattle.report_form.specs.declared.form.Form.{Form}
+use Rattle.report_form.specs.declared.form.Format.{Format}
 use Rattle.recording.specs.StepOf.{step_of}
 use Rattle.recording.specs.declared.fault.Fault.{Fault}
 use Rattle.recording.specs.declared.fault.Fault.TheVariants.{TooLong}

@@ -1,6 +1,6 @@
 -- What a script has done when all of it was read.
 use Rattle.std.specs.Prelude.{◌≡◌, ℕ, List, Option, Some}
-use Rattle.report_json.specs.declared.form.Format.{Format}
+use Rattle.report_form.specs.declared.form.Format.{Format}
 use Rattle.script_lines.specs.Lines.{lines_of}
 use Rattle.serve_script.specs.Serves.{ServesAll}
 use Rattle.session_core.specs.Machine.{State}

@@ -9,7 +9,7 @@ use Rattle.stage_graph.specs.declared.fault.Refusal.{Refusal as EditRefusal}
 use Rattle.stage_graph.specs.declared.fault.Refusal.TheVariants.{InUse}
 use Rattle.stage_graph.specs.declared.stage.Stage.{Stage}
 use Rattle.version_store.specs.Plain.{PlainVersion}
-use Rattle.report_text.specs.Texts.{line_end}
+use Rattle.text_io.specs.Writes.{line_end}
 use Rattle.session_core.specs.Headline.{session_of}
 use Rattle.session_core.specs.Machine.{State}
 use Rattle.session_core.specs.declared.event.Event.{Event}

@@ -4,9 +4,9 @@ use Rattle.recording.specs.FaultTexts.{fault_text}
 use Rattle.recording.specs.declared.fault.Fault.{Fault}
 use Rattle.recording_text.specs.Reports.{report_lines, report_object}
 use Rattle.report_json.specs.Json.{answer_text}
-use Rattle.report_json.specs.declared.form.Form.{Form}
-use Rattle.report_json.specs.declared.form.Form.TheVariants.{Text, Json}
-use Rattle.report_text.specs.Texts.{line_end}
+use Rattle.report_form.specs.declared.form.Form.{Form}
+use Rattle.report_form.specs.declared.form.Form.TheVariants.{Text, Json}
+use Rattle.text_io.specs.Writes.{line_end}
 use Rattle.session_core.specs.declared.event.Event.{Event}
 use Rattle.session_core.specs.declared.event.Reply.{Reply}
 use Rattle.version_store.specs.Plain.{PlainVersion}

@@ -2,7 +2,7 @@
 ghost use Rattle.std.specs.Prelude.{◌≡◌, ◌++◌, [], IfOk, OnOk, string_bytes, option_copied, slice_index_or};
 ghost use Rattle.std.specs.List.{filter_map};
 ghost use Rattle.recording.specs.FaultTexts.{fault_text};
-ghost use Rattle.report_text.specs.Texts.{line_end};
+ghost use Rattle.text_io.specs.Writes.{line_end};
 ghost use Rattle.serve_script.specs.Replies.{added_in, base_in, dependent_text, detail_text, index_text, name_of_dependent, refused_line, reply_line, dependent_name};
 
 use recording::Fault;

@@ -20,7 +20,7 @@ use crate::reply::base_of;
 use crate::telling::{tell_fault, tell_reply};
 use level_pool::Runner;
 use recording::{Asked, Fault, Step, StepReader, Subject};
-use report_json::Form;
+use report_form::Form;
 use script_lines::Line;
 use session_core::{Event, Reply, Table};
 use share_tree::{Again, Held};

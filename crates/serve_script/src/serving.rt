@@ -13,7 +13,7 @@ ghost use Rattle.serve_script.specs.Playing.{PlaysAll, PlaysOn, PlaysTo};
 use crate::fault::{AnswerFault, ServeFault};
 use crate::server::Server;
 use level_pool::Runner;
-use report_json::Format;
+use report_form::Format;
 use script_lines::{Line, LineReader};
 use stage_graph::Graph;
 use std::alloc::Global;

@@ -1,12 +1,13 @@
 //! Where text is written to and read from: a sink and a source, each of which counts its failures.
 //!
-//! A contract of a call that writes can then say that it failed only because one of its own writes
-//! failed. [`CountedWriter`] and [`CountedReader`] make a sink and a source of any writer and any
-//! reader of std.
+//! `Writes` of `specs/Writes.antt` is what a call wrote of a text that nothing but a failed write or a lack of memory can
+//! cut short. [`CountedWriter`] and [`CountedReader`] make a sink and a source of any writer and any reader of std.
 #![tactic(auto)]
 
 mod sink;
 mod source;
+mod stopped;
 
 pub use sink::{CountedWriter, Sink, WriteFault};
 pub use source::{CountedReader, ReadFault, Source};
+pub use stopped::Stopped;

@@ -46,6 +46,11 @@ abbrev pub held : Option Done → Before
 held None = stood.Pending
 held (Some done) = stood.Done done.outcome done.moment
 
+-- what a stage held by its state, if it was there
+abbrev pub held_as : Option State → Before
+held_as None = stood.Absent
+held_as (Some state) = held state.done
+
 abbrev pub held_by : PlainGraph → ℕ → Option Stage → Before
 held_by graph place None = stood.Absent
 held_by graph place (Some stage) = held (state_of graph place).done

@@ -1,5 +1,6 @@
 //! A graph with its order and the states of its stages.
-ghost use Rattle.std.specs.Prelude.{◌≡◌, ◌≤◌, ◌+◌, ◌^◌, None, Some, IfOk, IfErr, OnErr, MatchResult, Ok, Err, length};
+ghost use Rattle.std.specs.Prelude.{◌≡◌, ◌≤◌, ◌+◌, ◌^◌, None, Some, IfOk, IfErr, OnErr, MatchOption, MatchResult, Ok, Err, length, option_copied};
+ghost use Rattle.std.specs.Option.{option_map};
 ghost use Rattle.stage_graph.specs.Changes.{changed, IsNewCycle, IsSettled};
 ghost use Rattle.stage_graph.specs.Plain.{stage_at, dependents, IsLive};
 ghost use Rattle.stage_graph.specs.Walk.{IsRanked, rank};
@@ -17,7 +18,7 @@ ghost use Rattle.version_store.specs.Starts.{action_start_at};
 
 use crate::before::Before;
 use level_pool::Runner;
-use propagate::{Old, StateRepresentation, States, propagate};
+use propagate::{KeptState, Old, StateRepresentation, States, propagate};
 use rank_order::Order;
 use scratch_eval::{evaluate, follow_blame};
 use share_tree::Held;
@@ -138,6 +139,27 @@ impl<R: StateRepresentation> Evaluated<R> {
         match self.states.get(place) {
             Some(state) => state,
             None => State::PENDING,
+        }
+    }
+
+    /// The state of a place, where it is stored; none at most where no stage stands.
+    #[inline(always)]
+    pub(crate) fn kept_at(&self, place: u32) -> Option<&KeptState>
+        ensures { MatchOption result (stage_at self.now.places place ≡ None) (λ kept. kept.now ≡ state_of self.now place) }
+    {
+        match self.states.kept(place) {
+            Some(kept) => Some(kept),
+            None => None,
+        }
+    }
+
+    /// The state of the stage at a place, where it is stored; none where no stage stands.
+    pub(crate) fn kept(&self, place: u32) -> Option<&KeptState>
+        ensures { option_copied result ≡ option_map (λ stage. state_of self.now place) (stage_at self.now.places place) }
+    {
+        match self.graph().stage(place) {
+            Some(_) => self.kept_at(place),
+            None => None,
         }
     }
 

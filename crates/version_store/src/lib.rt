@@ -19,7 +19,7 @@ mod view;
 
 pub use before::Before;
 pub use draft::Draft;
-pub use propagate::StateRepresentation;
+pub use propagate::{KeptState, StateRepresentation};
 pub use scratch_eval::QueryFault;
 pub use stage_graph::NoStage;
 pub use version::Version;

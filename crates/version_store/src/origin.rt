@@ -1,10 +1,12 @@
 //! Where a version comes from.
-ghost use Rattle.std.specs.Prelude.{◌≡◌, Some};
-ghost use Rattle.version_store.specs.Queries.{before};
+ghost use Rattle.std.specs.Prelude.{◌≡◌, Some, option_copied};
+ghost use Rattle.std.specs.Option.{option_map};
+ghost use Rattle.stage_graph.specs.Plain.{stage_at};
+ghost use Rattle.version_store.specs.Queries.{before, state_of};
 
 use crate::before::Before;
 use crate::evaluated::Evaluated;
-use propagate::StateRepresentation;
+use propagate::{KeptState, StateRepresentation};
 use share_tree::{Again, Held};
 use stage_graph::{Edits, Graph};
 use std::alloc::AllocError;
@@ -61,6 +63,14 @@ impl<R: StateRepresentation> Origin<R> {
         ensures { result ≡ before (Some self.now) place }
     {
         self.graph.holds(place)
+    }
+
+    /// The state of the stage at a place of the parent's graph, where it is stored; none where no stage stood.
+    #[inline(always)]
+    pub(crate) fn kept(&self, place: u32) -> Option<&KeptState>
+        ensures { option_copied result ≡ option_map (λ stage. state_of self.now.graph place) (stage_at self.now.graph.places place) }
+    {
+        self.graph.kept(place)
     }
 
     /// The edits.

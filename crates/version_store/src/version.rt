@@ -1,5 +1,5 @@
 //! Versions: a graph under its number.
-ghost use Rattle.std.specs.Prelude.{◌≡◌, ◌+◌, ◌*◌, ◌^◌, ◌≤◌, None, Some, IfOk, IfSome, MatchResult};
+ghost use Rattle.std.specs.Prelude.{◌≡◌, ◌+◌, ◌*◌, ◌^◌, ◌≤◌, None, Some, IfOk, IfSome, MatchResult, option_copied};
 ghost use Rattle.std.specs.Option.{option_map};
 ghost use Rattle.stage_graph.specs.Plain.{place_named, stage_at, dependents, IsLive};
 ghost use Rattle.stage_graph.specs.Walk.{IsRanked, rank};
@@ -9,14 +9,14 @@ ghost use Rattle.scratch_eval.specs.Answers.{NoneQueued};
 ghost use Rattle.scratch_eval.specs.Path.{IsPath, path, reason_at};
 ghost use Rattle.scratch_eval.specs.Queries.{AnswersOrMemory, chain_at, list_at};
 ghost use Rattle.version_store.specs.Plain.{opening_version, numbered, parent_of};
-ghost use Rattle.version_store.specs.Queries.{state_of, told, found, outcome_in, moment_in, start_in, before, touched_by_place, touched_in, touched_of, KeepsOthers};
+ghost use Rattle.version_store.specs.Queries.{state_of, told, found, outcome_in, moment_in, start_in, before, held_as, touched_by_place, touched_in, touched_of, KeepsOthers};
 
 use crate::before::Before;
 use crate::evaluated::Evaluated;
 use crate::origin::Origin;
 use crate::view::StageView;
 use act_expr::Outcome;
-use propagate::StateRepresentation;
+use propagate::{KeptState, StateRepresentation};
 use scratch_eval::QueryFault;
 use share_tree::{Again, Held};
 use stage_graph::{Graph, NoStage, Places};
@@ -274,6 +274,17 @@ impl<R: StateRepresentation> Version<R> {
         ensures { result ≡ told self.now.graph place (before self.now.origin place) }
     {
         Ok(self.stage(place).ok_or(NoStage)?.before())
+    }
+
+    /// The state of the stage at a place of the parent, where it is stored; none where no stage stood.
+    #[inline(always)]
+    pub(crate) fn kept_before(&self, place: u32) -> Option<&KeptState>
+        ensures { held_as (option_copied result) ≡ before self.now.origin place }
+    {
+        match &self.origin {
+            Some(origin) => origin.kept(place),
+            None => None,
+        }
     }
 
     /// What stood at a place in the parent.

@@ -1,5 +1,5 @@
 //! A view of one live stage of a version.
-ghost use Rattle.std.specs.Prelude.{◌≡◌, Some, IfOk};
+ghost use Rattle.std.specs.Prelude.{◌≡◌, Some, IfOk, option_copied};
 ghost use Rattle.std.specs.Coded.{codes};
 ghost use Rattle.act_expr.specs.ExpressionCode.{coded_expression};
 ghost use Rattle.stage_graph.specs.Plain.{stage_at, dependents};
@@ -8,13 +8,13 @@ ghost use Rattle.stage_ops.specs.Java.{java_step};
 ghost use Rattle.stage_ops.specs.Joins.{joined};
 ghost use Rattle.scratch_eval.specs.Blame.{chain};
 ghost use Rattle.scratch_eval.specs.Path.{IsPath, path, reason_at};
-ghost use Rattle.version_store.specs.Queries.{state_of, outcome_in, moment_in, start_in, before};
+ghost use Rattle.version_store.specs.Queries.{state_of, outcome_in, moment_in, start_in, before, held_as};
 ghost use Rattle.version_store.specs.Starts.{action_start_at};
 
 use crate::before::Before;
 use crate::version::Version;
 use act_expr::Outcome;
-use propagate::StateRepresentation;
+use propagate::{KeptState, StateRepresentation};
 use stage_graph::{Places, Stage};
 use stage_ops::{Join, Reason, State, join};
 use std::alloc::{AllocError, Global};
@@ -43,6 +43,14 @@ impl<'a, R: StateRepresentation> StageView<'a, R> {
         ensures { result ≡ state_of self.now.version.now.graph self.now.place }
     {
         self.version.evaluated().state_at(self.place)
+    }
+
+    /// The state of the stage, where it is stored.
+    #[inline(always)]
+    pub fn kept(&self) -> &'a KeptState
+        ensures { result.now ≡ state_of self.now.version.now.graph self.now.place }
+    {
+        self.version.evaluated().kept_at(self.place).unwrap()
     }
 
     /// The outcome of the stage; none while it is pending.
@@ -107,6 +115,14 @@ impl<'a, R: StateRepresentation> StageView<'a, R> {
         ensures { result ≡ before self.now.version.now.origin self.now.place }
     {
         self.version.held_before(self.place)
+    }
+
+    /// The state of the stage in the parent, where it is stored; none where it was not there, or the version has no parent.
+    #[inline(always)]
+    pub fn kept_before(&self) -> Option<&'a KeptState>
+        ensures { held_as (option_copied result) ≡ before self.now.version.now.origin self.now.place }
+    {
+        self.version.kept_before(self.place)
     }
 
     /// The cause of the stage's state: why it completed when it did, or why it is pending.

@@ -4,14 +4,14 @@ ghost use Rattle.stage_graph.specs.Walk.{IsRanked};
 ghost use Rattle.text_io.specs.Counted.{read_failures};
 
 use crate::fault::ended;
-use crate::format::format_of;
 use command_line::{Manner, Scripts};
+use commands::format_of;
 use console::{
     Fault, KeepingSink, KeptScript, Named, StepTeller, Voice, explained, file, graph,
     opened_scripts, unread_scripts, warn, with_reason, with_unread_script,
 };
 use many_scripts::many;
-use report_json::Format;
+use report_form::Format;
 use stage_graph::{Graph, InShared};
 use std::alloc::Global;
 use std::cell::Cell;

@@ -1,4 +1,4 @@
-use Rattle.report_text.specs.declared.what.What.TheVariants.{All}
+use Rattle.report_rows.specs.declared.what.What.TheVariants.{All}
 use Rattle.recording_reports.specs.Reported.{told}
 use Rattle.recording_reports.proofs.InTurn.{text_of_all}
 use Rattle.recording_reports.proofs.all.report_all.Goals as goal

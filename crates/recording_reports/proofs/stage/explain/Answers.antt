@@ -1,4 +1,4 @@
-use Rattle.report_text.proofs.LinesOfPlaces.{on_err}
+use Rattle.text_io.proofs.Writing.{on_err}
 use Rattle.recording_reports.proofs.InTurn.{in_first, in_second, in_third}
 use Rattle.recording_reports.proofs.stage.explain.Goals as goal
 

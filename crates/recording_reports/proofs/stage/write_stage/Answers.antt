@@ -1,5 +1,5 @@
 use Rattle.std.proofs.Common.{ap, sym}
-use Rattle.report_text.proofs.LinesOfPlaces.{of_the_text}
+use Rattle.text_io.proofs.Writing.{of_the_text}
 use Rattle.recording_reports.specs.Reported.{stage_text}
 use Rattle.recording_reports.proofs.stage.write_stage.Goals as goal
 

@@ -3,7 +3,7 @@ use Rattle.std.specs.Prelude.{IfOk}
 use Rattle.json.specs.Token.{Token}
 use Rattle.serde_json.specs.Data.{depth}
 use Rattle.serde_json.specs.Read.{max_depth}
-use Rattle.report_text.specs.Texts.{line_end}
+use Rattle.text_io.specs.Writes.{line_end}
 use Rattle.report_json.specs.Json.{at_line}
 use Rattle.report_json.specs.Tokens.{Tells}
 use Rattle.report_json.specs.Versions.{at_version_json}

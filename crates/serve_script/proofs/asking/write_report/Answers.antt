@@ -1,5 +1,5 @@
 use Rattle.std.proofs.Common.{ap, Err}
-use Rattle.report_json.specs.Told.{report_told}
+use Rattle.report_form.specs.Told.{report_told}
 use Rattle.serve_script.proofs.Answering.{then_told, then_part_told}
 use Rattle.serve_script.proofs.asking.write_report.Goals as goal
 

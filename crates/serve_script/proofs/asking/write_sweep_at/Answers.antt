@@ -1,5 +1,5 @@
 use Rattle.std.proofs.Common.{ap, Err, None}
-use Rattle.report_json.specs.Told.{sweep_told}
+use Rattle.report_form.specs.Told.{sweep_told}
 use Rattle.serve_script.proofs.Answering.{then_told, then_part_told}
 use Rattle.serve_script.proofs.asking.write_sweep_at.Goals as goal
 

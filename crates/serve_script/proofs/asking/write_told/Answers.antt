@@ -1,6 +1,6 @@
 use Rattle.std.proofs.Common.{ap, sym, ◌∙◌}
 use Rattle.std.specs.Option.{option_and_then}
-use Rattle.report_json.specs.Told.{report_told}
+use Rattle.report_form.specs.Told.{report_told}
 use Rattle.serve_script.specs.Answers.{or_no_stage}
 use Rattle.serve_script.proofs.Answering.{part_of}
 use Rattle.serve_script.proofs.asking.write_told.Goals as goal

@@ -1,0 +1,35 @@
+//! What an answer that ended early ends the program with.
+use console::Fault;
+use recording_reports::RecordingFault;
+use recording_text::TextFault;
+use serve_script::ServeFault;
+
+/// The end of a report.
+pub(crate) fn reported(end: Result<(), RecordingFault>) -> Result<(), Fault> {
+    match end {
+        Ok(()) => Ok(()),
+        Err(RecordingFault::Refused(fault)) => Err(Fault::Refused(fault, None)),
+        Err(RecordingFault::NoStage) => Err(Fault::NoStage(None)),
+        Err(RecordingFault::Write) => Err(Fault::Write(None)),
+        Err(RecordingFault::Memory) => Err(Fault::Memory),
+    }
+}
+
+/// The end of a script.
+pub(crate) fn served<T>(end: Result<T, ServeFault>) -> Result<T, Fault> {
+    match end {
+        Ok(answer) => Ok(answer),
+        Err(ServeFault::Read) => Err(Fault::Read(None)),
+        Err(ServeFault::Write) => Err(Fault::Write(None)),
+        Err(ServeFault::Memory) => Err(Fault::Memory),
+    }
+}
+
+/// The end of a version that is written as a recording.
+pub(crate) fn written(end: Result<(), TextFault>) -> Result<(), Fault> {
+    match end {
+        Ok(()) => Ok(()),
+        Err(TextFault::Write) => Err(Fault::Write(None)),
+        Err(TextFault::Memory) => Err(Fault::Memory),
+    }
+}

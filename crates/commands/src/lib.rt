@@ -1,0 +1,24 @@
+//! What `report`, `explain`, `sweep`, `draw`, `serve`, `export` and `import` do: from what their words ask for to what is printed.
+//!
+//! It stands on the crates that answer (`recording_reports`, `recording_pictures`, `serve_script`, `recording_text`,
+//! `trace_spans`, `trace_import`) and on `console`, by which people are told of mistakes. A command's own steps belong here; what it
+//! answers belongs into the crate that it calls.
+#![tactic(auto)]
+
+mod draw;
+mod export;
+mod fault;
+mod format;
+mod importing;
+mod naming;
+mod refusing;
+mod report;
+mod serve;
+
+pub use draw::run_draw;
+pub use export::run_export;
+pub use format::format_of;
+pub use importing::run_import;
+pub use refusing::refuse;
+pub use report::{run_report, run_report_stage};
+pub use serve::run_serve;

@@ -1,0 +1,8 @@
+//! Reports of a version in the form that is asked for: text for people, or JSON for programs.
+#![tactic(auto)]
+
+mod form;
+mod telling;
+
+pub use form::{Form, Format};
+pub use telling::{tell_comparison, tell_report, tell_sweep};

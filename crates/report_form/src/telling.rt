@@ -1,0 +1,89 @@
+//! The reports of a version in the form that is asked for.
+ghost use Rattle.std.specs.Prelude.{◌≡◌, ◌≢◌, ◌↔◌, ◌+◌, ◌-◌, ◌^◌, ◌<◌, [], None, unwrap_or, OnOk, OnErr};
+ghost use Rattle.std.specs.Io.KnownBytes.{Appends};
+ghost use Rattle.text_io.specs.Sink.{AppendsPrefix};
+ghost use Rattle.report_rows.specs.Faults.{failed_writes};
+ghost use Rattle.report_form.specs.Told.{comparison_told, report_told, sweep_told};
+
+use crate::form::Form;
+use level_pool::Runner;
+use propagate::StateRepresentation;
+use report_json::{write_comparison, write_report, write_sweep};
+use report_rows::{Comparison, ReportFault, What};
+use report_text::{compare, report, report_sweep};
+use std::alloc::Global;
+use text_io::Sink;
+use version_store::Version;
+
+/// Writes a report of a version in the form that is asked for: as `report` of `report_text` does, or as `write_report`.
+///
+/// Errors: `NoStage` where the report asks for a stage that is not live, and then nothing is written; `Write` where a
+/// write failed or took nothing; `Memory`.
+pub fn tell_report<R: StateRepresentation, S: Sink>(
+    alloc: Global,
+    version: &Version<R>,
+    what: What,
+    form: Form,
+    sink: &mut S,
+) -> Result<(), ReportFault>
+    requires { S.failures sink.old < 2 ^ 64 - 1 }
+    ensures ok { OnOk result (Appends (S.held sink.old) (S.held sink.new) (unwrap_or (report_told form version.now what) [])) }
+    ensures err { OnErr result (AppendsPrefix (S.held sink.old) (S.held sink.new) (unwrap_or (report_told form version.now what) [])) }
+    ensures no_stage { (result ≡ Err ReportFault.NoStage) ↔ (report_told form version.now what ≡ None) }
+    ensures failures { S.failures sink.new ≡ S.failures sink.old + failed_writes result }
+{
+    match form {
+        Form::Text => report(alloc, version, what, sink),
+        Form::Json { line } => write_report(alloc, version, what, line, sink),
+    }
+}
+
+/// Writes how a version stands against another one in the form that is asked for: as `compare` of `report_text` does, or as
+/// `write_comparison`.
+///
+/// Errors: `Write` where a write failed or took nothing; `Memory`.
+pub fn tell_comparison<R: StateRepresentation, S: Sink>(
+    alloc: Global,
+    version: &Version<R>,
+    against: &Version<R>,
+    comparison: Comparison,
+    form: Form,
+    sink: &mut S,
+) -> Result<(), ReportFault>
+    requires { S.failures sink.old < 2 ^ 64 - 1 }
+    ensures ok { OnOk result (Appends (S.held sink.old) (S.held sink.new) (comparison_told form comparison version.now against.now)) }
+    ensures err { OnErr result (AppendsPrefix (S.held sink.old) (S.held sink.new) (comparison_told form comparison version.now against.now)) }
+    ensures found { result ≢ Err ReportFault.NoStage }
+    ensures failures { S.failures sink.new ≡ S.failures sink.old + failed_writes result }
+{
+    match form {
+        Form::Text => compare(alloc, version, against, comparison, sink),
+        Form::Json { line } => write_comparison(alloc, version, against, comparison, line, sink),
+    }
+}
+
+/// Writes which stages, if their action took no time, would make a stage complete sooner, in the form that is asked for: as
+/// `report_sweep` of `report_text` does, or as `write_sweep`. All are counted; no more than `most` are told.
+///
+/// Errors: `NoStage` where the stage is not live, and then nothing is written; `Write` where a write failed or took
+/// nothing; `Memory`.
+pub fn tell_sweep<R: StateRepresentation, W: Runner, S: Sink>(
+    alloc: Global,
+    version: &Version<R>,
+    target: u32,
+    most: Option<usize>,
+    runner: &W,
+    form: Form,
+    sink: &mut S,
+) -> Result<(), ReportFault>
+    requires { S.failures sink.old < 2 ^ 64 - 1 }
+    ensures ok { OnOk result (Appends (S.held sink.old) (S.held sink.new) (unwrap_or (sweep_told form version.now target most) [])) }
+    ensures err { OnErr result (AppendsPrefix (S.held sink.old) (S.held sink.new) (unwrap_or (sweep_told form version.now target most) [])) }
+    ensures no_stage { (result ≡ Err ReportFault.NoStage) ↔ (sweep_told form version.now target most ≡ None) }
+    ensures failures { S.failures sink.new ≡ S.failures sink.old + failed_writes result }
+{
+    match form {
+        Form::Text => report_sweep(alloc, version, target, most, runner, sink),
+        Form::Json { line } => write_sweep(alloc, version, target, most, runner, line, sink),
+    }
+}

@@ -1,0 +1,31 @@
+use Rattle.std.proofs.Common.{ap, refl}
+use Rattle.report_json.specs.Json.{count}
+use Rattle.report_json.proofs.Pushed.{no_rows_told, only_row}
+use Rattle.report_json.proofs.heads.push_first.Goals as goal
+
+pub returns-in-All : goal.returns-in-All
+returns-in-All c = rw c.in-All.is (no_rows_told _)
+
+pub returns-in-Times : goal.returns-in-Times
+returns-in-Times c = rw c.in-Times.is (no_rows_told _)
+
+pub returns-in-Path : goal.returns-in-Path
+returns-in-Path c = rw c.in-Path.is (no_rows_told _)
+
+pub returns-in-Changes : goal.returns-in-Changes
+returns-in-Changes c = rw c.in-Changes.is (no_rows_told _)
+
+pub returns-in-Drift : goal.returns-in-Drift
+returns-in-Drift c = rw c.in-Drift.is (no_rows_told _)
+
+pub returns-in-Blame : goal.returns-in-Blame
+returns-in-Blame c = rw c.in-Blame.is (only_row c.push_names_member.result _ _ _ _ _ refl c.push_names_member.ensures)
+
+pub returns-in-ChangesAgainst : goal.returns-in-ChangesAgainst
+returns-in-ChangesAgainst c = rw c.in-ChangesAgainst.is (only_row c.count.result _ _ _ _ _ (ap count c.from.ensures) c.count.ensures)
+
+pub returns-in-DriftAgainst : goal.returns-in-DriftAgainst
+returns-in-DriftAgainst c = rw c.in-DriftAgainst.is (only_row c.count-in-DriftAgainst.result _ _ _ _ _ (ap count c.from-in-DriftAgainst.ensures) c.count-in-DriftAgainst.ensures)
+
+pub returns-in-Sweep : goal.returns-in-Sweep
+returns-in-Sweep c = rw c.in-Sweep.is (only_row c.count-in-Sweep.result _ _ _ _ _ refl c.count-in-Sweep.ensures)

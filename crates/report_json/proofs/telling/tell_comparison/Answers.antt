@@ -1,9 +1,0 @@
-use Rattle.std.proofs.Common.{ap, sym}
-use Rattle.report_text.proofs.LinesOfPlaces.{of_the_text}
-use Rattle.report_json.specs.Told.{comparison_told}
-use Rattle.report_json.specs.declared.form.Form.{Form}
-use Rattle.report_json.proofs.telling.tell_comparison.Goals as goal
-
-pub returns-in-Json-clause-err : goal.returns-in-Json-clause-err
-returns-in-Json-clause-err g c =
-    of_the_text _ _ _ _ _ (ap (λ (form : Form). comparison_told form c.args.comparison c.args.version.now c.args.against.now) (sym c.in-Json.is)) c.write_comparison.ensures.err

@@ -1,0 +1,120 @@
+-- What a report says, as a JSON object. Its members stand in the order of their names, in two parts: `line`, where it answers one, stands between them.
+use Rattle.std.specs.Prelude.{ℕ, List, [], ◌∷◌, ◌++◌, Option, codes, map}
+use Rattle.act_expr.specs.declared.outcome.Outcome.{Outcome}
+use Rattle.stage_graph.specs.declared.op.Op.{Op}
+use Rattle.stage_graph.specs.Texts.{op_text}
+use Rattle.stage_ops.specs.declared.state.Join.{Join}
+use Rattle.stage_ops.specs.declared.state.Join.TheVariants.{Waits, Returns, Cancelled, Throws}
+use Rattle.serde_json.specs.Data.{Data, null}
+use Rattle.report_rows.specs.declared.head.Head.{Head}
+use Rattle.report_rows.specs.declared.head.Head.TheVariants.{All, Times, One, Blame, Path, Changes, Drift, ChangesAgainst, DriftAgainst, Sweep}
+use Rattle.report_rows.specs.declared.row.Row.{Row}
+use Rattle.report_rows.specs.declared.standing.Standing.{Standing}
+use Rattle.report_rows.specs.Modes.{mode_text}
+use Rattle.report_rows.specs.Report.{Report}
+use Rattle.report_json.specs.Json.{NamedValues, text, count, optional, object, outcome_json, value_json}
+use Rattle.report_json.specs.Rows.{moment_in, names_json, outcome_in, rows_json}
+
+-- what `join` answers: nothing yet, a value, or an exception, which may have a cause
+abbrev pub join_members : Join → NamedValues
+join_members Waits = (codes "kind", text (codes "waits")) ∷ []
+join_members (Returns value) = (codes "kind", text (codes "returns")) ∷ (codes "value", value_json value) ∷ []
+join_members Cancelled =
+    (codes "kind", text (codes "throws")) ∷
+    (codes "exception", text (codes "java.util.concurrent.CancellationException")) ∷
+    (codes "cause", null) ∷ []
+join_members (Throws name) =
+    (codes "kind", text (codes "throws")) ∷
+    (codes "exception", text (codes "java.util.concurrent.CompletionException")) ∷
+    (codes "cause", text name) ∷ []
+
+-- ---- what a report says under a name
+
+pub data Fact : Type 0 where
+  a_text : List ℕ → Fact
+  a_count : ℕ → Fact
+  -- null where there is none
+  maybe_count : Option ℕ → Fact
+  maybe_outcome : Option Outcome → Fact
+  some_names : List (List ℕ) → Fact
+  an_answer : Join → Fact
+  some_rows : List Row → Fact
+
+abbrev pub fact_json : Fact → Data
+fact_json (a_text content) = text content
+fact_json (a_count amount) = count amount
+fact_json (maybe_count amount) = optional count amount
+fact_json (maybe_outcome outcome) = optional outcome_json outcome
+fact_json (some_names listed) = names_json listed
+fact_json (an_answer join) = object (join_members join)
+fact_json (some_rows listed) = rows_json listed
+
+abbrev pub Facts : Type 0
+Facts = List (List ℕ × Fact)
+
+abbrev pub facts_json : Facts → NamedValues
+facts_json facts = map (λ fact. (fact.0, fact_json fact.1)) facts
+
+-- ---- the facts of each report
+
+-- those whose names are before `line`
+abbrev pub facts_before : Head → Facts
+facts_before (All version parent mode) = []
+facts_before (Times version) = []
+facts_before (One version name op rank standing sources inner dependents join) =
+    (codes "dependents", some_names dependents) ∷ (codes "inner", some_names inner) ∷ (codes "join", an_answer join) ∷ []
+facts_before (Blame version name chain) = (codes "chain", some_names chain) ∷ []
+facts_before (Path version name moment) = []
+facts_before (Changes version parent) = []
+facts_before (Drift version parent) = []
+facts_before (ChangesAgainst version against) = (codes "against", a_count against) ∷ []
+facts_before (DriftAgainst version against) = (codes "against", a_count against) ∷ []
+-- all trials are counted, of which not all may have a row
+facts_before (Sweep version name moment all) = (codes "count", a_count all) ∷ []
+
+-- of a list of stages
+abbrev pub listed : List ℕ → List Row → ℕ → Facts
+listed report stages version = (codes "report", a_text report) ∷ (codes "stages", some_rows stages) ∷ (codes "version", a_count version) ∷ []
+
+-- the same, with the version's parent
+abbrev pub listed_since : List ℕ → Option ℕ → List Row → ℕ → Facts
+listed_since report parent stages version = (codes "parent", maybe_count parent) ∷ listed report stages version
+
+-- of a list of what leads to a stage
+abbrev pub moment_of : List ℕ → Option ℕ → Facts
+moment_of report moment = (codes "moment", maybe_count moment) ∷ (codes "report", a_text report) ∷ []
+
+abbrev pub listed_of : List ℕ → List ℕ → List ℕ → List Row → ℕ → Facts
+listed_of role name title stages version = (role, a_text name) ∷ (title, some_rows stages) ∷ (codes "version", a_count version) ∷ []
+
+abbrev pub last_of_one : ℕ → List ℕ → Op → ℕ → Standing → List (List ℕ) → Facts
+last_of_one version name op rank standing sources =
+    (codes "moment", maybe_count (moment_in standing)) ∷
+    (codes "op", a_text (op_text op)) ∷
+    (codes "outcome", maybe_outcome (outcome_in standing)) ∷
+    (codes "rank", a_count rank) ∷
+    (codes "report", a_text (codes "one")) ∷
+    (codes "sources", some_names sources) ∷
+    (codes "stage", a_text name) ∷
+    (codes "version", a_count version) ∷ []
+
+-- those whose names are after `line`
+abbrev pub facts_after : Head → List Row → Facts
+facts_after (All version parent mode) stages = (codes "mode", a_text (mode_text mode)) ∷ listed_since (codes "all") parent stages version
+facts_after (Times version) stages = listed (codes "times") stages version
+facts_after (One version name op rank standing sources inner dependents join) stages = last_of_one version name op rank standing sources
+facts_after (Blame version name chain) stages = (codes "report", a_text (codes "blame")) ∷ (codes "stage", a_text name) ∷ (codes "version", a_count version) ∷ []
+facts_after (Path version name moment) steps = moment_of (codes "path") moment ++ listed_of (codes "stage") name (codes "steps") steps version
+facts_after (Changes version parent) stages = listed_since (codes "changes") parent stages version
+facts_after (Drift version parent) stages = listed_since (codes "drift") parent stages version
+facts_after (ChangesAgainst version against) stages = listed (codes "changes") stages version
+facts_after (DriftAgainst version against) stages = listed (codes "drift") stages version
+facts_after (Sweep version name moment all) trials = moment_of (codes "sweep") moment ++ listed_of (codes "target") name (codes "trials") trials version
+
+-- ---- the report
+
+abbrev pub facts : Report → Facts
+facts report = facts_before report.head ++ facts_after report.head report.rows
+
+abbrev pub object_of : Report → Data
+object_of report = object (facts_json (facts report))

@@ -1,0 +1,191 @@
+//! Rows in a line.
+ghost use Rattle.std.specs.Prelude.{OnOk};
+ghost use Rattle.report_rows.specs.declared.row.Row.TheVariants as a_row;
+ghost use Rattle.report_rows.specs.declared.shift.Shift.TheVariants.{Earlier, Later};
+ghost use Rattle.report_json.specs.Json.{object};
+ghost use Rattle.report_json.specs.Rows.{row_json, row_members, rows_json, shift_members};
+ghost use Rattle.report_json.specs.Tokens.{Tells};
+
+use crate::line::Line;
+use crate::line_values::push_outcome_member;
+use crate::stages::{push_because, push_moment, push_outcome, push_standing};
+use act_expr::Outcome;
+use propagate::StateRepresentation;
+use report_rows::{Because, Row, Rows, Shift, Standing};
+use stage_graph::Op;
+use std::alloc::AllocError;
+
+/// Adds a list of rows.
+pub(crate) fn push_rows<R: StateRepresentation>(
+    line: &mut Line,
+    rows: &mut Rows<'_, R>,
+) -> Result<(), AllocError>
+    ensures { OnOk result (Tells (rows_json rows.old) line.old line.new) }
+{
+    line.begin_list()?;
+    while let Some(row) = rows.next() {
+        push_row(line, &row)?;
+    }
+    line.end_list()
+}
+
+#[inline(always)]
+fn push_row(line: &mut Line, row: &Row<'_>) -> Result<(), AllocError>
+    ensures { OnOk result (Tells (row_json row.now) line.old line.new) }
+{
+    match row {
+        Row::State {
+            name,
+            op,
+            rank,
+            standing,
+        } => push_state(line, name.as_str(), *op, *rank, &standing.standing()),
+        Row::Times {
+            name,
+            start,
+            queued,
+            runs,
+        } => push_times(line, name.as_str(), *start, *queued, *runs),
+        Row::Step {
+            name,
+            moment,
+            queued,
+            ran,
+            because,
+        } => push_step(line, name.as_str(), *moment, *queued, *ran, because),
+        Row::Change { name, old, new } => {
+            push_change(line, name.as_str(), &old.standing(), &new.standing())
+        }
+        Row::Shift { name, shift } => push_shift(line, name.as_str(), *shift),
+        Row::Trial {
+            name,
+            sooner,
+            outcome,
+            moment,
+        } => push_trial(line, name.as_str(), *sooner, outcome.as_outcome(), *moment),
+    }
+}
+
+// The stage with its operation, its rank, its outcome and its moment.
+fn push_state(
+    line: &mut Line,
+    name: &str,
+    op: Op,
+    rank: u32,
+    standing: &Standing,
+) -> Result<(), AllocError>
+    ensures { OnOk result (Tells (row_json (a_row.State name.now op rank standing.now)) line.old line.new) }
+{
+    let op = op.text();
+    line.begin_object()?;
+    push_moment(line, standing)?;
+    line.text("name", name)?;
+    line.text("op", op)?;
+    push_outcome(line, standing)?;
+    line.count("rank", u64::from(rank))?;
+    line.end_object()
+}
+
+// The stage with when its action started, and how long it was queued and ran.
+fn push_times(
+    line: &mut Line,
+    name: &str,
+    start: Option<u64>,
+    queued: u64,
+    runs: u64,
+) -> Result<(), AllocError>
+    ensures { OnOk result (Tells (row_json (a_row.Times name.now start queued runs)) line.old line.new) }
+{
+    line.begin_object()?;
+    line.text("name", name)?;
+    line.count("queued", queued)?;
+    line.count("runs", runs)?;
+    line.optional_count("start", start)?;
+    line.end_object()
+}
+
+// The stage with its moment, its own share of the time, and its cause.
+fn push_step(
+    line: &mut Line,
+    name: &str,
+    moment: Option<u64>,
+    queued: u64,
+    ran: u64,
+    because: &Because<'_>,
+) -> Result<(), AllocError>
+    ensures { OnOk result (Tells (row_json (a_row.Step name.now moment queued ran because.now)) line.old line.new) }
+{
+    line.begin_object()?;
+    line.name("cause")?;
+    push_because(line, because)?;
+    line.optional_count("moment", moment)?;
+    line.text("name", name)?;
+    line.count("queued", queued)?;
+    line.count("ran", ran)?;
+    line.end_object()
+}
+
+// What the stage is in another version, and what it is here.
+fn push_change(
+    line: &mut Line,
+    name: &str,
+    old: &Standing,
+    new: &Standing,
+) -> Result<(), AllocError>
+    ensures { OnOk result (Tells (row_json (a_row.Change name.now old.now new.now)) line.old line.new) }
+{
+    line.begin_object()?;
+    line.text("name", name)?;
+    line.name("new")?;
+    push_standing(line, new)?;
+    line.name("old")?;
+    push_standing(line, old)?;
+    line.end_object()
+}
+
+// The stage completes so many ticks later.
+fn push_later(line: &mut Line, name: &str, ticks: u64) -> Result<(), AllocError>
+    ensures { OnOk result (Tells (object (shift_members name.now (Later ticks))) line.old line.new) }
+{
+    line.begin_object()?;
+    line.count("later", ticks)?;
+    line.text("name", name)?;
+    line.end_object()
+}
+
+// The same, earlier.
+fn push_earlier(line: &mut Line, name: &str, ticks: u64) -> Result<(), AllocError>
+    ensures { OnOk result (Tells (object (shift_members name.now (Earlier ticks))) line.old line.new) }
+{
+    line.begin_object()?;
+    line.count("earlier", ticks)?;
+    line.text("name", name)?;
+    line.end_object()
+}
+
+fn push_shift(line: &mut Line, name: &str, shift: Shift) -> Result<(), AllocError>
+    ensures { OnOk result (Tells (row_json (a_row.Shift name.now shift)) line.old line.new) }
+{
+    match shift {
+        Shift::Later(ticks) => push_later(line, name, ticks),
+        Shift::Earlier(ticks) => push_earlier(line, name, ticks),
+    }
+}
+
+// What another stage would come to, and how much sooner, if the action of this one took no time.
+fn push_trial(
+    line: &mut Line,
+    name: &str,
+    sooner: u64,
+    outcome: &Outcome,
+    moment: u64,
+) -> Result<(), AllocError>
+    ensures { OnOk result (Tells (row_json (a_row.Trial name.now sooner outcome.now moment)) line.old line.new) }
+{
+    line.begin_object()?;
+    line.count("moment", moment)?;
+    push_outcome_member(line, "outcome", outcome)?;
+    line.count("sooner", sooner)?;
+    line.text("stage", name)?;
+    line.end_object()
+}

@@ -1,0 +1,4 @@
+pub mod Answering
+pub mod Taking
+pub mod Untouched
+pub mod Views

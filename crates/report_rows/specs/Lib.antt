@@ -1,0 +1,13 @@
+pub mod Against
+pub mod Causes
+pub mod Faults
+pub mod Listings
+pub mod Modes
+pub mod Names
+pub mod Next
+pub mod Report
+pub mod Rows
+pub mod Said
+pub mod Shifts
+pub mod Sources
+pub mod Standings

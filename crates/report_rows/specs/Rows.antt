@@ -1,0 +1,50 @@
+-- What the reports say of a stage.
+use Rattle.std.specs.Prelude.{ℕ, ◌-◌, List, Option, None, Some, if◌then◌else◌}
+use Rattle.std.specs.Option.{option_map}
+use Rattle.stage_graph.specs.declared.stage.Stage.{Stage}
+use Rattle.stage_graph.specs.Plain.{PlainGraph}
+use Rattle.stage_graph.specs.Walk.{rank}
+use Rattle.stage_ops.specs.declared.reason.Reason.{Reason}
+use Rattle.scratch_eval.specs.Path.{reason_at}
+use Rattle.version_store.specs.Plain.{PlainVersion}
+use Rattle.version_store.specs.Queries.{state_of, moment_in, start_in, before}
+use Rattle.time_sweep.specs.declared.trial.Trial.{Trial}
+use Rattle.report_rows.specs.declared.row.Row.{Row}
+use Rattle.report_rows.specs.declared.row.Row.TheVariants as a_row
+use Rattle.report_rows.specs.declared.shift.Shift.{Shift}
+use Rattle.report_rows.specs.Against.{is_changed}
+use Rattle.report_rows.specs.Causes.{because_of}
+use Rattle.report_rows.specs.Names.{name_at}
+use Rattle.report_rows.specs.Standings.{standing_at, standing_before, standing_there}
+
+-- its operation, its rank, and what it is
+abbrev pub state_row : PlainGraph → ℕ → Stage → Row
+state_row graph place stage = a_row.State stage.name stage.op (rank graph.places place) (standing_at graph place)
+
+-- when its action started, and how long it was queued and ran
+abbrev pub times_row : PlainGraph → ℕ → Stage → Row
+times_row graph place stage = a_row.Times stage.name (start_in (state_of graph place)) stage.queued stage.runs
+
+-- why it completed when it did, or why it is pending
+abbrev pub step_row : PlainGraph → ℕ → Stage → Row
+step_row graph place stage =
+    a_row.Step stage.name (moment_in (state_of graph place)) (reason_at graph place).queued (reason_at graph place).ran (because_of graph stage (reason_at graph place).cause)
+
+-- what it was in the parent, and what it is here
+abbrev pub change_row : PlainVersion → ℕ → Stage → Row
+change_row version place stage = a_row.Change stage.name (standing_before (before version.origin place)) (standing_at version.graph place)
+
+-- how much later or earlier it completes, where it does at another moment
+abbrev pub shift_row : Stage → Option Shift → Option Row
+shift_row stage shift = option_map (a_row.Shift stage.name) shift
+
+-- what it is in another version and here, unless it is as the one of its name there
+abbrev pub change_against_row : PlainVersion → PlainVersion → ℕ → Stage → Option Row
+change_against_row version against place stage =
+    if is_changed version against place stage
+    then Some (a_row.Change stage.name (standing_there against.graph stage.name) (standing_at version.graph place))
+    else None
+
+-- what a target that completes at this tick would come to if the action of the stage took no time
+abbrev pub trial_row : PlainGraph → ℕ → Trial → Row
+trial_row graph tick trial = a_row.Trial (name_at graph trial.place) (tick - trial.moment) trial.outcome trial.moment

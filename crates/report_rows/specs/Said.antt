@@ -1,0 +1,119 @@
+-- What each report says.
+use Rattle.std.specs.Prelude.{ℕ, List, [], Option, None, Some, length, map, take}
+use Rattle.std.specs.Option.{option_map}
+use Rattle.stage_graph.specs.declared.stage.Stage.{Stage}
+use Rattle.stage_graph.specs.Plain.{stage_at, all_places, dependents}
+use Rattle.stage_graph.specs.Walk.{rank}
+use Rattle.stage_ops.specs.Java.{java_step}
+use Rattle.stage_ops.specs.Joins.{joined}
+use Rattle.scratch_eval.specs.Blame.{chain}
+use Rattle.scratch_eval.specs.Path.{path}
+use Rattle.version_store.specs.Plain.{PlainVersion, parent_of}
+use Rattle.version_store.specs.Queries.{state_of, moment_in, touched_of}
+use Rattle.time_sweep.specs.declared.trial.Trial.{Trial}
+use Rattle.time_sweep.specs.Sweep.{completion_of, sweep, ticks_of}
+use Rattle.report_rows.specs.declared.comparison.Comparison.{Comparison}
+use Rattle.report_rows.specs.declared.comparison.Comparison.TheVariants as compared
+use Rattle.report_rows.specs.declared.head.Head.TheVariants as a_head
+use Rattle.report_rows.specs.declared.listing.Listing.TheVariants as listing
+use Rattle.report_rows.specs.declared.what.What.{What}
+use Rattle.report_rows.specs.declared.what.What.TheVariants.{All, One, Blame, Path, Changes, Drift, Times}
+use Rattle.report_rows.specs.Listings.{rows_at}
+use Rattle.report_rows.specs.Names.{names_at}
+use Rattle.report_rows.specs.Report.{Report}
+use Rattle.report_rows.specs.Rows.{trial_row}
+use Rattle.report_rows.specs.Standings.{standing_at}
+
+-- ---- a version
+
+-- every live stage, by place
+abbrev pub all_said : PlainVersion → Report
+all_said version = record {
+  head = a_head.All version.number (parent_of version) version.graph.mode;
+  rows = rows_at listing.States version version (all_places version.graph.places);
+}
+
+-- when every live stage ran, by place
+abbrev pub times_said : PlainVersion → Report
+times_said version = record {
+  head = a_head.Times version.number;
+  rows = rows_at listing.Times version version (all_places version.graph.places);
+}
+
+-- the stages that the edits touch, by rank and then by place
+abbrev pub changes_said : PlainVersion → Report
+changes_said version = record {
+  head = a_head.Changes version.number (parent_of version);
+  rows = rows_at listing.Changes version version (touched_of version);
+}
+
+-- the stages that complete at another moment than in the parent, by place
+abbrev pub drift_said : PlainVersion → Report
+drift_said version = record {
+  head = a_head.Drift version.number (parent_of version);
+  rows = rows_at listing.Shifts version version (all_places version.graph.places);
+}
+
+-- ---- a stage of a version
+
+-- the stage, its feeds, its dependents and what `join` answers
+abbrev pub one_said : PlainVersion → ℕ → Stage → Report
+one_said version place stage = record {
+  head = a_head.One version.number stage.name stage.op (rank version.graph.places place) (standing_at version.graph place)
+      (names_at version.graph stage.sources) (names_at version.graph stage.inner) (names_at version.graph (dependents version.graph.places place))
+      (joined (state_of version.graph place));
+  rows = [];
+}
+
+-- how it came by its exception
+abbrev pub blame_said : PlainVersion → ℕ → Stage → Report
+blame_said version place stage = record {
+  head = a_head.Blame version.number stage.name (names_at version.graph (chain (java_step version.graph.mode) version.graph.places place));
+  rows = [];
+}
+
+-- why it completed when it did, or why it is pending
+abbrev pub path_said : PlainVersion → ℕ → Stage → Report
+path_said version place stage = record {
+  head = a_head.Path version.number stage.name (moment_in (state_of version.graph place));
+  rows = rows_at listing.Steps version version (path version.graph place);
+}
+
+-- what a report of a version says; none where it asks for a stage that is not live
+abbrev pub said : PlainVersion → What → Option Report
+said version All = Some (all_said version)
+said version (One place) = option_map (one_said version place) (stage_at version.graph.places place)
+said version (Blame place) = option_map (blame_said version place) (stage_at version.graph.places place)
+said version (Path place) = option_map (path_said version place) (stage_at version.graph.places place)
+said version Changes = Some (changes_said version)
+said version Drift = Some (drift_said version)
+said version Times = Some (times_said version)
+
+-- ---- a version against another one, stage by stage of the same name
+
+abbrev pub comparison_said : Comparison → PlainVersion → PlainVersion → Report
+comparison_said compared.Changes version against = record {
+  head = a_head.ChangesAgainst version.number against.number;
+  rows = rows_at listing.ChangesAgainst version against (all_places version.graph.places);
+}
+comparison_said compared.Drift version against = record {
+  head = a_head.DriftAgainst version.number against.number;
+  rows = rows_at listing.ShiftsAgainst version against (all_places version.graph.places);
+}
+
+-- ---- which stages are worth making faster
+
+-- the first trials, up to this many, or all
+abbrev pub first_of : Option ℕ → List Trial → List Trial
+first_of None trials = trials
+first_of (Some most) trials = take most trials
+
+abbrev pub sweep_of_stage : PlainVersion → ℕ → Option ℕ → Stage → Report
+sweep_of_stage version target most stage = record {
+  head = a_head.Sweep version.number stage.name (moment_in (state_of version.graph target)) (length (sweep version.graph target));
+  rows = map (trial_row version.graph (ticks_of (completion_of version.graph target))) (first_of most (sweep version.graph target));
+}
+
+-- what a sweep says of a target; none where it is not live
+abbrev pub sweep_said : PlainVersion → ℕ → Option ℕ → Option Report
+sweep_said version target most = option_map (sweep_of_stage version target most) (stage_at version.graph.places target)

@@ -1,0 +1,12 @@
+-- What is left of what rows are made of.
+use Rattle.std.specs.Prelude.{ℕ, List, drop, map}
+use Rattle.report_rows.specs.declared.row.Row.{Row}
+use Rattle.report_rows.specs.declared.source.Source.{Source}
+use Rattle.report_rows.specs.declared.source.Source.TheVariants.{Stages, Trials}
+use Rattle.report_rows.specs.Listings.{rows_at}
+use Rattle.report_rows.specs.Rows.{trial_row}
+
+-- the rows of what is left after so many; the types are the representation's, and no row knows them
+abbrev pub rows_left : {R S T U V : Type 0} → Source R S T U V → ℕ → List Row
+rows_left (Stages listing version against places) at = rows_at listing version.now against.now (drop at places.items)
+rows_left (Trials version tick trials) at = map (trial_row version.now.graph tick) (drop at trials.items)

@@ -1,0 +1,74 @@
+//! What a report says before its rows.
+use crate::names::Names;
+use crate::standing::KeptStanding;
+use crate::text::Text;
+use act_expr::Mode;
+use stage_graph::Op;
+use stage_ops::Join;
+
+/// What a report says before its rows: which report it is, and of which version.
+#[derive(Drop)]
+pub enum Head<'a> {
+    /// Every live stage.
+    All {
+        version: u32,
+        parent: Option<u32>,
+        mode: Mode,
+    },
+    /// When every live stage ran.
+    Times {
+        version: u32,
+    },
+    /// One stage, its feeds, its dependents and what `join` answers. It has no rows.
+    One {
+        version: u32,
+        name: Text<'a>,
+        op: Op,
+        rank: u32,
+        standing: KeptStanding<'a>,
+        sources: Names<'a>,
+        inner: Names<'a>,
+        dependents: Names<'a>,
+        join: Join,
+    },
+    /// How a stage came by its exception. It has no rows.
+    Blame {
+        version: u32,
+        name: Text<'a>,
+        chain: Names<'a>,
+    },
+    /// Why a stage completed when it did, or why it is pending.
+    Path {
+        version: u32,
+        name: Text<'a>,
+        moment: Option<u64>,
+    },
+    /// The stages that the edits touched.
+    Changes {
+        version: u32,
+        parent: Option<u32>,
+    },
+    /// The stages that complete at another moment than in the parent.
+    Drift {
+        version: u32,
+        parent: Option<u32>,
+    },
+    /// The stages that differ from those of their names in another version.
+    ChangesAgainst {
+        version: u32,
+        against: u32,
+    },
+    /// The stages that complete at another moment than those of their names in another version.
+    DriftAgainst {
+        version: u32,
+        against: u32,
+    },
+    /// The stages that, if their action took no time, would make a stage complete sooner; how many they are, whether or not
+    /// all have a row.
+    Sweep {
+        version: u32,
+        name: Text<'a>,
+        moment: Option<u64>,
+        count: usize,
+    },
+}

@@ -1,0 +1,176 @@
+//! What a report says of a stage.
+ghost use Rattle.std.specs.Prelude.{◌≡◌};
+ghost use Rattle.report_rows.specs.declared.row.Row.TheVariants as a_row;
+ghost use Rattle.report_rows.specs.Standings.{standing_at, standing_there};
+ghost use Rattle.report_rows.specs.Rows.{change_against_row, change_row, shift_row, state_row, step_row, times_row, trial_row};
+
+use crate::against::is_changed;
+use crate::because::Because;
+use crate::shift::Shift;
+use crate::standing::KeptStanding;
+use crate::text::Text;
+use crate::trial_outcome::TrialOutcome;
+use propagate::StateRepresentation;
+use stage_graph::{Graph, Op, Representation, Stage};
+use time_sweep::Trial;
+use version_store::{StageView, Version};
+
+/// What a report says of a stage.
+#[derive(Drop)]
+pub enum Row<'a> {
+    /// Its operation, its rank, and what it is.
+    State {
+        name: Text<'a>,
+        op: Op,
+        rank: u32,
+        standing: KeptStanding<'a>,
+    },
+    /// When its action started, and how long it was queued and ran.
+    Times {
+        name: Text<'a>,
+        start: Option<u64>,
+        queued: u64,
+        runs: u64,
+    },
+    /// When it completed, how long its own action was queued and ran since its cause, and the cause.
+    Step {
+        name: Text<'a>,
+        moment: Option<u64>,
+        queued: u64,
+        ran: u64,
+        because: Because<'a>,
+    },
+    /// What it is in another version, and what it is here.
+    Change {
+        name: Text<'a>,
+        old: KeptStanding<'a>,
+        new: KeptStanding<'a>,
+    },
+    /// How much later or earlier than in another version it completes.
+    Shift {
+        name: Text<'a>,
+        shift: Shift,
+    },
+    /// What another stage would come to, and how much sooner, if the action of this one took no time.
+    Trial {
+        name: Text<'a>,
+        sooner: u64,
+        outcome: TrialOutcome<'a>,
+        moment: u64,
+    },
+}
+
+/// Its operation, its rank, and what it is.
+#[inline(always)]
+pub(crate) fn state_row<'a, R: StateRepresentation>(view: &StageView<'a, R>) -> Row<'a>
+    ensures { result ≡ state_row view.now.version.now.graph view.now.place view.now.stage.now }
+{
+    Row::State {
+        name: Text::new(view.stage.name.as_str()),
+        op: view.stage.op,
+        rank: view.rank(),
+        standing: KeptStanding::of(view),
+    }
+}
+
+/// When its action started, and how long it was queued and ran.
+#[inline(always)]
+pub(crate) fn times_row<'a, R: StateRepresentation>(view: &StageView<'a, R>) -> Row<'a>
+    ensures { result ≡ times_row view.now.version.now.graph view.now.place view.now.stage.now }
+{
+    Row::Times {
+        name: Text::new(view.stage.name.as_str()),
+        start: view.start(),
+        queued: view.stage.queued,
+        runs: view.stage.runs,
+    }
+}
+
+/// Why it completed when it did, or why it is pending.
+#[inline(always)]
+pub(crate) fn step_row<'a, R: StateRepresentation>(view: &StageView<'a, R>) -> Row<'a>
+    ensures { result ≡ step_row view.now.version.now.graph view.now.place view.now.stage.now }
+{
+    let reason = view.reason();
+    Row::Step {
+        name: Text::new(view.stage.name.as_str()),
+        moment: view.moment(),
+        queued: reason.queued,
+        ran: reason.ran,
+        because: Because::of(view.version.graph(), view.stage, reason.cause),
+    }
+}
+
+/// What it was in the parent, and what it is here.
+#[inline(always)]
+pub(crate) fn change_row<'a, R: StateRepresentation>(view: &StageView<'a, R>) -> Row<'a>
+    ensures { result ≡ change_row view.now.version.now view.now.place view.now.stage.now }
+{
+    Row::Change {
+        name: Text::new(view.stage.name.as_str()),
+        old: KeptStanding::before(view),
+        new: KeptStanding::of(view),
+    }
+}
+
+/// How much later or earlier it completes, where it does at another moment.
+#[inline(always)]
+pub(crate) fn shift_row(stage: &Stage, shift: Option<Shift>) -> Option<Row<'_>>
+    ensures { result ≡ shift_row stage.now shift }
+{
+    match shift {
+        Some(shift) => Some(Row::Shift {
+            name: Text::new(stage.name.as_str()),
+            shift,
+        }),
+        None => None,
+    }
+}
+
+/// What it is in another version and here, unless it is as the one of its name there.
+#[inline(always)]
+pub(crate) fn change_against_row<'a, R: StateRepresentation>(
+    view: &StageView<'a, R>,
+    against: &'a Version<R>,
+) -> Option<Row<'a>>
+    ensures { result ≡ change_against_row view.now.version.now against.now view.now.place view.now.stage.now }
+{
+    if is_changed(view, against) {
+        Some(against_row(view, against))
+    } else {
+        None
+    }
+}
+
+// What it is in another version and here.
+#[inline(always)]
+fn against_row<'a, R: StateRepresentation>(
+    view: &StageView<'a, R>,
+    against: &'a Version<R>,
+) -> Row<'a>
+    ensures { result ≡ a_row.Change view.now.stage.now.name (standing_there against.now.graph view.now.stage.now.name) (standing_at view.now.version.now.graph view.now.place) }
+{
+    let name = view.stage.name.as_str();
+    Row::Change {
+        name: Text::new(name),
+        old: KeptStanding::there(against, name),
+        new: KeptStanding::of(view),
+    }
+}
+
+/// A trial of a stage that completes at this tick.
+#[inline(always)]
+pub(crate) fn trial_row<'a, R: Representation>(
+    graph: &'a Graph<R>,
+    tick: u64,
+    trial: &'a Trial,
+) -> Row<'a>
+    ensures { result ≡ trial_row graph.now tick trial.now }
+{
+    Row::Trial {
+        name: Text::new(graph.name_of(trial.place)),
+        sooner: tick.saturating_sub(trial.moment),
+        outcome: TrialOutcome::new(&trial.outcome),
+        moment: trial.moment,
+    }
+}

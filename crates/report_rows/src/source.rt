@@ -1,0 +1,163 @@
+//! What the rows of a report are made of.
+ghost use Rattle.std.specs.Prelude.{◌≡◌, [], drop, length, map};
+ghost use Rattle.report_rows.specs.Listings.{rows_at};
+ghost use Rattle.report_rows.specs.Next.{IsNext};
+ghost use Rattle.report_rows.specs.Rows.{trial_row};
+ghost use Rattle.report_rows.specs.Sources.{rows_left};
+
+use crate::listing::{Listing, has_row, row_at};
+use crate::row::{Row, trial_row};
+use propagate::StateRepresentation;
+use stage_graph::{Graph, Representation};
+use std::alloc::Global;
+use time_sweep::Trial;
+use version_store::Version;
+
+/// What the rows of a report are made of.
+#[derive(Drop)]
+pub(crate) enum Source<'a, R: StateRepresentation> {
+    /// The stages at some places of a version; `against` is the version that two of the listings compare with.
+    Stages {
+        listing: Listing,
+        version: &'a Version<R>,
+        against: &'a Version<R>,
+        places: Vec<u32>,
+    },
+    /// Trials of a stage of a version that completes at this tick.
+    Trials {
+        version: &'a Version<R>,
+        tick: u64,
+        trials: Vec<Trial>,
+    },
+}
+
+impl<'a, R: StateRepresentation> Source<'a, R> {
+    /// The stages at these places.
+    pub(crate) fn of_stages(
+        listing: Listing,
+        version: &'a Version<R>,
+        against: &'a Version<R>,
+        places: Vec<u32>,
+    ) -> Source<'a, R>
+        ensures { rows_left result 0 ≡ rows_at listing version.now against.now places.items }
+    {
+        Source::Stages {
+            listing,
+            version,
+            against,
+            places,
+        }
+    }
+
+    /// Of nothing, where a report has no rows.
+    pub(crate) fn none(alloc: Global, version: &'a Version<R>) -> Source<'a, R>
+        ensures { rows_left result 0 ≡ [] }
+    {
+        Source::of_stages(Listing::States, version, version, Vec::new(alloc))
+    }
+
+    /// These trials of a stage that completes at this tick.
+    pub(crate) fn of_trials(version: &'a Version<R>, tick: u64, trials: Vec<Trial>) -> Source<'a, R>
+        ensures { rows_left result 0 ≡ map (trial_row version.now.graph tick) trials.items }
+    {
+        Source::Trials {
+            version,
+            tick,
+            trials,
+        }
+    }
+
+    /// The next row after so many of what they are made of; `at` is how many are done with then.
+    #[inline(always)]
+    pub(crate) fn next(&self, at: &mut usize) -> Option<Row<'_>>
+        ensures { IsNext (rows_left self.now) at.old at.new result }
+    {
+        match self {
+            Source::Stages {
+                listing,
+                version,
+                against,
+                places,
+            } => next_stage(*listing, version, against, places, at),
+            Source::Trials {
+                version,
+                tick,
+                trials,
+            } => next_trial(version.graph(), *tick, trials, at),
+        }
+    }
+
+    /// How many rows there are after so many.
+    pub(crate) fn count(&self, at: usize) -> usize
+        ensures { result ≡ length (rows_left self.now at) }
+    {
+        match self {
+            Source::Stages {
+                listing,
+                version,
+                against,
+                places,
+            } => count_stages(*listing, version, against, places, at),
+            Source::Trials { trials, .. } => trials.len().saturating_sub(at),
+        }
+    }
+}
+
+// The first row of the stages at these places from one on; `at` is how many places are done with then.
+#[inline(always)]
+fn next_stage<'a, R: StateRepresentation>(
+    listing: Listing,
+    version: &'a Version<R>,
+    against: &'a Version<R>,
+    places: &[u32],
+    at: &mut usize,
+) -> Option<Row<'a>>
+    ensures { IsNext (λ at. rows_at listing version.now against.now (drop at places.now)) at.old at.new result }
+{
+    let begin = *at;
+    for index in begin..places.len() {
+        match row_at(listing, version, against, places[index]) {
+            Some(row) => {
+                *at = index + 1;
+                return Some(row);
+            }
+            None => {}
+        }
+    }
+    *at = places.len().max(begin);
+    None
+}
+
+// The row of the trial of this index; `at` is how many trials are done with then.
+#[inline(always)]
+fn next_trial<'a, R: Representation>(
+    graph: &'a Graph<R>,
+    tick: u64,
+    trials: &'a [Trial],
+    at: &mut usize,
+) -> Option<Row<'a>>
+    ensures { IsNext (λ at. map (trial_row graph.now tick) (drop at trials.now)) at.old at.new result }
+{
+    let trial = trials.get(*at)?;
+    *at += 1;
+    Some(trial_row(graph, tick, trial))
+}
+
+// How many stages have a row, of those at these places from one on.
+fn count_stages<R: StateRepresentation>(
+    listing: Listing,
+    version: &Version<R>,
+    against: &Version<R>,
+    places: &[u32],
+    at: usize,
+) -> usize
+    ensures { result ≡ length (rows_at listing version.now against.now (drop at places.now)) }
+{
+    let mut count = 0;
+    for index in at..places.len() {
+        if has_row(listing, version, against, places[index]) {
+            count += 1;
+        }
+    }
+    count
+}

@@ -1,0 +1,20 @@
+use Rattle.std.proofs.lemmas.Result.{err_from_is_err_and}
+use Rattle.text_io.proofs.Writing.{wrote_all, wrote_none, wrote_part}
+use Rattle.report_text.proofs.Lines.{in_the_line}
+use Rattle.report_text.proofs.writing.write_row.Goals as goal
+
+pub returns-in_err-push_row : goal.returns-in_err-push_row
+returns-in_err-push_row g c =
+    let p = err_from_is_err_and c.from_residual.result c.from_residual.ensures.1 in
+    wrote_none g.S.Sink.held g.S.Sink.failures _ c.from_residual.result p.0 _ p.1 p.2
+
+pub returns-in_err-write : goal.returns-in_err-write
+returns-in_err-write g c =
+    let p = err_from_is_err_and c.from_residual-in_err-write.result c.from_residual-in_err-write.ensures.1 in
+    wrote_part g.S.Sink.held g.S.Sink.failures _ _ c.from_residual-in_err-write.result p.0 _ _ p.1 p.2 c.in_err-write.ensures.err c.in_err-write.ensures.failures
+    (in_the_line _ _ _ _ c.as_bytes.ensures.value c.in_ok-push_row.ensures c.clear.ensures.bytes)
+
+pub returns : goal.returns
+returns g c =
+    wrote_all g.S.Sink.held g.S.Sink.failures _ _ _ _ _ c.in_ok-write.ensures.ok c.in_ok-write.ensures.failures
+    (in_the_line _ _ _ _ c.as_bytes.ensures.value c.in_ok-push_row.ensures c.clear.ensures.bytes)
