@@ -1,0 +1,3 @@
+pub mod Arising
+pub mod Listing
+pub mod Telling

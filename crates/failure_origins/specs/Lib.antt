@@ -1,0 +1,3 @@
+pub mod Failures
+pub mod Lists
+pub mod Origins

@@ -1,0 +1,10 @@
+//! The exceptions that arose in the stages of a version: which other stages each one reached, and which stages handled it.
+#![tactic(auto)]
+
+mod failure;
+mod gathering;
+mod lists;
+mod origins;
+
+pub use failure::Failure;
+pub use gathering::failures_of;
