@@ -5,13 +5,29 @@ _whatif_stages() {
   [ -f "$2" ] && WHATIF_NO_BUILD=1 "$1" report "$2" 2>/dev/null | sed -n '2,$ s/ .*//p'
 }
 
+# The ids of the traces in a file, as `import --list` names them.
+_whatif_traces() {
+  [ -f "$2" ] && WHATIF_NO_BUILD=1 "$1" import --list "$2" 2>/dev/null | sed 's/ .*//'
+}
+
+# The first file among the words behind the cursor.
+_whatif_file_behind() {
+  local word
+  for word in "${COMP_WORDS[@]:COMP_CWORD + 1}"; do
+    if [ -f "$word" ]; then
+      printf '%s\n' "$word"
+      return
+    fi
+  done
+}
+
 # What can stand at the cursor: words, nothing for the name of a file, or - for nothing that is known.
 _whatif_words() {
   local typed=$2 command='' file='' option='' closed='' places=0 at
   for ((at = 1; at < COMP_CWORD; at++)); do
     case $closed${COMP_WORDS[at]} in
       --) closed=after- ;;
-      --top | --workers | --trace | --unit | --stage | --what | --format)
+      --top | --workers | --trace | --unit | --stage | --origin | --what | --format)
         option=${COMP_WORDS[at]}
         if [ "${COMP_WORDS[at + 1]}" = = ]; then at=$((at + 1)); fi
         at=$((at + 1))
@@ -30,6 +46,8 @@ _whatif_words() {
   if [ "$at" -gt "$COMP_CWORD" ]; then
     case $option in
       --workers) echo {1..16} ;;
+      --stage | --origin) _whatif_stages "$1" "${file:-$(_whatif_file_behind)}" ;;
+      --trace) _whatif_traces "$1" "${file:-$(_whatif_file_behind)}" ;;
       --unit) echo us ns ms ;;
       --what) echo all path ;;
       --format)
@@ -44,6 +62,8 @@ _whatif_words() {
     case $command in
       '') echo -h --help -V --version ;;
       sweep) echo --top --quiet --strict --format -h --help ;;
+      failures) echo --origin --quiet --strict --format -h --help ;;
+      try) echo --stage --save --draw --quiet --strict --format -h --help ;;
       draw) echo --stage --what --format --quiet --strict -h --help ;;
       many) echo --workers --quiet --strict --format -h --help ;;
       check) echo --strict -h --help ;;
@@ -53,12 +73,12 @@ _whatif_words() {
       *) echo --quiet --strict --format -h --help ;;
     esac
   elif [ -z "$command" ]; then
-    echo report explain sweep draw check serve export many import help
+    echo report explain sweep ends failures try draw check serve export many import help
   else
     case $command:$places in
-      help:0) echo report explain sweep draw check serve export many import help ;;
-      explain:1 | sweep:1) _whatif_stages "$1" "$file" ;;
-      report:0 | explain:0 | sweep:0 | draw:0 | check:0 | serve:0 | export:0 | export:1 | many:* | import:0) ;;
+      help:0) echo report explain sweep ends failures try draw check serve export many import help ;;
+      explain:1 | sweep:1 | try:[1-9]*) _whatif_stages "$1" "$file" ;;
+      report:0 | explain:0 | sweep:0 | ends:0 | failures:0 | try:0 | draw:0 | check:0 | serve:0 | export:0 | export:1 | many:* | import:0) ;;
       *) echo - ;;
     esac
   fi

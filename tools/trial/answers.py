@@ -8,7 +8,7 @@ import re
 from .run import Case, complaint, run, shown
 from .schema import Schemas
 
-ASKED = ("report", "explain", "sweep", "serve", "many")
+ASKED = ("report", "explain", "sweep", "ends", "failures", "try", "serve", "many")
 
 
 def value(content):
@@ -121,6 +121,34 @@ def of_times(told):
         yield f"{stage['name']} start {start} queued {stage['queued']} runs {stage['runs']}"
 
 
+def fate(told):
+    match told["kind"]:
+        case "cutOff":
+            return f"struck, cut off after {told['ran']} of its {told['of']}"
+        case "notReached":
+            return f"not reached by {told['by']}"
+        case "tooLate":
+            return f"too late by {told['by']}"
+    return "struck"
+
+
+def of_ends(told):
+    yield f"ends of version {told['version']} ends {len(told['stages'])}"
+    for end in told["stages"]:
+        delay = "" if end["delay"] is None else f" {end['delay']}"
+        yield f"{end['name']} {end['do']}{delay} at {end['moment']} {fate(end['fate'])}"
+
+
+def of_failures(told):
+    yield f"failures of version {told['version']} failures {len(told['stages'])}"
+    for stage in told["stages"]:
+        yield f"{stage['name']} {stage['exception']} at {stage['moment']} reaches{names(stage['reaches'])}; handled by{names(stage['handled'])}"
+
+
+def of_change(told):
+    yield f"{told['stage']} {state(told['old'])} -> {state(told['new'])}"
+
+
 def of_recording(told):
     made = told["recording"]
     last = len(made["stages"]) - 1
@@ -130,7 +158,7 @@ def of_recording(told):
     yield "]}"
 
 
-REPORTS = {"all": of_all, "one": of_one, "blame": of_blame, "path": of_path, "sweep": of_sweep, "changes": of_changes, "drift": of_drift, "times": of_times, "recording": of_recording}
+REPORTS = {"all": of_all, "one": of_one, "blame": of_blame, "path": of_path, "sweep": of_sweep, "changes": of_changes, "drift": of_drift, "times": of_times, "recording": of_recording, "ends": of_ends, "failures": of_failures, "change": of_change}
 DETAILS = ("dependent", "member", "head", "version")
 
 
@@ -176,7 +204,8 @@ def wrong_lines(objects, script):
 
 def is_asked(case):
     """Whether the case is of an answer that can be had as JSON too, is quick and has one output."""
-    return case.words and case.words[0] in ASKED and case.stdout == "pipe" and isinstance(case.out, (str, bytes)) and case.out != "" and not case.nobody and case.seconds <= 10
+    in_text = not any(str(word).startswith("--format") for word in case.words)
+    return case.words and case.words[0] in ASKED and in_text and case.stdout == "pipe" and isinstance(case.out, (str, bytes)) and case.out != "" and not case.nobody and case.seconds <= 10
 
 
 def wrong(program, case, schemas):

@@ -12,6 +12,8 @@ from .run import Case, run
 # Sources the completion, puts words where bash does, and prints what is offered.
 BASH = """source "$1"; shift; COMP_WORDS=(whatif "${@:3}"); COMP_CWORD=$2
 _whatif "$1" "${COMP_WORDS[$2]}" "${COMP_WORDS[$2 - 1]}"; printf '%s\\n' "${COMPREPLY[@]}\""""
+# A trace, and its id.
+TRACE, TRACED = "late-order.otlp.trace", "7d1c0f5e2ab94c6e8f3a5b1d9e7c2a40"
 # What reads a file without doing it, and the words before the file's name. What isn't on the machine is passed over.
 READERS = [
     ("bash", ["-n"], "completions/whatif.bash"),
@@ -59,7 +61,7 @@ def in_zsh(top):
     commands = re.findall(r"(?m)^    '(\w+):", page)
     arguments = {it: re.search(rf"(?m)^    {it}\) (.*)$", page) for it in commands}
     told = {it: found[1] if found else "" for it, found in {**arguments, "": re.search(r"_arguments -C (.*)", page)}.items()}
-    return {it: {*re.findall(r"'(--[\w-]+)", line), *(option for name in named if f"${name}" in line for option in named[name])} for it, line in told.items()}
+    return {it: {*re.findall(r"'(?:\([^']*?\))?(--[\w-]+)", line), *(option for name in named if f"${name}" in line for option in named[name])} for it, line in told.items()}
 
 
 def in_fish(top):
@@ -110,7 +112,7 @@ def words_in_bash(top, program, folder):
     for typed, wanted in (
         (["sw"], ["sweep"]),
         (["check", "--s"], ["--strict"]),
-        (["help", ""], ["report", "explain", "sweep", "draw", "check", "serve", "export", "many", "import", "help"]),
+        (["help", ""], ["report", "explain", "sweep", "ends", "failures", "try", "draw", "check", "serve", "export", "many", "import", "help"]),
         (["explain", "r.json", ""], ["a", "b"]),
         (["sweep", "--top", "1", "r.json", "b"], ["b"]),
         (["explain", "r.json", "a", ""], []),
@@ -124,6 +126,24 @@ def words_in_bash(top, program, folder):
         (["draw", "--format", ""], ["svg", "trace"]),
         (["draw", "--what", "p"], ["path"]),
         (["draw", "--stage", ""], []),
+        (["draw", "r.json", "--stage", ""], ["a", "b"]),
+        (["import", "--trace", ""], []),
+        (["import", "t.trace", "--trace", ""], [TRACED]),
+        (["import", "absent", "--trace", ""], []),
+        (["fa"], ["failures"]),
+        (["ends", "r.json", ""], []),
+        (["ends", "-"], ["--quiet", "--strict", "--format", "-h", "--help"]),
+        (["failures", "--o"], ["--origin"]),
+        (["t"], ["try"]),
+        (["try", "--sa"], ["--save"]),
+        (["try", "--stage", ""], []),
+        (["try", "r.json", ""], ["a", "b"]),
+        (["try", "r.json", "a", "b"], ["b"]),
+        (["try", "absent", ""], []),
+        (["try", "--stage", "a", "--format", "j"], ["json"]),
+        (["failures", "--origin", ""], []),
+        (["failures", "r.json", "--origin", "b"], ["b"]),
+        (["failures", "--origin", "a", "--format", "j"], ["json"]),
         (["report", ""], []),
         (["ex"], ["explain", "export"]),
         (["export", "r.json", "-"], ["--quiet", "--strict", "-h", "--help"]),
@@ -154,6 +174,7 @@ def completions(top, program):
     with tempfile.TemporaryDirectory(prefix="try-program-") as folder:
         with open(os.path.join(folder, "r.json"), "w", encoding="utf-8") as file:
             file.write(R)
+        shutil.copy(os.path.join(top, "examples", TRACE), os.path.join(folder, "t.trace"))
         found = {"bash": in_bash(top, program, folder), "zsh": in_zsh(top), "fish": in_fish(top), "the manual page": in_manual(top)}
         told = [(f"{where} has the words of the help", differences(wanted, it)) for where, it in found.items()]
         told += words_in_bash(top, program, folder)

@@ -4,10 +4,12 @@ import dataclasses
 import shlex
 import sys
 
-from .cases import FIRST_RUN, R, SCRIPTS, lines
+from .cases import FIRST_RUN, R, SCRIPTS, lines, recording, stage
 from .exports import chain_written
+from .failures import failed_fan, fan_of_failures
 from .limits import chain_of, chain_report
 from .run import LANES, Case, refusals, run, shown
+from .tried import HALF
 from .why import EXPLAINED_B, RECORDED, RECORDED_B, SWEPT, chain_explained
 
 OUT_OF_MEMORY = b"refused 90 Memory\n"
@@ -28,6 +30,9 @@ COMMANDS = [
     Case("explain", ["explain", "r.json", "b"], EXPLAINED_B, files={"r.json": R}),
     Case("explain of 4,096 stages", ["explain", "large", f"s{STAGES - 1}"], chain_explained(STAGES), files={"large": chain_of(STAGES)}),
     Case("sweep", ["sweep", "r.json", "b"], SWEPT, files={"r.json": R}),
+    Case("ends", ["ends"], lines("ends of version 0 ends 4096", *[f"m{it} cancel at {it} struck" for it in range(STAGES)]), stdin=recording(*[stage("manual", f"m{it}", ends=[{"at": it, "do": "cancel"}]) for it in range(STAGES)])),
+    Case("failures", ["failures"], fan_of_failures(STAGES), stdin=failed_fan(STAGES)),
+    Case("try", ["try", "--quiet", "r.json", "a runs=50%"], HALF, files={"r.json": R}),
     Case("serve", ["serve", "r.json"], ANSWERS, files={"r.json": R}, stdin=lines(*STEPS)),
     # (the last version of the script has a bare pin)
     Case("export", ["export", "r.json", "s"], lines(RECORDED, '{"name":"a","op":"async","runs":10,"action":4,"pinResult":{"bare":"X"}},', RECORDED_B, "]}"), files={"r.json": R, "s": lines(*STEPS)}),

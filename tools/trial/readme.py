@@ -2,10 +2,11 @@
 import glob
 import os
 import re
+import shlex
 
 from .run import Case
 
-COMMAND = re.compile(r"(?<!\| )\./whatif (report|explain|sweep|serve|export|many|import|draw)((?: [\w./-]+)+)(?: < (examples/[\w.-]+))?")
+COMMAND = re.compile(r"(?<!\| )\./whatif (report|explain|sweep|ends|failures|try|serve|export|many|import|draw)((?: (?:[\w./-]+|'[^'\n]*'))+)(?: < (examples/[\w.-]+))?")
 BLOCK = re.compile(r"^```(\w*)\n(.*?)^```$", re.M | re.S)
 PAGES = ("README.md", os.path.join("docs", "TOUR.md"))
 
@@ -31,7 +32,7 @@ def shown_runs(page):
 def missing(top, command):
     """The files that the command names and that aren't there."""
     _, words, script = command
-    named = [it for it in [*words.split(), *filter(None, [script])] if it.startswith("examples/")]
+    named = [it for it in [*shlex.split(words), *filter(None, [script])] if it.startswith("examples/")]
     return [it for it in named if not os.path.exists(os.path.join(top, it))]
 
 
@@ -41,7 +42,7 @@ def shown_case(top, page, command, blocks):
 
     The numbers in the answers to several scripts at once depend on who comes first, and are not compared."""
     subcommand, words, script = command
-    words = words.split()
+    words = shlex.split(words)
     paths = [it for it in words if it.startswith("examples/")]
     how = {"files": {os.path.basename(it): read(top, it) for it in paths}}
     rows = "".join(blocks).splitlines(keepends=True)

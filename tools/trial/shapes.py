@@ -6,7 +6,7 @@ import json
 import os
 import re
 
-from . import cases, explained, limits, why
+from . import cases, ends, explained, failures, limits, recomputed, tried, why
 from .cases import stage, step
 from .schema import Schemas
 
@@ -80,6 +80,12 @@ def recordings(top):
         yield name, given, None if wanted.startswith("version") else number_of(wanted)
     for name, _, given, _, _ in why.TOLD:
         yield name, given, None
+    for of, given in (*((f"ends of {name}", given) for name, given, _ in ends.TOLD), *((f"failures of {name}", given) for name, given, _ in failures.TOLD)):
+        yield of, given, None
+    for name, given in (("timeouts", tried.LIMITED), ("no action", tried.NO_ACTION), ("pending", tried.PENDING), ("two last", tried.TIED)):
+        yield f"tried: {name}", given, None
+    for seed in range(recomputed.HOW_MANY):
+        yield f"made at random, {seed}", json.dumps(recomputed.some(seed)), None
     for name, given, line, _ in explained.refused():
         yield name, given, number_of(line)
     yield "65,537 stages", limits.chain_of(limits.MOST_STAGES + 1), 15
@@ -134,7 +140,7 @@ def complaint(kind, name, number, fault):
     return "" if fault or number not in SEEN[kind] else f"the program refuses it by {number}, and the schema takes it"
 
 
-def tried(schemas, kind, made):
+def held(schemas, kind, made):
     """The name of each case, and its complaint or nothing; last, whether each refusal that is never seen has a case."""
     schema, taken, met = schemas.files[f"{kind}.schema.json"], set(), set()
     for name, text, number in made:
@@ -181,7 +187,7 @@ def shown(top, schemas):
 def shapes(top):
     """The name of each case, and its complaint or nothing."""
     schemas = Schemas(os.path.join(top, "docs"), ["recording.schema.json", "step.schema.json"])
-    yield from tried(schemas, "recording", recordings(top))
-    yield from tried(schemas, "step", steps(top))
+    yield from held(schemas, "recording", recordings(top))
+    yield from held(schemas, "step", steps(top))
     yield from words(top, schemas)
     yield from shown(top, schemas)

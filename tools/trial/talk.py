@@ -8,6 +8,7 @@ import tempfile
 from .cases import FIRST_RUN, R, SCRIPTS
 from .devices import SPAN
 from .run import shown
+from .tried import HALF
 from .why import EXPLAINED_A
 
 SECONDS = 10
@@ -54,6 +55,9 @@ TYPED = [
     (["report"], R, FIRST_RUN, "recording"),
     (["report", "-"], R, FIRST_RUN, "recording"),
     (["explain", "-", "a"], R, EXPLAINED_A, "recording"),
+    (["ends"], R, "ends of version 0 ends 0\n", "recording"),
+    (["failures", "--origin", "a"], R, "failures of version 0 failures 0\n", "recording"),
+    (["try", "--stage", "b", "-", "a runs=50%"], R, HALF, "recording"),
     (["check", "-"], R, "", "recording"),
     (["import", "--quiet", "-"], SPAN, None, None),
     (["import", "-"], SPAN, None, "trace"),

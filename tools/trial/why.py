@@ -30,16 +30,19 @@ A what-if debugger for recorded runs of asynchronous Java services
 Usage: PROGRAM <COMMAND>
 
 Commands:
-  report   Prints each stage of a recording: its rank, its state and its moment
-  explain  Prints how a stage ended, which failure it hands on, and why it completed when it did or is pending
-  sweep    Prints which stages would make a stage complete sooner if they took no time
-  draw     Writes a picture of a recording: when each stage waited, was queued, ran and completed
-  check    Prints every fault of a recording, and every member that nothing reads
-  serve    Answers the steps that come on standard input, one to a line, about a recording
-  export   Writes the version that a script made last, as a recording
-  many     Answers several scripts at once, whose clients share the sessions and versions
-  import   Writes the recording that a trace makes, from OTLP/JSON, Jaeger JSON or Zipkin's
-  help     Print this message or the help of the given subcommand(s)
+  report    Prints each stage of a recording: its rank, its state and its moment
+  explain   Prints how a stage ended, which failure it hands on, and why it completed when it did or is pending
+  sweep     Prints which stages would make a stage complete sooner if they took no time
+  ends      Prints what came of each timeout, and of each call that completes or cancels a stage
+  failures  Prints where each failure arose, which stages it reached, and which read it and didn't hand it on
+  try       Prints what would come of changes, made together
+  draw      Writes a picture of a recording: when each stage waited, was queued, ran and completed
+  check     Prints every fault of a recording, and every member that nothing reads
+  serve     Answers the steps that come on standard input, one to a line, about a recording
+  export    Writes the version that a script made last, as a recording
+  many      Answers several scripts at once, whose clients share the sessions and versions
+  import    Writes the recording that a trace makes, from OTLP/JSON, Jaeger JSON or Zipkin's
+  help      Print this message or the help of the given subcommand(s)
 
 Options:
   -h, --help     Print help
@@ -114,6 +117,74 @@ Examples:
   whatif sweep --top 3 examples/late-reply.json reply
 
 The lines: docs/FORMATS.md, Reports.
+""")
+HELP_OF_ENDS = help_of("""\
+Prints what came of each timeout, and of each call that completes or cancels a stage
+
+Usage: PROGRAM ends [OPTIONS] [FILE]
+
+Arguments:
+  [FILE]  the recording; standard input where it is left out, or -
+
+Options:
+      --quiet            leave explanations and warnings out
+      --strict           end with status 1 where there is a warning
+      --format <FORMAT>  text for people, or json for programs: a line for each answer, which is one object [default: text] [possible values: text, json]
+  -h, --help             Print help
+
+Examples:
+  whatif ends examples/late-reply.json
+  whatif ends --format json - < examples/late-reply.json
+
+The lines: docs/FORMATS.md, Reports.
+""")
+HELP_OF_FAILURES = help_of("""\
+Prints where each failure arose, which stages it reached, and which read it and didn't hand it on
+
+Usage: PROGRAM failures [OPTIONS] [FILE]
+
+Arguments:
+  [FILE]  the recording; standard input where it is left out, or -
+
+Options:
+      --origin <STAGE>   print the failure that arose in this stage alone
+      --quiet            leave explanations and warnings out
+      --strict           end with status 1 where there is a warning
+      --format <FORMAT>  text for people, or json for programs: a line for each answer, which is one object [default: text] [possible values: text, json]
+  -h, --help             Print help
+
+Examples:
+  whatif failures examples/late-reply.json
+  whatif failures --origin stock-south examples/late-reply.json
+
+The lines: docs/FORMATS.md, Reports.
+""")
+HELP_OF_TRY = help_of("""\
+Prints what would come of changes, made together
+
+Usage: PROGRAM try [OPTIONS] <FILE> <CHANGE>...
+
+Arguments:
+  <FILE>       the recording; - is standard input
+  <CHANGE>...  the changes, at most 64: each is one word, in quotes, a stage's name and assignments, as 'stock runs=50% gives=1'
+
+Options:
+      --stage <STAGE>    the stage to report on; where it is left out, the one that completes last of those on which no other waits
+      --save             write the recording that the changes make, in place of the reports
+      --draw             write a picture of what the changes make, in place of the reports: the changed stages are marked, and with --stage the path of that stage is drawn over the rows
+      --quiet            leave explanations and warnings out
+      --strict           end with status 1 where there is a warning
+      --format <FORMAT>  text for people, or json for programs: a line for each answer, which is one object [default: text] [possible values: text, json]
+  -h, --help             Print help
+
+Examples:
+  whatif try examples/late-reply.json 'customer-database runs=50%' --stage reply
+  whatif try examples/late-reply.json 'customer-database queued=0 runs=20' 'stock-south gives=7' --stage reply
+  whatif try --save examples/late-reply.json 'stock-south gives=7' > fixed.json
+
+A CHANGE is one word, in quotes: a stage's name, a space, and assignments with spaces between them. runs=N and queued=N set times in ticks, runs=P% and queued=P% to P percent of what they are, rounded down; gives=V sets the value that the stage computes, fails=NAME the exception, and at=T the tick at which it has computed it; limit=N sets the delay of its one timeout (orTimeout or completeOnTimeout), and unlimited takes its timeouts away. An end that acts before the stage has computed its value still wins, and a stage that would be pending needs gives or fails, and at.
+
+The changes and the lines: docs/FORMATS.md, Trying changes.
 """)
 HELP_OF_DRAW = help_of("""\
 Writes a picture of a recording: when each stage waited, was queued, ran and completed
@@ -210,10 +281,10 @@ COMMAND_LINES = [
     Case("the subcommand of help names each", ["help"], HELP),
     *[
         Case(f"help of {name}, by {' '.join(words)}", words, text)
-        for name, text in (("report", HELP_OF_REPORT), ("explain", HELP_OF_EXPLAIN), ("sweep", HELP_OF_SWEEP), ("draw", HELP_OF_DRAW), ("check", HELP_OF_CHECK), ("export", HELP_OF_EXPORT), ("import", HELP_OF_IMPORT))
+        for name, text in (("report", HELP_OF_REPORT), ("explain", HELP_OF_EXPLAIN), ("sweep", HELP_OF_SWEEP), ("ends", HELP_OF_ENDS), ("failures", HELP_OF_FAILURES), ("try", HELP_OF_TRY), ("draw", HELP_OF_DRAW), ("check", HELP_OF_CHECK), ("export", HELP_OF_EXPORT), ("import", HELP_OF_IMPORT))
         for words in ([name, "--help"], [name, "-h"], ["help", name])
     ],
-    Case("no word names the subcommands", [], "", 2, err="report, explain, sweep, draw, check, serve, export, many, import, help"),
+    Case("no word names the subcommands", [], "", 2, err="report, explain, sweep, ends, failures, try, draw, check, serve, export, many, import, help"),
     *[
         case
         for name in ("explain", "sweep")

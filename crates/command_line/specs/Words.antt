@@ -1,5 +1,6 @@
 -- What the words of the command line ask for. Where an option is left out it has no word.
 use Rattle.std.specs.Prelude.{ℕ, List, Option, None, Some, bytes_eq, codes, if◌then◌else◌}
+use Rattle.std.specs.Option.{option_map}
 use Rattle.command_line.specs.declared.input.Input.{Input}
 use Rattle.command_line.specs.declared.input.Input.TheVariants.{Standard, File}
 use Rattle.command_line.specs.declared.manner.Format.{Format}
@@ -12,6 +13,8 @@ use Rattle.command_line.specs.declared.traces.Unit.{Unit}
 use Rattle.command_line.specs.declared.traces.Unit.TheVariants.{Microsecond, Nanosecond, Millisecond}
 use Rattle.command_line.specs.declared.traces.Reading.{Reading}
 use Rattle.command_line.specs.declared.traces.Reading.TheVariants.{Inferred, AsTold}
+use Rattle.command_line.specs.declared.trial.Asked.{Asked}
+use Rattle.command_line.specs.declared.trial.Asked.TheVariants.{Reports, Recording, Picture}
 
 -- the path of a file; standard input has none
 abbrev pub path_of : Input → Option (List ℕ)
@@ -45,3 +48,15 @@ unit_of (Some word) =
 abbrev pub reading_of : Option (List ℕ) → Reading
 reading_of None = Inferred
 reading_of (Some word) = if bytes_eq word (codes "as-told") then AsTold else Inferred
+
+-- the stage that is reported on, where reports are asked for; none where no stage is named
+abbrev pub told_of : Asked → Option (Option (List ℕ))
+told_of (Reports stage) = Some (option_map (λ name. name.now) stage)
+told_of Recording = None
+told_of (Picture stage) = None
+
+-- the stage whose path is drawn, where a picture is asked for; none where no stage is named
+abbrev pub drawn_of : Asked → Option (Option (List ℕ))
+drawn_of (Picture stage) = Some (option_map (λ name. name.now) stage)
+drawn_of Recording = None
+drawn_of (Reports stage) = None

@@ -4,6 +4,7 @@ use crate::manner::Manner;
 use crate::picture::Picture;
 use crate::scripts::Scripts;
 use crate::traces::{Mapping, Wanted};
+use crate::trial::Trial;
 
 /// What the program is told to do. A recording by a path alone stands in a file, as standard input has the script or is not
 /// read.
@@ -23,6 +24,20 @@ pub enum Command<'a> {
         recording: Input<'a>,
         stage: &'a str,
         most: Option<usize>,
+    },
+    /// To print what came of each end: of each timeout, and of each call that completes or cancels a stage.
+    Ends {
+        recording: Input<'a>,
+    },
+    /// To print the failures that arose in a stage, and whom each came to; or the one of a stage.
+    Failures {
+        recording: Input<'a>,
+        origin: Option<&'a str>,
+    },
+    /// To print what would come of changes of a recording, or to write the recording that they make.
+    Try {
+        recording: Input<'a>,
+        trial: Trial<'a>,
     },
     /// To write a picture of a recording.
     Draw {

@@ -11,6 +11,7 @@ mod picture;
 mod scripts;
 mod subcommand;
 mod traces;
+mod trial;
 mod words;
 
 pub use command::{Command, CommandLine};
@@ -20,3 +21,4 @@ pub use parsing::{WordsFault, parsed, without_help_of_help};
 pub use picture::{Picture, PictureFormat, Rows};
 pub use scripts::Scripts;
 pub use traces::{Mapping, Reading, Unit, Wanted};
+pub use trial::{Asked, Trial};

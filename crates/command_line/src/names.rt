@@ -19,6 +19,18 @@ pub(crate) const WORKERS: &str = "workers";
 /// The stage whose path is drawn.
 pub(crate) const PATH_OF: &str = "stage";
 
+/// The stage in which a failure arose.
+pub(crate) const ORIGIN: &str = "origin";
+
+/// The stage that is reported on, of what comes of changes.
+pub(crate) const STAGE_OF_TRIAL: &str = "stage";
+
+pub(crate) const CHANGE: &str = "CHANGE";
+
+pub(crate) const SAVE: &str = "save";
+
+pub(crate) const DRAW: &str = "draw";
+
 /// Which stages have a row in a picture.
 pub(crate) const ROWS: &str = "what";
 

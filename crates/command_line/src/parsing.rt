@@ -1,8 +1,9 @@
 //! From the words of the command line to what they ask for.
 ghost use Rattle.std.specs.Prelude.{◌≡◌, codes, None, Some, false, true, option_map};
 ghost use Rattle.clap.specs.Matches.{first_value, found_of, one_text};
-ghost use Rattle.command_line.specs.Words.{format_of, path_of, picture_format_of, reading_of, rows_of, unit_of, wanted_path};
+ghost use Rattle.command_line.specs.Words.{drawn_of, format_of, path_of, picture_format_of, reading_of, rows_of, told_of, unit_of, wanted_path};
 ghost use Rattle.command_line.specs.declared.traces.Wanted.TheVariants.{List, Each};
+ghost use Rattle.command_line.specs.declared.trial.Asked.TheVariants.{Recording};
 
 use crate::command::{Command, CommandLine};
 use crate::input::Input;
@@ -12,6 +13,7 @@ use crate::picture::{Picture, PictureFormat, Rows};
 use crate::scripts::Scripts;
 use crate::subcommand::{Subcommand, command};
 use crate::traces::{Mapping, Reading, Unit, Wanted};
+use crate::trial::{Asked, Trial};
 use crate::words::MOST_WORKERS;
 use clap::ArgMatches;
 use level_pool::Workers;
@@ -86,6 +88,17 @@ fn command_of<'a>(
             stage: stage_of(matches)?,
             most: matches.get_one::<usize>(names::TOP),
         },
+        Subcommand::Ends => Command::Ends {
+            recording: input_of(matches),
+        },
+        Subcommand::Failures => Command::Failures {
+            recording: input_of(matches),
+            origin: origin_of(matches),
+        },
+        Subcommand::Try => Command::Try {
+            recording: input_of(matches),
+            trial: trial_of(alloc, matches)?,
+        },
         Subcommand::Draw => Command::Draw {
             recording: input_of(matches),
             picture: picture_of(matches),
@@ -116,8 +129,10 @@ fn manner_of(matches: &ArgMatches<'_>) -> Manner
     ensures format { result.format ≡ format_of (first_value (found_of matches.now) (codes "format")) }
     ensures quiet { one_text (found_of matches.now) (codes "quiet") ≡ Some (codes "true") → result.is_quiet ≡ true }
     ensures loud { one_text (found_of matches.now) (codes "quiet") ≡ None → result.is_quiet ≡ false }
+    ensures loud_where_false { one_text (found_of matches.now) (codes "quiet") ≡ Some (codes "false") → result.is_quiet ≡ false }
     ensures strict { one_text (found_of matches.now) (codes "strict") ≡ Some (codes "true") → result.is_strict ≡ true }
     ensures lenient { one_text (found_of matches.now) (codes "strict") ≡ None → result.is_strict ≡ false }
+    ensures lenient_where_false { one_text (found_of matches.now) (codes "strict") ≡ Some (codes "false") → result.is_strict ≡ false }
 {
     Manner {
         format: Format::of(matches.get_str(names::FORMAT)),
@@ -138,6 +153,31 @@ fn file_of<'a>(matches: &ArgMatches<'a>) -> Result<&'a str, WordsFault> {
 
 fn stage_of<'a>(matches: &ArgMatches<'a>) -> Result<&'a str, WordsFault> {
     required(matches.get_str(names::STAGE))
+}
+
+fn origin_of<'a>(matches: &ArgMatches<'a>) -> Option<&'a str>
+    ensures { option_map (λ stage. stage.now) result ≡ first_value (found_of matches.now) (codes "origin") }
+{
+    matches.get_str(names::ORIGIN)
+}
+
+fn trial_of<'a>(alloc: Global, matches: &ArgMatches<'a>) -> Result<Trial<'a>, WordsFault> {
+    let changes = required(matches.get_strs(names::CHANGE))?;
+    Ok(Trial::new(alloc, changes, asked_of(matches))?)
+}
+
+fn asked_of<'a>(matches: &ArgMatches<'a>) -> Asked<'a>
+    ensures saved { one_text (found_of matches.now) (codes "save") ≡ Some (codes "true") → result ≡ Recording }
+    ensures drawn { one_text (found_of matches.now) (codes "save") ≡ Some (codes "false") → one_text (found_of matches.now) (codes "draw") ≡ Some (codes "true") → drawn_of result ≡ Some (first_value (found_of matches.now) (codes "stage")) }
+    ensures told { one_text (found_of matches.now) (codes "save") ≡ Some (codes "false") → one_text (found_of matches.now) (codes "draw") ≡ Some (codes "false") → told_of result ≡ Some (first_value (found_of matches.now) (codes "stage")) }
+{
+    if matches.get_flag(names::SAVE) {
+        Asked::Recording
+    } else if matches.get_flag(names::DRAW) {
+        Asked::Picture(matches.get_str(names::STAGE_OF_TRIAL))
+    } else {
+        Asked::Reports(matches.get_str(names::STAGE_OF_TRIAL))
+    }
 }
 
 fn picture_of<'a>(matches: &ArgMatches<'a>) -> Picture<'a>
@@ -167,7 +207,8 @@ fn workers_of(matches: &ArgMatches<'_>) -> Result<Workers, WordsFault> {
 
 fn wanted_of<'a>(matches: &ArgMatches<'a>) -> Wanted<'a>
     ensures list { one_text (found_of matches.now) (codes "list") ≡ Some (codes "true") → result ≡ List }
-    ensures each { one_text (found_of matches.now) (codes "list") ≡ None → one_text (found_of matches.now) (codes "each") ≡ Some (codes "true") → result ≡ Each }
+    ensures each { one_text (found_of matches.now) (codes "list") ≡ Some (codes "false") → one_text (found_of matches.now) (codes "each") ≡ Some (codes "true") → result ≡ Each }
+    ensures each_where_none { one_text (found_of matches.now) (codes "list") ≡ None → one_text (found_of matches.now) (codes "each") ≡ Some (codes "true") → result ≡ Each }
 {
     if matches.get_flag(names::LIST) {
         Wanted::List

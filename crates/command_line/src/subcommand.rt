@@ -4,9 +4,10 @@ ghost use Rattle.command_line.specs.Subcommands.{word_of};
 
 use crate::argument::{Argument, arg_of};
 use crate::words::{
-    CALLS, CLOCKS, DRAWN_STAGE, EACH, FORMAT, LIST, LIST_FORMAT, PICTURE, QUIET, QUIET_IMPORT,
-    RECORDING, RECORDING_OR_DASH, RECORDING_OR_INPUT, ROWS, SCRIPT, SCRIPTS, STAGE, STRICT,
-    STRICT_SCRIPTS, STRICT_STEPS, TOP, TRACE, TRACE_ID, UNIT, WORKERS,
+    CALLS, CHANGES, CLOCKS, DRAW, DRAWN_STAGE, EACH, FORMAT, LIST, LIST_FORMAT, ORIGIN, PICTURE,
+    QUIET, QUIET_IMPORT, RECORDING, RECORDING_OR_DASH, RECORDING_OR_INPUT, ROWS, SAVE, SCRIPT,
+    SCRIPTS, STAGE, STAGE_OF_TRIAL, STRICT, STRICT_SCRIPTS, STRICT_STEPS, TOP, TRACE, TRACE_ID,
+    UNIT, WORKERS,
 };
 use clap::Command;
 use std::alloc::{AllocError, Global};
@@ -20,6 +21,9 @@ pub(crate) enum Subcommand {
     Report,
     Explain,
     Sweep,
+    Ends,
+    Failures,
+    Try,
     Draw,
     Check,
     Serve,
@@ -28,10 +32,13 @@ pub(crate) enum Subcommand {
     Import,
 }
 
-static SUBCOMMANDS: [Subcommand; 9] = [
+static SUBCOMMANDS: [Subcommand; 12] = [
     Subcommand::Report,
     Subcommand::Explain,
     Subcommand::Sweep,
+    Subcommand::Ends,
+    Subcommand::Failures,
+    Subcommand::Try,
     Subcommand::Draw,
     Subcommand::Check,
     Subcommand::Serve,
@@ -49,6 +56,9 @@ impl Subcommand {
             Subcommand::Report => "report",
             Subcommand::Explain => "explain",
             Subcommand::Sweep => "sweep",
+            Subcommand::Ends => "ends",
+            Subcommand::Failures => "failures",
+            Subcommand::Try => "try",
             Subcommand::Draw => "draw",
             Subcommand::Check => "check",
             Subcommand::Serve => "serve",
@@ -104,6 +114,36 @@ fn described<'a>(alloc: Global, subcommand: Subcommand) -> Result<Command<'a>, A
             "Prints which stages would make a stage complete sooner if they took no time",
             "Examples:\n  whatif sweep examples/late-reply.json reply\n  whatif sweep --top 3 examples/late-reply.json reply\n\nThe lines: docs/FORMATS.md, Reports.",
             &[TOP, QUIET, STRICT, FORMAT, RECORDING_OR_DASH, STAGE],
+        ),
+        Subcommand::Ends => told(
+            alloc,
+            subcommand.name(),
+            "Prints what came of each timeout, and of each call that completes or cancels a stage",
+            "Examples:\n  whatif ends examples/late-reply.json\n  whatif ends --format json - < examples/late-reply.json\n\nThe lines: docs/FORMATS.md, Reports.",
+            &[QUIET, STRICT, FORMAT, RECORDING_OR_INPUT],
+        ),
+        Subcommand::Failures => told(
+            alloc,
+            subcommand.name(),
+            "Prints where each failure arose, which stages it reached, and which read it and didn't hand it on",
+            "Examples:\n  whatif failures examples/late-reply.json\n  whatif failures --origin stock-south examples/late-reply.json\n\nThe lines: docs/FORMATS.md, Reports.",
+            &[ORIGIN, QUIET, STRICT, FORMAT, RECORDING_OR_INPUT],
+        ),
+        Subcommand::Try => told(
+            alloc,
+            subcommand.name(),
+            "Prints what would come of changes, made together",
+            "Examples:\n  whatif try examples/late-reply.json 'customer-database runs=50%' --stage reply\n  whatif try examples/late-reply.json 'customer-database queued=0 runs=20' 'stock-south gives=7' --stage reply\n  whatif try --save examples/late-reply.json 'stock-south gives=7' > fixed.json\n\nA CHANGE is one word, in quotes: a stage's name, a space, and assignments with spaces between them. runs=N and queued=N set times in ticks, runs=P% and queued=P% to P percent of what they are, rounded down; gives=V sets the value that the stage computes, fails=NAME the exception, and at=T the tick at which it has computed it; limit=N sets the delay of its one timeout (orTimeout or completeOnTimeout), and unlimited takes its timeouts away. An end that acts before the stage has computed its value still wins, and a stage that would be pending needs gives or fails, and at.\n\nThe changes and the lines: docs/FORMATS.md, Trying changes.",
+            &[
+                STAGE_OF_TRIAL,
+                SAVE,
+                DRAW,
+                QUIET,
+                STRICT,
+                FORMAT,
+                RECORDING_OR_DASH,
+                CHANGES,
+            ],
         ),
         Subcommand::Draw => told(
             alloc,

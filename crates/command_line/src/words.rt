@@ -2,6 +2,7 @@
 use crate::argument::{Argument, Choice, Takes};
 use crate::names;
 use crate::scripts::MOST_SCRIPTS;
+use crate::trial::MOST_CHANGES;
 
 /// The most workers that compute for one script.
 pub(crate) const MOST_WORKERS: usize = 16;
@@ -96,6 +97,30 @@ pub(crate) const DRAWN_STAGE: Argument = Argument {
     takes: Takes::TextIf("STAGE", names::ROWS, "path"),
 };
 
+pub(crate) const ORIGIN: Argument = Argument {
+    name: names::ORIGIN,
+    help: "print the failure that arose in this stage alone",
+    takes: Takes::Text("STAGE"),
+};
+
+pub(crate) const STAGE_OF_TRIAL: Argument = Argument {
+    name: names::STAGE_OF_TRIAL,
+    help: "the stage to report on; where it is left out, the one that completes last of those on which no other waits",
+    takes: Takes::Text("STAGE"),
+};
+
+pub(crate) const SAVE: Argument = Argument {
+    name: names::SAVE,
+    help: "write the recording that the changes make, in place of the reports",
+    takes: Takes::NothingBeside(&[names::STAGE_OF_TRIAL, names::DRAW]),
+};
+
+pub(crate) const DRAW: Argument = Argument {
+    name: names::DRAW,
+    help: "write a picture of what the changes make, in place of the reports: the changed stages are marked, and with --stage the path of that stage is drawn over the rows",
+    takes: Takes::NothingBeside(&[names::SAVE]),
+};
+
 pub(crate) const RECORDING: Argument = Argument {
     name: names::FILE,
     help: "the recording",
@@ -154,4 +179,10 @@ pub(crate) const SCRIPTS: Argument = Argument {
     name: names::SCRIPT,
     help: "the scripts, at most 64, each answered by a client of its own",
     takes: Takes::UpTo(MOST_SCRIPTS),
+};
+
+pub(crate) const CHANGES: Argument = Argument {
+    name: names::CHANGE,
+    help: "the changes, at most 64: each is one word, in quotes, a stage's name and assignments, as 'stock runs=50% gives=1'",
+    takes: Takes::UpTo(MOST_CHANGES),
 };

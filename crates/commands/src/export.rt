@@ -126,7 +126,7 @@ fn played<K: StateRepresentation, W: Runner, R: Source, S: Sink>(
 }
 
 /// Writes a version as a recording.
-fn write_version<K: StateRepresentation>(
+pub(crate) fn write_version<K: StateRepresentation>(
     rt: &HostRuntime,
     voice: Voice<'_>,
     version: &Version<K>,

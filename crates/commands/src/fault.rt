@@ -2,6 +2,7 @@
 use console::Fault;
 use recording_reports::RecordingFault;
 use recording_text::TextFault;
+use report_rows::ReportFault;
 use serve_script::ServeFault;
 
 /// The end of a report.
@@ -12,6 +13,16 @@ pub(crate) fn reported(end: Result<(), RecordingFault>) -> Result<(), Fault> {
         Err(RecordingFault::NoStage) => Err(Fault::NoStage(None)),
         Err(RecordingFault::Write) => Err(Fault::Write(None)),
         Err(RecordingFault::Memory) => Err(Fault::Memory),
+    }
+}
+
+/// The end of reports of a version.
+pub(crate) fn told(end: Result<(), ReportFault>) -> Result<(), Fault> {
+    match end {
+        Ok(()) => Ok(()),
+        Err(ReportFault::NoStage) => Err(Fault::NoStage(None)),
+        Err(ReportFault::Write) => Err(Fault::Write(None)),
+        Err(ReportFault::Memory) => Err(Fault::Memory),
     }
 }
 

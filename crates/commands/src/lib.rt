@@ -1,11 +1,13 @@
-//! What `report`, `explain`, `sweep`, `draw`, `serve`, `export` and `import` do: from what their words ask for to what is printed.
+//! What `report`, `explain`, `sweep`, `ends`, `failures`, `try`, `draw`, `serve`, `export` and `import` do: from what their words ask
+//! for to what is printed.
 //!
-//! It stands on the crates that answer (`recording_reports`, `recording_pictures`, `serve_script`, `recording_text`,
+//! It stands on the crates that answer (`recording_reports`, `tried_changes`, `recording_pictures`, `serve_script`, `recording_text`,
 //! `trace_spans`, `trace_import`) and on `console`, by which people are told of mistakes. A command's own steps belong here; what it
-//! answers belongs into the crate that it calls.
+//! answers belongs to the crate that it calls.
 #![tactic(auto)]
 
 mod draw;
+mod drawing_trial;
 mod export;
 mod fault;
 mod format;
@@ -14,6 +16,7 @@ mod naming;
 mod refusing;
 mod report;
 mod serve;
+mod trying;
 
 pub use draw::run_draw;
 pub use export::run_export;
@@ -22,3 +25,4 @@ pub use importing::run_import;
 pub use refusing::refuse;
 pub use report::{run_report, run_report_stage};
 pub use serve::run_serve;
+pub use trying::run_try;

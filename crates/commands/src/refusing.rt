@@ -29,7 +29,7 @@ fn say(rt: &HostRuntime, what: Option<&str>) {
 /// the answer is its exit status, or that of a fault of writing where it can't be printed.
 pub fn refuse(rt: &HostRuntime, manner: Manner, fault: &Fault) -> ExitCode {
     let printed = match fault {
-        Fault::Write(_) | Fault::Strict | Fault::Step => Ok(()),
+        Fault::Write(_) | Fault::Strict | Fault::Step | Fault::Word(_) => Ok(()),
         Fault::CommandLine => {
             // (where standard error can't be written nobody can be told)
             let _ = rt.eprintln(format_args!("{fault}"));

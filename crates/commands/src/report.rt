@@ -5,17 +5,18 @@ use crate::naming::with_name_explained;
 use command_line::{Input, Manner};
 use console::{Fault, Voice, flushed, warn, with_explanation, with_reason};
 use level_pool::Pooled;
-use recording_reports::{StageReport, report_all, report_stage};
+use recording_reports::{StageReport, WholeReport, report_all, report_stage};
 use std::cell::Cell;
 use std::sync::Wait;
 use std::thread::Threads;
 use version_store::StateRepresentation;
 
-/// Prints the report of all stages of a recording.
+/// Prints what is asked of all stages of a recording.
 pub fn run_report<'a, K: StateRepresentation>(
     rt: &'a HostRuntime,
     manner: Manner,
     input: Input<'a>,
+    asked: WholeReport,
 ) -> Result<(), Fault> {
     let voice = Voice::new(rt, manner, input);
     let recording = console::recording(rt, voice, input)?;
@@ -25,6 +26,7 @@ pub fn run_report<'a, K: StateRepresentation>(
     let end = report_all::<K, _>(
         rt.alloc(),
         &recording,
+        asked,
         format_of(manner).form(None),
         &mut sink,
     );

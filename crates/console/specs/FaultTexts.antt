@@ -2,8 +2,9 @@
 use Rattle.std.specs.Prelude.{ℕ, List, codes}
 use Rattle.recording.specs.FaultTexts.{fault_text as reading_text}
 use Rattle.trace_import.specs.Faults.{import_text}
+use Rattle.change_words.specs.FaultTexts.{making_text}
 use Rattle.console.specs.declared.fault.Fault.{Fault}
-use Rattle.console.specs.declared.fault.Fault.TheVariants.{Refused, NotImported, NoStage, Read, Write, Strict, Step, CommandLine, Missing, Torn, NoThread, Memory}
+use Rattle.console.specs.declared.fault.Fault.TheVariants.{Refused, NotImported, NoStage, NotMade, Word, Read, Write, Strict, Step, CommandLine, Missing, Torn, NoThread, Memory}
 
 -- what people are told beside it is no part of it
 abbrev pub fault_text : Fault → List ℕ
@@ -12,6 +13,8 @@ fault_text (NotImported fault why) = import_text fault
 fault_text Strict = codes "warning: a member is read by nothing"
 fault_text Step = codes "refused: a step"
 fault_text (NoStage why) = codes "refused 10 NoStage"
+fault_text (NotMade fault why) = making_text fault
+fault_text (Word why) = codes "error: a word of the command line is mistaken"
 fault_text (Read why) = codes "refused 41 ReadFault"
 fault_text (Write why) = codes "refused 40 WriteFault"
 fault_text CommandLine = codes "error: the command line is not UTF-8 text"

@@ -1,5 +1,6 @@
 //! What ends the program early.
 use crate::reasons::reason_of;
+use change_words::MakingFault;
 use command_help::ToldFault;
 use recording::Fault as ReadingFault;
 use std::alloc::{AllocError, Global};
@@ -15,6 +16,10 @@ pub enum Fault {
     NotImported(ImportFault, Option<String>),
     /// The recording has no stage of the name.
     NoStage(Option<String>),
+    /// Changes are no list of edits of the recording.
+    NotMade(MakingFault, Option<String>),
+    /// A word of the command line is no change, or one more is wanted for this recording. Only people are told of it.
+    Word(String),
     /// A file or standard input can't be opened or read.
     Read(Option<String>),
     /// Standard output or standard error can't be written.
@@ -39,10 +44,13 @@ impl Fault {
     /// The exit status.
     pub fn status(&self) -> u8 {
         match self {
-            Fault::Refused(ReadingFault::Memory, _) => 4,
-            Fault::Refused(_, _) | Fault::NotImported(_, _) | Fault::NoStage(_) | Fault::Strict =>
-                1,
-            Fault::CommandLine => 2,
+            Fault::Refused(ReadingFault::Memory, _) | Fault::NotMade(MakingFault::Memory, _) => 4,
+            Fault::Refused(_, _)
+            | Fault::NotImported(_, _)
+            | Fault::NoStage(_)
+            | Fault::NotMade(_, _)
+            | Fault::Strict => 1,
+            Fault::CommandLine | Fault::Word(_) => 2,
             Fault::Read(_) | Fault::Write(_) | Fault::Missing | Fault::Torn => 3,
             Fault::NoThread | Fault::Memory => 4,
             Fault::Step => 5,
@@ -55,6 +63,8 @@ impl Fault {
             Fault::Refused(_, why) => why,
             Fault::NotImported(_, why) => why,
             Fault::NoStage(why) => why,
+            Fault::NotMade(_, why) => why,
+            Fault::Word(why) => return Some(why.as_str()),
             Fault::Read(why) => why,
             Fault::Write(why) => why,
             _ => return None,
@@ -101,6 +111,8 @@ impl fmt::Display for Fault {
         match self {
             Fault::Refused(fault, _) => write!(f, "{fault}"),
             Fault::NotImported(fault, _) => write!(f, "{fault}"),
+            Fault::NotMade(fault, _) => write!(f, "{fault}"),
+            Fault::Word(_) => f.write_str("error: a word of the command line is mistaken"),
             Fault::Strict => f.write_str("warning: a member is read by nothing"),
             Fault::Step => f.write_str("refused: a step"),
             Fault::NoStage(_) => f.write_str("refused 10 NoStage"),

@@ -4,7 +4,7 @@ use serde_json::{Map, Value};
 use std::alloc::{AllocError, Global};
 use std::fmt::Write;
 
-/// The object of a refusal `refused NUMBER NAME`, which may end with `at PLACE` or with the name of a member.
+/// The object of a refusal `refused NUMBER NAME`, which may end with `at PLACE`, with `in EDIT` or with the name of a member.
 fn refusal(alloc: Global, text: &str) -> Result<Map<String, Value>, AllocError> {
     let mut members = Map::new(alloc);
     let words = text.strip_prefix("refused ").unwrap_or(text);
@@ -29,6 +29,11 @@ fn refusal(alloc: Global, text: &str) -> Result<Map<String, Value>, AllocError> 
     Ok(members)
 }
 
+/// The number that stands behind a word.
+fn number_behind(detail: &str, word: &str) -> Option<u64> {
+    detail.strip_prefix(word)?.parse::<u64>().ok()
+}
+
 /// Adds what a refusal ends with, if it ends with something.
 fn add_detail(
     members: &mut Map<String, Value>,
@@ -38,12 +43,12 @@ fn add_detail(
     if detail.is_empty() {
         return Ok(());
     }
-    let place = detail
-        .strip_prefix("at ")
-        .and_then(|place| place.parse::<u64>().ok());
-    match place {
-        Some(place) => serde_json::put(members, alloc, "at", Value::from(place)),
-        None => serde_json::put(
+    let place = number_behind(detail, "at ");
+    let edit = number_behind(detail, "in ");
+    match (place, edit) {
+        (Some(place), _) => serde_json::put(members, alloc, "at", Value::from(place)),
+        (None, Some(edit)) => serde_json::put(members, alloc, "edit", Value::from(edit)),
+        (None, None) => serde_json::put(
             members,
             alloc,
             "member",

@@ -2,6 +2,7 @@
 //! is said on standard error, and what `check` prints.
 #![tactic(auto)]
 
+mod changes;
 mod checking;
 mod explaining;
 mod fault;
@@ -13,6 +14,7 @@ mod input;
 mod json_refusal;
 mod keeping;
 mod kept_script;
+mod last_stage;
 mod listening;
 mod not_made;
 mod reasons;
@@ -21,8 +23,10 @@ mod scripts_opening;
 mod scripts_telling;
 mod shown;
 mod step_telling;
+mod unmade_changes;
 mod voice;
 
+pub use changes::changes_of;
 pub use checking::run_check;
 pub use explaining::{warn, why_no_stage, with_explanation};
 pub use fault::Fault;
@@ -33,10 +37,12 @@ pub use input::{Named, file, graph, opened, recording, trace};
 pub use json_refusal::fault_line;
 pub use keeping::KeepingSink;
 pub use kept_script::{KeepingReader, KeptScript, with_unread_script};
+pub use last_stage::{tell_last_stage, why_no_last_stage};
 pub use listening::{ListeningSink, ListeningSource, Watch};
 pub use reasons::reason_of;
 pub use remembering::{Output, Remembering, flushed, output, with_read_reason, with_reason};
 pub use scripts_opening::{opened_scripts, unread_scripts};
 pub use scripts_telling::explained;
 pub use step_telling::StepTeller;
+pub use unmade_changes::why_not_made;
 pub use voice::Voice;

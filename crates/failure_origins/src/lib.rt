@@ -1,4 +1,4 @@
-//! The exceptions that arose in the stages of a version: which other stages each one reached, and which stages handled it.
+//! The exceptions that arose in the stages of a version: which other stages each one reached, and which have read it and do not hold it.
 #![tactic(auto)]
 
 mod failure;

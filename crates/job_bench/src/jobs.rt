@@ -27,6 +27,8 @@ use version_store::{StateRepresentation, Version};
 pub(crate) enum Job {
     /// Recordings are read, and all their stages reported, as text and as JSON.
     Report,
+    /// What became of the ends and of the failures of recordings is reported, as text and as JSON.
+    Ends,
     /// Scripts of small edits and their reports.
     Serve,
     /// Scripts of edits that touch every stage.
@@ -50,6 +52,7 @@ impl Job {
     pub(crate) fn named(name: &str) -> Option<Job> {
         match name {
             "report" => Some(Job::Report),
+            "ends" => Some(Job::Ends),
             "serve" => Some(Job::Serve),
             "spread" => Some(Job::Spread),
             "sweep" => Some(Job::Sweep),
@@ -139,6 +142,18 @@ fn reports<R: StateRepresentation>(alloc: Global, plan: &Plan, digest: &mut Dige
     )
 }
 
+/// Takes in what became of the ends and of the failures of a recording.
+fn fates<R: StateRepresentation>(alloc: Global, plan: &Plan, digest: &mut Digest) -> Result<()> {
+    let text = recording(alloc, plan)?;
+    let version = loaded::<R>(alloc, text.as_str())?;
+    for what in [What::Ends, What::Failures(None)] {
+        for form in [Form::Text, Form::Json { line: None }] {
+            report_in(alloc, &version, what, form, digest)?;
+        }
+    }
+    Ok(())
+}
+
 /// Takes in what a script is answered.
 fn served<R: StateRepresentation, W: Runner>(
     alloc: Global,
@@ -221,6 +236,19 @@ fn run_report<R: StateRepresentation>(
     reports::<R>(alloc, &plan(Shape::Layers, scale.of(24_576), seed), digest)?;
     reports::<R>(alloc, &plan(Shape::Trees, scale.of(16_384), seed), digest)?;
     reports::<R>(alloc, &plan(Shape::Chain, scale.of(32_768), seed), digest)
+}
+
+/// Runs the job `ends`.
+fn run_ends<R: StateRepresentation>(
+    alloc: Global,
+    scale: Scale,
+    seed: u32,
+    digest: &mut Digest,
+) -> Result<()> {
+    for shape in [Shape::Mixed, Shape::Layers, Shape::Trees] {
+        fates::<R>(alloc, &plan(shape, scale.of(32_768), seed), digest)?;
+    }
+    Ok(())
 }
 
 /// Runs the job `serve`.
@@ -394,6 +422,7 @@ pub(crate) fn run<R: StateRepresentation, W: Runner>(
     let mut digest = Digest::new();
     match job {
         Job::Report => run_report::<R>(alloc, scale, seed, &mut digest)?,
+        Job::Ends => run_ends::<R>(alloc, scale, seed, &mut digest)?,
         Job::Serve => run_serve::<R, W>(alloc, runner, scale, seed, &mut digest)?,
         Job::Spread => run_spread::<R, W>(alloc, runner, scale, seed, &mut digest)?,
         Job::Sweep => run_sweep::<R, W>(alloc, runner, scale, seed, &mut digest)?,

@@ -15,7 +15,7 @@ use version_store::{StateRepresentation, Version};
 const PIN_BARE: &str = r#"{"do":"pinResult","session":1,"stage":"a","result":{"bare":"X"}}"#;
 
 /// The reports of the first run with `a` pinned.
-const PINNED: [(What, &str); 6] = [
+const PINNED: [(What, &str); 10] = [
     (
         What::All,
         "version 1 parent 0 mode computed stages 2\na async rank 0 bare:X at 10\nb thenApply rank 1 wrapped:X at 10\n",
@@ -37,6 +37,16 @@ const PINNED: [(What, &str); 6] = [
     (
         What::Times,
         "times of version 1 stages 2\na start - queued 0 runs 10\nb start - queued 0 runs 5\n",
+    ),
+    (What::Change(1), "b value:5 at 15 -> wrapped:X at 10\n"),
+    (What::Ends, "ends of version 1 ends 0\n"),
+    (
+        What::Failures(None),
+        "failures of version 1 failures 1\na X at 10 reaches b; handled by -\n",
+    ),
+    (
+        What::Failures(Some(1)),
+        "failures of version 1 failures 0\n",
     ),
 ];
 
@@ -104,7 +114,14 @@ fn of_no_stage<R: StateRepresentation, H: Abort + Threads + Sync>(
 ) -> Result<(), Fail> {
     let remove = r#"{"do":"remove","session":1,"stage":"b"}"#;
     let version: Version<R> = made(alloc, &OneThread::new(rt), FIRST_RUN, remove)?;
-    for what in [What::One(1), What::Blame(1), What::One(2), What::Blame(2)] {
+    for what in [
+        What::One(1),
+        What::Blame(1),
+        What::Change(1),
+        What::Failures(Some(1)),
+        What::One(2),
+        What::Blame(2),
+    ] {
         assert!(rt; tells_nothing(alloc, &version, what));
     }
     Ok(())

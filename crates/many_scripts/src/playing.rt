@@ -1,5 +1,5 @@
 //! A client's loop over its script.
-ghost use Rattle.std.specs.Prelude.{◌≡◌, ◌≢◌, ◌+◌, ◌-◌, ◌^◌, ◌<◌, [], OnOk, IfErr};
+ghost use Rattle.std.specs.Prelude.{◌≡◌, ◌+◌, ◌-◌, ◌^◌, ◌<◌, [], OnOk, IfErr};
 ghost use Rattle.serve_script.specs.Faults.{failed_writes_of_serve, is_read_fault};
 ghost use Rattle.script_lines.specs.LineReader.{StopsReading};
 ghost use Rattle.many_scripts.specs.Playing.{HasHeard, PlaysScript};

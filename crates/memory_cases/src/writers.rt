@@ -11,7 +11,7 @@ use crate::turn::{Turn, shown};
 use crate::written::{push_written, room};
 use anyhow::Result;
 use level_pool::Runner;
-use recording_reports::{RecordingFault, StageReport, report_all, report_stage};
+use recording_reports::{RecordingFault, StageReport, WholeReport, report_all, report_stage};
 use report_form::{Form, Format};
 use serve_script::{ServeFault, serve};
 use stage_graph::Graph;
@@ -165,7 +165,13 @@ impl<R: StateRepresentation, W: Runner> Writing<'_, R, W> {
         let recording = scene.recording().as_bytes();
         let answer = match scene.call {
             "all" | "all-json" => {
-                report_all::<R, _>(alloc, recording, form_named(scene.call), sink)
+                report_all::<R, _>(
+                    alloc,
+                    recording,
+                    WholeReport::All,
+                    form_named(scene.call),
+                    sink,
+                )
             }
             word => {
                 let (name, asked) = (scene.stages(), stage_report_named(word));

@@ -1,5 +1,5 @@
 -- What is written one after the other.
-use Rattle.std.proofs.Common.{◌≡◌, ℕ, List, ◌++◌, Option, Some, None, Result, Ok, Err, OnErr, refl, sym, ap, ◌∙◌}
+use Rattle.std.proofs.Common.{◌≡◌, ℕ, List, ◌++◌, Option, Some, None, Result, Ok, Err, OnErr, sym, ap, ◌∙◌}
 use Rattle.std.specs.Io.KnownBytes.{Appends}
 use Rattle.text_io.specs.Sink.{AppendsPrefix}
 use Rattle.std.proofs.KnownBytes.{Appends-trans}
@@ -12,12 +12,10 @@ use Rattle.recording.specs.Reads.{IsNamed}
 use Rattle.recording.specs.RecordingOf.{named}
 use Rattle.version_store.specs.Plain.{PlainVersion, opening_version}
 use Rattle.version_store.specs.Queries.{found}
-use Rattle.report_rows.specs.declared.what.What.TheVariants.{All}
-use Rattle.report_form.specs.Told.{report_told}
 use Rattle.report_form.specs.declared.form.Form.{Form}
-use Rattle.report_form.specs.declared.form.Form.TheVariants.{Text, Json}
 use Rattle.recording_reports.specs.declared.stage.StageReport.{StageReport}
-use Rattle.recording_reports.specs.Reported.{all_of, stage_of, stage_text, told, IsTextOf}
+use Rattle.recording_reports.specs.declared.all.WholeReport.{WholeReport}
+use Rattle.recording_reports.specs.Reported.{stage_of, stage_text, whole_of, whole_text, IsTextOf}
 
 -- a part of the first of three texts
 pub in_first : (a b : Option (List ℕ)) (one two three : List ℕ) → AppendsPrefix a b one → AppendsPrefix a b (one ++ two ++ three)
@@ -53,13 +51,7 @@ text_of_stage form asked name recording graph version place is loaded finds =
           ∙ ap (option_map (stage_text form asked (opening_version graph))) (sym (placed (place_named graph.places name) place here)),
     )
 
--- there is a report of all stages in either form
-all_is_there : (form : Form) (version : PlainVersion) → Some (told form version All) ≡ report_told form version All
-all_is_there Text version = refl
-all_is_there (Json line) version = refl
-
 -- what is told of all stages of the version is what is to be told of the graph
-pub text_of_all : (form : Form) (recording : List ℕ) (graph : PlainGraph) (version : PlainVersion) → IsNamed (Ok graph) (named recording)
-    → version ≡ opening_version graph → IsTextOf recording (all_of form) (Some (told form version All))
-text_of_all form recording graph version is loaded =
-    (graph, is, all_is_there form version ∙ ap (λ (version : PlainVersion). report_told form version All) loaded)
+pub text_of_whole : (form : Form) (asked : WholeReport) (recording : List ℕ) (graph : PlainGraph) (version : PlainVersion) → IsNamed (Ok graph) (named recording)
+    → version ≡ opening_version graph → IsTextOf recording (whole_of form asked) (Some (whole_text form asked version))
+text_of_whole form asked recording graph version is loaded = (graph, is, ap (λ (version : PlainVersion). Some (whole_text form asked version)) loaded)

@@ -9,25 +9,38 @@ use Rattle.recording.specs.RecordingOf.{named}
 use Rattle.recording.specs.FaultTexts.{fault_number}
 use Rattle.version_store.specs.Plain.{PlainVersion, opening_version}
 use Rattle.report_rows.specs.declared.what.What.{What}
-use Rattle.report_rows.specs.declared.what.What.TheVariants.{All, One, Blame, Path}
+use Rattle.report_rows.specs.declared.what.What.TheVariants.{All, One, Blame, Path, Ends, Failures}
 use Rattle.report_form.specs.Told.{report_told, sweep_told}
 use Rattle.report_form.specs.declared.form.Form.{Form}
 use Rattle.recording_reports.specs.declared.fault.RecordingFault.{RecordingFault}
 use Rattle.recording_reports.specs.declared.fault.RecordingFault.TheVariants.{Refused, NoStage, Write, Memory}
 use Rattle.recording_reports.specs.declared.stage.StageReport.{StageReport}
-use Rattle.recording_reports.specs.declared.stage.StageReport.TheVariants.{Explanation, Sweep}
+use Rattle.recording_reports.specs.declared.stage.StageReport.TheVariants.{Explanation, Sweep, Failure}
+use Rattle.recording_reports.specs.declared.all.WholeReport.{WholeReport}
+use Rattle.recording_reports.specs.declared.all.WholeReport.TheVariants as whole
 
--- the report of all stages of a graph
-abbrev pub all_of : Form → PlainGraph → Option (List ℕ)
-all_of form graph = report_told form (opening_version graph) All
+-- which report of a version is asked for
+abbrev pub what_of : WholeReport → What
+what_of whole.All = All
+what_of whole.Ends = Ends
+what_of whole.Failures = Failures None
 
 abbrev pub told : Form → PlainVersion → What → List ℕ
 told form version what = unwrap_or (report_told form version what) []
 
--- the reports `one`, `blame` and `path` of the stage at a place, one after the other; or its sweep
+-- what is asked of all stages
+abbrev pub whole_text : Form → WholeReport → PlainVersion → List ℕ
+whole_text form asked version = told form version (what_of asked)
+
+-- the same of a graph
+abbrev pub whole_of : Form → WholeReport → PlainGraph → Option (List ℕ)
+whole_of form asked graph = Some (whole_text form asked (opening_version graph))
+
+-- the reports `one`, `blame` and `path` of the stage at a place, one after the other; or its sweep; or the failure that arose in it
 abbrev pub stage_text : Form → StageReport → PlainVersion → ℕ → List ℕ
 stage_text form Explanation version place = told form version (One place) ++ told form version (Blame place) ++ told form version (Path place)
 stage_text form (Sweep most) version place = unwrap_or (sweep_told form version place most) []
+stage_text form Failure version place = told form version (Failures (Some place))
 
 -- the same of the stage of a name; none where the graph has no such stage
 abbrev pub stage_of : Form → StageReport → List ℕ → PlainGraph → Option (List ℕ)

@@ -5,6 +5,6 @@ mod all;
 mod fault;
 mod stage;
 
-pub use all::report_all;
+pub use all::{WholeReport, report_all};
 pub use fault::RecordingFault;
 pub use stage::{StageReport, report_stage};

@@ -25,6 +25,8 @@ pub enum StageReport {
     Explanation,
     /// Which stages are worth making faster, with no more lines of them than `most`.
     Sweep { most: Option<usize> },
+    /// Which stages the failure that arose in it reached, and which read it and don't hold it.
+    Failure,
 }
 
 /// Writes the reports `one`, `blame` and `path` of the stage at a place.
@@ -68,6 +70,9 @@ fn write_stage<R: StateRepresentation, W: Runner, S: Sink>(
         StageReport::Explanation => explain(alloc, version, place, form, sink),
         StageReport::Sweep { most } => {
             tell_sweep(alloc, version, place, most, runner, form, sink)
+        }
+        StageReport::Failure => {
+            tell_report(alloc, version, What::Failures(Some(place)), form, sink)
         }
     }
 }

@@ -1,5 +1,5 @@
 -- Values that have no float and do not nest deeper than some number.
-use Rattle.std.proofs.Common.{◌≡◌, ℕ, suc, ◌≤◌, max, List, [], ◌∷◌, Bool, true, false, ◌||◌, Option, None, Some, Ordering, Less, Equal, Greater, pos, negsuc, refl, sym, subst, arith, rules}
+use Rattle.std.proofs.Common.{◌≡◌, ℕ, suc, ◌≤◌, max, List, [], ◌∷◌, Bool, true, false, ◌||◌, Option, None, Some, Ordering, Less, Equal, Greater, pos, negsuc, refl, arith, rules}
 use Rattle.std.specs.Prelude.{codes, map}
 use Rattle.std.specs.List.{AllByRecursion}
 use Rattle.std.specs.Ordering.{nat_cmp, match_ordering}

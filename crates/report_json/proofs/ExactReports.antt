@@ -1,7 +1,10 @@
 -- Reports have no float and do not nest deep, so what is written of them reads back.
-use Rattle.std.proofs.Common.{ℕ, ◌≤◌, List, [], ◌∷◌, Option, arith}
+use Rattle.std.proofs.Common.{ℕ, ◌≤◌, List, [], ◌∷◌, Option, arith, suc}
 use Rattle.std.specs.List.{AllByRecursion}
 use Rattle.act_expr.specs.declared.outcome.Outcome.{Outcome}
+use Rattle.act_expr.specs.declared.outcome.Outcome.TheVariants as came_to
+use Rattle.stage_ends.specs.declared.fate.Fate.{Fate}
+use Rattle.stage_ends.specs.declared.fate.Fate.TheVariants.{Struck, CutOff, NotReached, TooLate}
 use Rattle.stage_ops.specs.declared.state.Join.{Join}
 use Rattle.stage_ops.specs.declared.state.Join.TheVariants.{Waits, Returns, Cancelled, Throws}
 use Rattle.serde_json.specs.Data.{depth}
@@ -15,9 +18,9 @@ use Rattle.report_rows.specs.declared.shift.Shift.TheVariants.{Later, Earlier}
 use Rattle.report_rows.specs.declared.standing.Standing.{Standing}
 use Rattle.report_rows.specs.declared.standing.Standing.TheVariants.{Absent, Pending, Completed}
 use Rattle.report_rows.specs.Report.{Report}
-use Rattle.report_json.specs.Heads.{Fact, a_text, a_count, maybe_count, maybe_outcome, some_names, an_answer, some_rows, Facts, fact_json, facts, facts_json, join_members, object_of}
+use Rattle.report_json.specs.Heads.{Fact, a_text, a_count, maybe_count, maybe_outcome, a_standing, some_names, an_answer, some_rows, Facts, fact_json, facts, facts_json, join_members, object_of}
 use Rattle.report_json.specs.Json.{at_line, count, object, outcome_json, text}
-use Rattle.report_json.specs.Rows.{because_members, kind_of_stage, moment_in, names_json, outcome_in, row_json, row_members, rows_json, shift_members, standing_json, standing_members}
+use Rattle.report_json.specs.Rows.{because_members, exception_json, fate_members, kind_of_stage, moment_in, names_json, outcome_in, row_json, row_members, rows_json, shift_members, standing_json, standing_members}
 use Rattle.report_json.proofs.Exact.{IsExact, at_line_exact, count_exact, deeper, list_exact, null_exact, object_exact, optional_exact, outcome_exact, text_exact, value_exact}
 
 -- ---- rows
@@ -47,6 +50,20 @@ shift_exact : (name : List ℕ) (shift : Shift) → IsExact 3 (object (shift_mem
 shift_exact name (Later ticks) = object_exact 2 (shift_members name (Later ticks)) (text_exact 2 _, (count_exact 2 _, tt))
 shift_exact name (Earlier ticks) = object_exact 2 (shift_members name (Earlier ticks)) (text_exact 2 _, (count_exact 2 _, tt))
 
+fate_exact : (fate : Fate) → IsExact 1 (object (fate_members fate))
+fate_exact Struck = object_exact 0 (fate_members Struck) (text_exact 0 _, tt)
+fate_exact (CutOff ran of) = object_exact 0 (fate_members (CutOff ran of)) (text_exact 0 _, (count_exact 0 _, (count_exact 0 _, tt)))
+fate_exact (NotReached by) = object_exact 0 (fate_members (NotReached by)) (text_exact 0 _, (count_exact 0 _, tt))
+fate_exact (TooLate by) = object_exact 0 (fate_members (TooLate by)) (text_exact 0 _, (count_exact 0 _, tt))
+
+exception_exact : (n : ℕ) (outcome : Outcome) → IsExact n (exception_json outcome)
+exception_exact n (came_to.Value value) = null_exact n
+exception_exact n (came_to.Bare name) = text_exact n name
+exception_exact n (came_to.Wrapped name) = text_exact n name
+
+names_exact : (n : ℕ) (names : List (List ℕ)) → IsExact (suc n) (names_json names)
+names_exact n names = list_exact n text names (text_exact n)
+
 row_exact : (row : Row) → IsExact 3 (row_json row)
 row_exact (a_row.State name op rank standing) = object_exact 2 (row_members (a_row.State name op rank standing))
     (text_exact 2 _, (text_exact 2 _, (count_exact 2 _, (optional_exact 2 outcome_json (outcome_in standing) (outcome_exact 1), (optional_exact 2 count (moment_in standing) (count_exact 2), tt)))))
@@ -56,14 +73,15 @@ row_exact (a_row.Step name moment queued ran because) = object_exact 2 (row_memb
     (text_exact 2 _, (optional_exact 2 count moment (count_exact 2), (count_exact 2 _, (count_exact 2 _, (deeper 1 2 _ (omega arith) (because_exact because), tt)))))
 row_exact (a_row.Change name old new) = object_exact 2 (row_members (a_row.Change name old new)) (text_exact 2 _, (standing_exact old, (standing_exact new, tt)))
 row_exact (a_row.Shift name shift) = shift_exact name shift
+row_exact (a_row.End name kind delay moment fate) = object_exact 2 (row_members (a_row.End name kind delay moment fate))
+    (text_exact 2 _, (text_exact 2 _, (optional_exact 2 count delay (count_exact 2), (count_exact 2 _, (deeper 1 2 _ (omega arith) (fate_exact fate), tt)))))
+row_exact (a_row.Failure name standing reaches handled) = object_exact 2 (row_members (a_row.Failure name standing reaches handled))
+    (text_exact 2 _, (optional_exact 2 exception_json (outcome_in standing) (exception_exact 2), (optional_exact 2 count (moment_in standing) (count_exact 2), (names_exact 1 reaches, (names_exact 1 handled, tt)))))
 row_exact (a_row.Trial name sooner outcome moment) = object_exact 2 (row_members (a_row.Trial name sooner outcome moment))
     (text_exact 2 _, (count_exact 2 _, (outcome_exact 1 outcome, (count_exact 2 _, tt))))
 
 rows_exact : (rows : List Row) → IsExact 4 (rows_json rows)
 rows_exact rows = list_exact 3 row_json rows row_exact
-
-names_exact : (names : List (List ℕ)) → IsExact 4 (names_json names)
-names_exact names = list_exact 3 text names (text_exact 3)
 
 -- ---- reports
 
@@ -78,7 +96,8 @@ fact_exact (a_text content) = text_exact 4 content
 fact_exact (a_count amount) = count_exact 4 amount
 fact_exact (maybe_count amount) = optional_exact 4 count amount (count_exact 4)
 fact_exact (maybe_outcome outcome) = optional_exact 4 outcome_json outcome (outcome_exact 3)
-fact_exact (some_names listed) = names_exact listed
+fact_exact (a_standing standing) = deeper 2 4 _ (omega arith) (standing_exact standing)
+fact_exact (some_names listed) = names_exact 3 listed
 fact_exact (an_answer join) = join_exact join
 fact_exact (some_rows listed) = rows_exact listed
 

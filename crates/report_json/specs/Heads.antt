@@ -7,13 +7,13 @@ use Rattle.stage_ops.specs.declared.state.Join.{Join}
 use Rattle.stage_ops.specs.declared.state.Join.TheVariants.{Waits, Returns, Cancelled, Throws}
 use Rattle.serde_json.specs.Data.{Data, null}
 use Rattle.report_rows.specs.declared.head.Head.{Head}
-use Rattle.report_rows.specs.declared.head.Head.TheVariants.{All, Times, One, Blame, Path, Changes, Drift, ChangesAgainst, DriftAgainst, Sweep}
+use Rattle.report_rows.specs.declared.head.Head.TheVariants.{All, Times, One, Blame, Path, Change, Changes, Drift, ChangesAgainst, DriftAgainst, Ends, Failures, Sweep}
 use Rattle.report_rows.specs.declared.row.Row.{Row}
 use Rattle.report_rows.specs.declared.standing.Standing.{Standing}
 use Rattle.report_rows.specs.Modes.{mode_text}
 use Rattle.report_rows.specs.Report.{Report}
 use Rattle.report_json.specs.Json.{NamedValues, text, count, optional, object, outcome_json, value_json}
-use Rattle.report_json.specs.Rows.{moment_in, names_json, outcome_in, rows_json}
+use Rattle.report_json.specs.Rows.{moment_in, names_json, outcome_in, rows_json, standing_json}
 
 -- what `join` answers: nothing yet, a value, or an exception, which may have a cause
 abbrev pub join_members : Join → NamedValues
@@ -36,6 +36,7 @@ pub data Fact : Type 0 where
   -- null where there is none
   maybe_count : Option ℕ → Fact
   maybe_outcome : Option Outcome → Fact
+  a_standing : Standing → Fact
   some_names : List (List ℕ) → Fact
   an_answer : Join → Fact
   some_rows : List Row → Fact
@@ -45,6 +46,7 @@ fact_json (a_text content) = text content
 fact_json (a_count amount) = count amount
 fact_json (maybe_count amount) = optional count amount
 fact_json (maybe_outcome outcome) = optional outcome_json outcome
+fact_json (a_standing standing) = standing_json standing
 fact_json (some_names listed) = names_json listed
 fact_json (an_answer join) = object (join_members join)
 fact_json (some_rows listed) = rows_json listed
@@ -65,8 +67,11 @@ facts_before (One version name op rank standing sources inner dependents join) =
     (codes "dependents", some_names dependents) ∷ (codes "inner", some_names inner) ∷ (codes "join", an_answer join) ∷ []
 facts_before (Blame version name chain) = (codes "chain", some_names chain) ∷ []
 facts_before (Path version name moment) = []
+facts_before (Change version name old new) = []
 facts_before (Changes version parent) = []
 facts_before (Drift version parent) = []
+facts_before (Ends version) = []
+facts_before (Failures version) = []
 facts_before (ChangesAgainst version against) = (codes "against", a_count against) ∷ []
 facts_before (DriftAgainst version against) = (codes "against", a_count against) ∷ []
 -- all trials are counted, of which not all may have a row
@@ -98,6 +103,14 @@ last_of_one version name op rank standing sources =
     (codes "stage", a_text name) ∷
     (codes "version", a_count version) ∷ []
 
+abbrev pub last_of_change : ℕ → List ℕ → Standing → Standing → Facts
+last_of_change version name old new =
+    (codes "new", a_standing new) ∷
+    (codes "old", a_standing old) ∷
+    (codes "report", a_text (codes "change")) ∷
+    (codes "stage", a_text name) ∷
+    (codes "version", a_count version) ∷ []
+
 -- those whose names are after `line`
 abbrev pub facts_after : Head → List Row → Facts
 facts_after (All version parent mode) stages = (codes "mode", a_text (mode_text mode)) ∷ listed_since (codes "all") parent stages version
@@ -105,10 +118,13 @@ facts_after (Times version) stages = listed (codes "times") stages version
 facts_after (One version name op rank standing sources inner dependents join) stages = last_of_one version name op rank standing sources
 facts_after (Blame version name chain) stages = (codes "report", a_text (codes "blame")) ∷ (codes "stage", a_text name) ∷ (codes "version", a_count version) ∷ []
 facts_after (Path version name moment) steps = moment_of (codes "path") moment ++ listed_of (codes "stage") name (codes "steps") steps version
+facts_after (Change version name old new) stages = last_of_change version name old new
 facts_after (Changes version parent) stages = listed_since (codes "changes") parent stages version
 facts_after (Drift version parent) stages = listed_since (codes "drift") parent stages version
 facts_after (ChangesAgainst version against) stages = listed (codes "changes") stages version
 facts_after (DriftAgainst version against) stages = listed (codes "drift") stages version
+facts_after (Ends version) ends = listed (codes "ends") ends version
+facts_after (Failures version) failures = listed (codes "failures") failures version
 facts_after (Sweep version name moment all) trials = moment_of (codes "sweep") moment ++ listed_of (codes "target") name (codes "trials") trials version
 
 -- ---- the report

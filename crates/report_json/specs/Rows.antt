@@ -1,6 +1,9 @@
 -- The rows of reports as JSON objects. A moment is null while the stage is pending, and so is its outcome.
-use Rattle.std.specs.Prelude.{ℕ, List, [], ◌∷◌, ◌++◌, Option, None, Some, codes, map}
+use Rattle.std.specs.Prelude.{ℕ, List, [], ◌∷◌, Option, None, Some, codes, map}
 use Rattle.act_expr.specs.declared.outcome.Outcome.{Outcome}
+use Rattle.act_expr.specs.declared.outcome.Outcome.TheVariants as came_to
+use Rattle.stage_ends.specs.declared.fate.Fate.{Fate}
+use Rattle.stage_ends.specs.declared.fate.Fate.TheVariants.{Struck, CutOff, NotReached, TooLate}
 use Rattle.stage_graph.specs.Texts.{op_text}
 use Rattle.serde_json.specs.Data.{Data, null}
 use Rattle.report_rows.specs.declared.because.Because.{Because}
@@ -55,6 +58,27 @@ abbrev pub shift_members : List ℕ → Shift → NamedValues
 shift_members name (Later ticks) = (codes "name", text name) ∷ (codes "later", count ticks) ∷ []
 shift_members name (Earlier ticks) = (codes "name", text name) ∷ (codes "earlier", count ticks) ∷ []
 
+-- ---- names of stages
+
+abbrev pub names_json : List (List ℕ) → Data
+names_json names = list (map text names)
+
+-- ---- what became of an end
+
+abbrev pub fate_members : Fate → NamedValues
+fate_members Struck = (codes "kind", text (codes "struck")) ∷ []
+fate_members (CutOff ran of) = (codes "kind", text (codes "cutOff")) ∷ (codes "ran", count ran) ∷ (codes "of", count of) ∷ []
+fate_members (NotReached by) = (codes "kind", text (codes "notReached")) ∷ (codes "by", count by) ∷ []
+fate_members (TooLate by) = (codes "kind", text (codes "tooLate")) ∷ (codes "by", count by) ∷ []
+
+-- ---- an exception
+
+-- null for a value
+abbrev pub exception_json : Outcome → Data
+exception_json (came_to.Value value) = null
+exception_json (came_to.Bare name) = text name
+exception_json (came_to.Wrapped name) = text name
+
 -- ---- rows
 
 abbrev pub row_members : Row → NamedValues
@@ -79,6 +103,18 @@ row_members (a_row.Change name old new) =
     (codes "old", standing_json old) ∷
     (codes "new", standing_json new) ∷ []
 row_members (a_row.Shift name shift) = shift_members name shift
+row_members (a_row.End name kind delay moment fate) =
+    (codes "name", text name) ∷
+    (codes "do", text kind) ∷
+    (codes "delay", optional count delay) ∷
+    (codes "moment", count moment) ∷
+    (codes "fate", object (fate_members fate)) ∷ []
+row_members (a_row.Failure name standing reaches handled) =
+    (codes "name", text name) ∷
+    (codes "exception", optional exception_json (outcome_in standing)) ∷
+    (codes "moment", optional count (moment_in standing)) ∷
+    (codes "reaches", names_json reaches) ∷
+    (codes "handled", names_json handled) ∷ []
 row_members (a_row.Trial name sooner outcome moment) =
     (codes "stage", text name) ∷
     (codes "sooner", count sooner) ∷
@@ -90,6 +126,3 @@ row_json row = object (row_members row)
 
 abbrev pub rows_json : List Row → Data
 rows_json rows = list (map row_json rows)
-
-abbrev pub names_json : List (List ℕ) → Data
-names_json names = list (map text names)

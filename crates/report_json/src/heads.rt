@@ -1,7 +1,7 @@
 //! What a report says, in a line: its members in the order of their names.
 ghost use Rattle.std.specs.Prelude.{◌∷◌, ◌++◌, [], OnOk, codes};
 ghost use Rattle.report_rows.specs.declared.head.Head.TheVariants as a_head;
-ghost use Rattle.report_json.specs.Heads.{facts_after, facts_before, facts_json, join_members, last_of_one, listed, listed_of, listed_since, moment_of, object_of};
+ghost use Rattle.report_json.specs.Heads.{facts_after, facts_before, facts_json, join_members, last_of_change, last_of_one, listed, listed_of, listed_since, moment_of, object_of};
 ghost use Rattle.report_json.specs.Json.{at_line, count, object, optional, text};
 ghost use Rattle.report_json.specs.Rows.{names_json, rows_json};
 ghost use Rattle.report_json.specs.Tokens.{Tells, TellsMember, TellsRows, line_rows};
@@ -9,7 +9,7 @@ ghost use Rattle.report_json.specs.Tokens.{Tells, TellsMember, TellsRows, line_r
 use crate::line::Line;
 use crate::names::{push_join_member, push_names_member};
 use crate::rows::push_rows;
-use crate::stages::{push_moment, push_outcome};
+use crate::stages::{push_moment, push_outcome, push_standing};
 use act_expr::Mode;
 use propagate::StateRepresentation;
 use report_rows::{Head, Names, Rows, Said, Standing, Text, mode_text};
@@ -54,15 +54,18 @@ fn push_first(line: &mut Line, head: &Head<'_>) -> Result<(), AllocError>
             join,
             ..
         } => push_first_of_one(line, inner, dependents, join),
-        Head::Blame { chain, .. } => push_names_member(line, "chain", chain),
+        Head::Blame { chain, .. } => push_names_member(line, "chain", chain.as_slice()),
         Head::ChangesAgainst { against, .. } => line.count("against", u64::from(*against)),
         Head::DriftAgainst { against, .. } => line.count("against", u64::from(*against)),
         Head::Sweep { count, .. } => line.count("count", *count as u64),
         Head::All { .. } => Ok(()),
         Head::Times { .. } => Ok(()),
         Head::Path { .. } => Ok(()),
+        Head::Change { .. } => Ok(()),
         Head::Changes { .. } => Ok(()),
         Head::Drift { .. } => Ok(()),
+        Head::Ends { .. } => Ok(()),
+        Head::Failures { .. } => Ok(()),
     }
 }
 
@@ -99,6 +102,12 @@ fn push_last<R: StateRepresentation>(
             name,
             moment,
         } => push_last_of_path(line, *version, name, *moment, rows),
+        Head::Change {
+            version,
+            name,
+            old,
+            new,
+        } => push_last_of_change(line, *version, name, &old.standing(), &new.standing()),
         Head::Changes { version, parent } => {
             push_listed_since(line, "changes", *parent, rows, *version)
         }
@@ -107,6 +116,8 @@ fn push_last<R: StateRepresentation>(
         }
         Head::ChangesAgainst { version, .. } => push_listed(line, "changes", rows, *version),
         Head::DriftAgainst { version, .. } => push_listed(line, "drift", rows, *version),
+        Head::Ends { version } => push_listed(line, "ends", rows, *version),
+        Head::Failures { version } => push_listed(line, "failures", rows, *version),
         Head::Sweep {
             version,
             name,
@@ -241,8 +252,8 @@ fn push_first_of_one(
 ) -> Result<(), AllocError>
     ensures { OnOk result (TellsRows ((codes "dependents", names_json dependents.now) ∷ (codes "inner", names_json inner.now) ∷ (codes "join", object (join_members join.now)) ∷ []) line.old line.new) }
 {
-    push_names_member(line, "dependents", dependents)?;
-    push_names_member(line, "inner", inner)?;
+    push_names_member(line, "dependents", dependents.as_slice())?;
+    push_names_member(line, "inner", inner.as_slice())?;
     push_join_member(line, "join", join)
 }
 
@@ -264,7 +275,7 @@ fn push_last_of_one(
     push_outcome(line, standing)?;
     line.count("rank", u64::from(rank))?;
     line.text("report", "one")?;
-    push_names_member(line, "sources", sources)?;
+    push_names_member(line, "sources", sources.as_slice())?;
     line.text("stage", name)?;
     line.count("version", u64::from(version))
 }
@@ -274,6 +285,25 @@ fn push_last_of_blame(line: &mut Line, name: &Text<'_>, version: u32) -> Result<
 {
     let name = name.as_str();
     line.text("report", "blame")?;
+    line.text("stage", name)?;
+    line.count("version", u64::from(version))
+}
+
+fn push_last_of_change(
+    line: &mut Line,
+    version: u32,
+    name: &Text<'_>,
+    old: &Standing,
+    new: &Standing,
+) -> Result<(), AllocError>
+    ensures { OnOk result (TellsRows (facts_json (last_of_change version name.now old.now new.now)) line.old line.new) }
+{
+    let name = name.as_str();
+    line.name("new")?;
+    push_standing(line, new)?;
+    line.name("old")?;
+    push_standing(line, old)?;
+    line.text("report", "change")?;
     line.text("stage", name)?;
     line.count("version", u64::from(version))
 }

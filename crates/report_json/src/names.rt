@@ -10,7 +10,6 @@ ghost use Rattle.report_json.specs.Tokens.{Tells, TellsMember};
 use crate::line::Line;
 use crate::line_values::push_one_text;
 use act_expr::Value;
-use report_rows::Names;
 use stage_ops::Join;
 use std::alloc::AllocError;
 
@@ -29,12 +28,12 @@ fn push_names(line: &mut Line, names: &[&str]) -> Result<(), AllocError>
 pub(crate) fn push_names_member(
     line: &mut Line,
     name: &str,
-    names: &Names<'_>,
+    names: &[&str],
 ) -> Result<(), AllocError>
-    ensures { OnOk result (TellsMember name.now (names_json names.now) line.old line.new) }
+    ensures { OnOk result (TellsMember name.now (names_json (bytes_of names.now)) line.old line.new) }
 {
     line.name(name)?;
-    push_names(line, names.as_slice())
+    push_names(line, names)
 }
 
 // A value is returned.

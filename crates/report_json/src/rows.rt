@@ -3,15 +3,19 @@ ghost use Rattle.std.specs.Prelude.{OnOk};
 ghost use Rattle.report_rows.specs.declared.row.Row.TheVariants as a_row;
 ghost use Rattle.report_rows.specs.declared.shift.Shift.TheVariants.{Earlier, Later};
 ghost use Rattle.report_json.specs.Json.{object};
-ghost use Rattle.report_json.specs.Rows.{row_json, row_members, rows_json, shift_members};
+ghost use Rattle.report_json.specs.Rows.{row_json, rows_json, shift_members};
 ghost use Rattle.report_json.specs.Tokens.{Tells};
 
 use crate::line::Line;
 use crate::line_values::push_outcome_member;
-use crate::stages::{push_because, push_moment, push_outcome, push_standing};
+use crate::names::push_names_member;
+use crate::stages::{
+    push_because, push_exception, push_fate, push_moment, push_outcome, push_standing,
+};
 use act_expr::Outcome;
 use propagate::StateRepresentation;
-use report_rows::{Because, Row, Rows, Shift, Standing};
+use report_rows::{Because, LentNames, Row, Rows, Shift, Standing};
+use stage_ends::Fate;
 use stage_graph::Op;
 use std::alloc::AllocError;
 
@@ -57,6 +61,19 @@ fn push_row(line: &mut Line, row: &Row<'_>) -> Result<(), AllocError>
             push_change(line, name.as_str(), &old.standing(), &new.standing())
         }
         Row::Shift { name, shift } => push_shift(line, name.as_str(), *shift),
+        Row::End {
+            name,
+            kind,
+            delay,
+            moment,
+            fate,
+        } => push_end(line, name.as_str(), kind.as_str(), *delay, *moment, *fate),
+        Row::Failure {
+            name,
+            standing,
+            reaches,
+            handled,
+        } => push_failed(line, name.as_str(), &standing.standing(), reaches, handled),
         Row::Trial {
             name,
             sooner,
@@ -170,6 +187,46 @@ fn push_shift(line: &mut Line, name: &str, shift: Shift) -> Result<(), AllocErro
         Shift::Later(ticks) => push_later(line, name, ticks),
         Shift::Earlier(ticks) => push_earlier(line, name, ticks),
     }
+}
+
+// An end of the stage, and what became of it.
+fn push_end(
+    line: &mut Line,
+    name: &str,
+    kind: &str,
+    delay: Option<u64>,
+    moment: u64,
+    fate: Fate,
+) -> Result<(), AllocError>
+    ensures { OnOk result (Tells (row_json (a_row.End name.now kind.now delay moment fate)) line.old line.new) }
+{
+    line.begin_object()?;
+    line.optional_count("delay", delay)?;
+    line.text("do", kind)?;
+    line.name("fate")?;
+    push_fate(line, fate)?;
+    line.count("moment", moment)?;
+    line.text("name", name)?;
+    line.end_object()
+}
+
+// The exception that arose in the stage, whom it reaches, and who handles it.
+fn push_failed(
+    line: &mut Line,
+    name: &str,
+    standing: &Standing,
+    reaches: &LentNames<'_>,
+    handled: &LentNames<'_>,
+) -> Result<(), AllocError>
+    ensures { OnOk result (Tells (row_json (a_row.Failure name.now standing.now reaches.now handled.now)) line.old line.new) }
+{
+    line.begin_object()?;
+    push_exception(line, standing)?;
+    push_names_member(line, "handled", handled.as_slice())?;
+    push_moment(line, standing)?;
+    line.text("name", name)?;
+    push_names_member(line, "reaches", reaches.as_slice())?;
+    line.end_object()
 }
 
 // What another stage would come to, and how much sooner, if the action of this one took no time.

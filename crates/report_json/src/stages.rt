@@ -1,14 +1,16 @@
 //! What a stage is, and why, in a line.
 ghost use Rattle.std.specs.Prelude.{◌∷◌, [], OnOk, codes};
 ghost use Rattle.report_rows.specs.declared.standing.Standing.TheVariants.{Completed, Pending};
+ghost use Rattle.stage_ends.specs.declared.fate.Fate.TheVariants.{CutOff};
 ghost use Rattle.report_json.specs.Json.{count, object, optional, outcome_json, text};
-ghost use Rattle.report_json.specs.Rows.{because_members, kind_of_stage, moment_in, outcome_in, standing_json, standing_members};
+ghost use Rattle.report_json.specs.Rows.{because_members, exception_json, fate_members, kind_of_stage, moment_in, outcome_in, standing_json, standing_members};
 ghost use Rattle.report_json.specs.Tokens.{Tells, TellsMember};
 
 use crate::line::Line;
 use crate::line_values::{push_one_text, push_outcome_member};
 use act_expr::Outcome;
 use report_rows::{Because, Standing};
+use stage_ends::Fate;
 use std::alloc::AllocError;
 
 /// Adds the tick at which a stage completed; null while it is pending.
@@ -30,6 +32,28 @@ pub(crate) fn push_outcome(line: &mut Line, standing: &Standing) -> Result<(), A
         Standing::Completed(outcome, _) => push_outcome_member(line, "outcome", outcome),
         Standing::Absent => line.none("outcome"),
         Standing::Pending => line.none("outcome"),
+    }
+}
+
+// Adds the exception that an outcome is; null for a value.
+fn push_exception_of(line: &mut Line, outcome: &Outcome) -> Result<(), AllocError>
+    ensures { OnOk result (TellsMember (codes "exception") (exception_json outcome.now) line.old line.new) }
+{
+    match outcome {
+        Outcome::Value(_) => line.none("exception"),
+        Outcome::Bare(name) => line.text("exception", name.text()),
+        Outcome::Wrapped(name) => line.text("exception", name.text()),
+    }
+}
+
+/// Adds the exception that a stage holds.
+pub(crate) fn push_exception(line: &mut Line, standing: &Standing) -> Result<(), AllocError>
+    ensures { OnOk result (TellsMember (codes "exception") (optional exception_json (outcome_in standing.now)) line.old line.new) }
+{
+    match standing {
+        Standing::Completed(outcome, _) => push_exception_of(line, outcome),
+        Standing::Absent => line.none("exception"),
+        Standing::Pending => line.none("exception"),
     }
 }
 
@@ -106,5 +130,38 @@ pub(crate) fn push_because(line: &mut Line, because: &Because<'_>) -> Result<(),
         Because::Ended(kind) => push_ended(line, kind.as_str()),
         Because::Waiting(name) => push_kind_of_stage(line, "waits", name.as_str()),
         Because::Open => push_one_text(line, "kind", "open"),
+    }
+}
+
+// It struck, and cut an action off after so many of its ticks.
+fn push_cut_off(line: &mut Line, ran: u64, of: u64) -> Result<(), AllocError>
+    ensures { OnOk result (Tells (object (fate_members (CutOff ran of))) line.old line.new) }
+{
+    line.begin_object()?;
+    line.text("kind", "cutOff")?;
+    line.count("of", of)?;
+    line.count("ran", ran)?;
+    line.end_object()
+}
+
+// It missed the stage by so many ticks.
+fn push_missed(line: &mut Line, kind: &str, by: u64) -> Result<(), AllocError>
+    ensures { OnOk result (Tells (object ((codes "kind", text kind.now) ∷ (codes "by", count by) ∷ [])) line.old line.new) }
+{
+    line.begin_object()?;
+    line.count("by", by)?;
+    line.text("kind", kind)?;
+    line.end_object()
+}
+
+/// Adds what became of an end.
+pub(crate) fn push_fate(line: &mut Line, fate: Fate) -> Result<(), AllocError>
+    ensures { OnOk result (Tells (object (fate_members fate)) line.old line.new) }
+{
+    match fate {
+        Fate::Struck => push_one_text(line, "kind", "struck"),
+        Fate::CutOff { ran, of } => push_cut_off(line, ran, of),
+        Fate::NotReached { by } => push_missed(line, "notReached", by),
+        Fate::TooLate { by } => push_missed(line, "tooLate", by),
     }
 }

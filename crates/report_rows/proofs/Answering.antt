@@ -1,5 +1,5 @@
 -- What a report is answered by: that it is not made, not written to its end, or written.
-use Rattle.std.proofs.Common.{◌≡◌, ◌↔◌, ℕ, Option, None, Some, Result, Ok, Err, refl, ap, ◌∙◌}
+use Rattle.std.proofs.Common.{◌≡◌, ◌↔◌, Option, None, Some, Result, Ok, Err, refl, ap, ◌∙◌}
 use Rattle.std.specs.Option.{option_map}
 use Rattle.scratch_eval.specs.declared.fault.QueryFault.{QueryFault}
 use Rattle.scratch_eval.specs.declared.fault.QueryFault.TheVariants as query

@@ -1,8 +1,9 @@
 -- Rows taken one after the other.
-use Rattle.std.proofs.Common.{◌≡◌, ℕ, ◌+◌, ◌<◌, ◌≤◌, Bool, true, false, List, [], ◌∷◌, length, drop, get_or, Option, None, Some, refl, sym, ap, ◌∙◌, drop-cons, add-one}
+use Rattle.std.proofs.Common.{◌≡◌, ℕ, ◌+◌, ◌<◌, ◌≤◌, true, false, List, [], ◌∷◌, ◌++◌, length, drop, take, get_or, Option, None, Some, refl, sym, ap, ◌∙◌, drop-cons, add-one}
 use Rattle.std.specs.Prelude.{filter_map, is_some}
 use Rattle.std.specs.List.{cons_option}
-use Rattle.std.proofs.lemmas.List.{at_drop_all}
+use Rattle.std.proofs.lemmas.List.{at_drop_all, take_more}
+use Rattle.std.proofs.lemmas.List.Elements.{filter_map-append}
 
 longer : {Y : Type 0} (found : Option Y) (rest : List Y) → is_some found ≡ true → length (cons_option found rest) ≡ length rest + 1
 longer None rest none = cc
@@ -34,3 +35,8 @@ module _ {X Y : Type 0} (f : X → Option Y) (xs : List X) (i : ℕ) (d : X) (wi
 -- past the end there is nothing
 pub at_the_end : {X Y : Type 0} (f : X → Option Y) (xs : List X) (i : ℕ) → length xs ≤ i → filter_map f (drop i xs) ≡ []
 at_the_end f xs i past = at_drop_all (filter_map f) xs i past
+
+-- what one more of a list gives
+pub gives_more : {X Y : Type 0} (f : X → Option Y) (xs : List X) (i : ℕ) (d : X) → i < length xs
+    → filter_map f (take (i + 1) xs) ≡ filter_map f (take i xs) ++ cons_option (f (get_or xs i d)) []
+gives_more f xs i d within = ap (filter_map f) (take_more xs i d within) ∙ filter_map-append f (take i xs) (get_or xs i d ∷ [])

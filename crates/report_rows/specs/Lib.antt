@@ -1,5 +1,7 @@
 pub mod Against
 pub mod Causes
+pub mod Ends
+pub mod Failures
 pub mod Faults
 pub mod Listings
 pub mod Modes

@@ -1,20 +1,22 @@
 -- What the reports say of a stage.
-use Rattle.std.specs.Prelude.{ℕ, ◌-◌, List, Option, None, Some, if◌then◌else◌}
+use Rattle.std.specs.Prelude.{ℕ, ◌-◌, Option, None, Some, if◌then◌else◌}
 use Rattle.std.specs.Option.{option_map}
 use Rattle.stage_graph.specs.declared.stage.Stage.{Stage}
 use Rattle.stage_graph.specs.Plain.{PlainGraph}
 use Rattle.stage_graph.specs.Walk.{rank}
-use Rattle.stage_ops.specs.declared.reason.Reason.{Reason}
 use Rattle.scratch_eval.specs.Path.{reason_at}
 use Rattle.version_store.specs.Plain.{PlainVersion}
 use Rattle.version_store.specs.Queries.{state_of, moment_in, start_in, before}
+use Rattle.failure_origins.specs.declared.failure.Failure.{Failure}
+use Rattle.stage_ends.specs.declared.fate.EndFate.{EndFate}
 use Rattle.time_sweep.specs.declared.trial.Trial.{Trial}
 use Rattle.report_rows.specs.declared.row.Row.{Row}
 use Rattle.report_rows.specs.declared.row.Row.TheVariants as a_row
 use Rattle.report_rows.specs.declared.shift.Shift.{Shift}
 use Rattle.report_rows.specs.Against.{is_changed}
 use Rattle.report_rows.specs.Causes.{because_of}
-use Rattle.report_rows.specs.Names.{name_at}
+use Rattle.report_rows.specs.Ends.{delay_in, end_at, end_text}
+use Rattle.report_rows.specs.Names.{name_at, names_at}
 use Rattle.report_rows.specs.Standings.{standing_at, standing_before, standing_there}
 
 -- its operation, its rank, and what it is
@@ -44,6 +46,16 @@ change_against_row version against place stage =
     if is_changed version against place stage
     then Some (a_row.Change stage.name (standing_there against.graph stage.name) (standing_at version.graph place))
     else None
+
+-- what became of an end
+abbrev pub end_row : PlainGraph → EndFate → Row
+end_row graph one =
+    a_row.End (name_at graph one.place) (end_text (end_at graph one.place one.index)) (delay_in (end_at graph one.place one.index)) one.moment one.fate
+
+-- the exception that arose in a stage, whom it reaches, and who handles it
+abbrev pub failure_row : PlainGraph → Failure → Stage → Row
+failure_row graph failure stage =
+    a_row.Failure stage.name (standing_at graph failure.origin) (names_at graph failure.reaches) (names_at graph failure.handled)
 
 -- what a target that completes at this tick would come to if the action of the stage took no time
 abbrev pub trial_row : PlainGraph → ℕ → Trial → Row

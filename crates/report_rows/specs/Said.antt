@@ -9,7 +9,8 @@ use Rattle.stage_ops.specs.Joins.{joined}
 use Rattle.scratch_eval.specs.Blame.{chain}
 use Rattle.scratch_eval.specs.Path.{path}
 use Rattle.version_store.specs.Plain.{PlainVersion, parent_of}
-use Rattle.version_store.specs.Queries.{state_of, moment_in, touched_of}
+use Rattle.version_store.specs.Queries.{before, state_of, moment_in, touched_of}
+use Rattle.stage_ends.specs.Ends.{ends}
 use Rattle.time_sweep.specs.declared.trial.Trial.{Trial}
 use Rattle.time_sweep.specs.Sweep.{completion_of, sweep, ticks_of}
 use Rattle.report_rows.specs.declared.comparison.Comparison.{Comparison}
@@ -17,12 +18,13 @@ use Rattle.report_rows.specs.declared.comparison.Comparison.TheVariants as compa
 use Rattle.report_rows.specs.declared.head.Head.TheVariants as a_head
 use Rattle.report_rows.specs.declared.listing.Listing.TheVariants as listing
 use Rattle.report_rows.specs.declared.what.What.{What}
-use Rattle.report_rows.specs.declared.what.What.TheVariants.{All, One, Blame, Path, Changes, Drift, Times}
+use Rattle.report_rows.specs.declared.what.What.TheVariants.{All, One, Blame, Path, Change, Changes, Drift, Times, Ends, Failures}
+use Rattle.report_rows.specs.Failures.{failure_rows}
 use Rattle.report_rows.specs.Listings.{rows_at}
 use Rattle.report_rows.specs.Names.{names_at}
 use Rattle.report_rows.specs.Report.{Report}
-use Rattle.report_rows.specs.Rows.{trial_row}
-use Rattle.report_rows.specs.Standings.{standing_at}
+use Rattle.report_rows.specs.Rows.{end_row, trial_row}
+use Rattle.report_rows.specs.Standings.{standing_at, standing_before}
 
 -- ---- a version
 
@@ -54,6 +56,20 @@ drift_said version = record {
   rows = rows_at listing.Shifts version version (all_places version.graph.places);
 }
 
+-- what became of each end of each stage, by place and then in the order of the stage's list
+abbrev pub ends_said : PlainVersion → Report
+ends_said version = record {
+  head = a_head.Ends version.number;
+  rows = map (end_row version.graph) (ends version.graph);
+}
+
+-- the exceptions that arose in stages, or only that of the stage at a place, by place
+abbrev pub failures_said : PlainVersion → Option ℕ → Report
+failures_said version origin = record {
+  head = a_head.Failures version.number;
+  rows = failure_rows version.graph origin;
+}
+
 -- ---- a stage of a version
 
 -- the stage, its feeds, its dependents and what `join` answers
@@ -79,15 +95,26 @@ path_said version place stage = record {
   rows = rows_at listing.Steps version version (path version.graph place);
 }
 
+-- what it was in the parent, and what it is here
+abbrev pub change_said : PlainVersion → ℕ → Stage → Report
+change_said version place stage = record {
+  head = a_head.Change version.number stage.name (standing_before (before version.origin place)) (standing_at version.graph place);
+  rows = [];
+}
+
 -- what a report of a version says; none where it asks for a stage that is not live
 abbrev pub said : PlainVersion → What → Option Report
 said version All = Some (all_said version)
 said version (One place) = option_map (one_said version place) (stage_at version.graph.places place)
 said version (Blame place) = option_map (blame_said version place) (stage_at version.graph.places place)
 said version (Path place) = option_map (path_said version place) (stage_at version.graph.places place)
+said version (Change place) = option_map (change_said version place) (stage_at version.graph.places place)
 said version Changes = Some (changes_said version)
 said version Drift = Some (drift_said version)
 said version Times = Some (times_said version)
+said version Ends = Some (ends_said version)
+said version (Failures None) = Some (failures_said version None)
+said version (Failures (Some origin)) = option_map (λ stage. failures_said version (Some origin)) (stage_at version.graph.places origin)
 
 -- ---- a version against another one, stage by stage of the same name
 

@@ -1,5 +1,5 @@
 -- How much later or earlier a stage completes than in another version.
-use Rattle.std.specs.Prelude.{ℕ, ◌-◌, List, Option, None, Some, nat_lt, if◌then◌else◌}
+use Rattle.std.specs.Prelude.{ℕ, ◌-◌, Option, None, Some, nat_lt, if◌then◌else◌}
 use Rattle.stage_graph.specs.declared.stage.Stage.{Stage}
 use Rattle.stage_ops.specs.declared.state.Done.{Done}
 use Rattle.version_store.specs.declared.before.Before.{Before}

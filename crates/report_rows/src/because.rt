@@ -1,9 +1,10 @@
 //! Why a stage completed when it did, or why it is pending.
-ghost use Rattle.std.specs.Prelude.{◌≡◌, slice_get};
-ghost use Rattle.report_rows.specs.Causes.{because_of, end_text};
+ghost use Rattle.std.specs.Prelude.{◌≡◌};
+ghost use Rattle.report_rows.specs.Causes.{because_of};
 
+use crate::end::{end_of, end_text};
 use crate::text::Text;
-use stage_graph::{Act, Graph, Representation, Stage};
+use stage_graph::{Graph, Representation, Stage};
 use stage_ops::Cause;
 
 /// Why a stage completed when it did, or why it is pending; other stages by their names.
@@ -39,25 +40,9 @@ impl<'a> Because<'a> {
             Cause::After(place) => Because::After(Text::new(graph.name_of(place))),
             Cause::Inner(place) => Because::Inner(Text::new(graph.name_of(place))),
             Cause::Pinned => Because::Pinned,
-            Cause::Ended(index) => Because::Ended(Text::new(end_text(stage, index))),
+            Cause::Ended(index) => Because::Ended(Text::new(end_text(end_of(stage, index)))),
             Cause::Waiting(place) => Because::Waiting(Text::new(graph.name_of(place))),
             Cause::Open => Because::Open,
         }
-    }
-}
-
-/// The kind of the end of an index, by its name in recordings.
-fn end_text(stage: &Stage, index: usize) -> &'static str
-    ensures { result.now ≡ end_text (slice_get stage.now.ends index) }
-{
-    let Some(end) = stage.ends.as_slice().get(index) else {
-        return "";
-    };
-    match end.act {
-        Act::Complete(_) => "complete",
-        Act::CompleteExceptionally(_) => "completeExceptionally",
-        Act::Cancel => "cancel",
-        Act::OrTimeout { .. } => "orTimeout",
-        Act::CompleteOnTimeout { .. } => "completeOnTimeout",
     }
 }

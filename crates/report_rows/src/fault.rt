@@ -13,8 +13,10 @@ pub enum ReportFault {
     /// The report asks for a stage that is not live.
     #[error("NoStage")]
     NoStage,
+    /// The sink failed, or took nothing.
     #[error("WriteFault")]
     Write,
+    /// Memory ran out.
     #[error("Memory")]
     Memory,
 }

@@ -43,6 +43,13 @@ pub enum Head<'a> {
         name: Text<'a>,
         moment: Option<u64>,
     },
+    /// What a stage was in the parent, and what it is here. It has no rows.
+    Change {
+        version: u32,
+        name: Text<'a>,
+        old: KeptStanding<'a>,
+        new: KeptStanding<'a>,
+    },
     /// The stages that the edits touched.
     Changes {
         version: u32,
@@ -62,6 +69,14 @@ pub enum Head<'a> {
     DriftAgainst {
         version: u32,
         against: u32,
+    },
+    /// What became of the ends of stages.
+    Ends {
+        version: u32,
+    },
+    /// The exceptions that arose in stages.
+    Failures {
+        version: u32,
     },
     /// The stages that, if their action took no time, would make a stage complete sooner; how many they are, whether or not
     /// all have a row.

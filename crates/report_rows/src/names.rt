@@ -1,5 +1,5 @@
 //! Names of stages, one after another.
-ghost use Rattle.std.specs.Prelude.{◌≡◌, IfOk, map};
+ghost use Rattle.std.specs.Prelude.{◌≡◌, IfOk};
 ghost use Rattle.report_rows.specs.Names.{bytes_of, names_at};
 
 use stage_graph::{Graph, Representation};
@@ -43,5 +43,38 @@ impl<'a> Names<'a> {
         ensures { bytes_of result.now ≡ self.now }
     {
         &self.names
+    }
+
+    /// The names, borrowed.
+    #[inline(always)]
+    pub(crate) fn lent(&self) -> LentNames<'_>
+        ensures { result ≡ self.now }
+    {
+        LentNames { names: &self.names }
+    }
+}
+
+/// The names of stages, in order, borrowed from what a report says. Contracts see their bytes.
+#[derive(Drop)]
+pub struct LentNames<'a> {
+    names: &'a [&'a str],
+}
+
+impl<'a> Model for LentNames<'a> {
+    ghost use Rattle.std.specs.Prelude.{List, ℕ};
+
+    ghost Value = { List (List ℕ) };
+
+    ghost use Rattle.report_rows.specs.Names.{bytes_of};
+
+    ghost view = { λ names. bytes_of names.names.now };
+}
+
+impl<'a> LentNames<'a> {
+    /// The names, in order.
+    pub fn as_slice(&self) -> &'a [&'a str]
+        ensures { bytes_of result.now ≡ self.now }
+    {
+        self.names
     }
 }

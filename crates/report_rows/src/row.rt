@@ -2,15 +2,18 @@
 ghost use Rattle.std.specs.Prelude.{◌≡◌};
 ghost use Rattle.report_rows.specs.declared.row.Row.TheVariants as a_row;
 ghost use Rattle.report_rows.specs.Standings.{standing_at, standing_there};
-ghost use Rattle.report_rows.specs.Rows.{change_against_row, change_row, shift_row, state_row, step_row, times_row, trial_row};
+ghost use Rattle.report_rows.specs.Rows.{change_against_row, change_row, end_row, shift_row, state_row, step_row, times_row, trial_row};
 
 use crate::against::is_changed;
 use crate::because::Because;
+use crate::end::{delay_in, end_at, end_text};
+use crate::names::LentNames;
 use crate::shift::Shift;
 use crate::standing::KeptStanding;
 use crate::text::Text;
 use crate::trial_outcome::TrialOutcome;
 use propagate::StateRepresentation;
+use stage_ends::{EndFate, Fate};
 use stage_graph::{Graph, Op, Representation, Stage};
 use time_sweep::Trial;
 use version_store::{StageView, Version};
@@ -50,6 +53,23 @@ pub enum Row<'a> {
     Shift {
         name: Text<'a>,
         shift: Shift,
+    },
+    /// One of its ends: its kind, by its name in recordings, the delay of a timeout, the tick at which it acts, and what became
+    /// of it.
+    End {
+        name: Text<'a>,
+        kind: Text<'a>,
+        delay: Option<u64>,
+        moment: u64,
+        fate: Fate,
+    },
+    /// It failed by an exception that arose in it: what it came to, the stages that hold the exception on its account, and
+    /// those that have read one of these and don't fail by it.
+    Failure {
+        name: Text<'a>,
+        standing: KeptStanding<'a>,
+        reaches: LentNames<'a>,
+        handled: LentNames<'a>,
     },
     /// What another stage would come to, and how much sooner, if the action of this one took no time.
     Trial {
@@ -155,6 +175,21 @@ fn against_row<'a, R: StateRepresentation>(
         name: Text::new(name),
         old: KeptStanding::there(against, name),
         new: KeptStanding::of(view),
+    }
+}
+
+/// What became of an end.
+#[inline(always)]
+pub(crate) fn end_row<'a, R: Representation>(graph: &'a Graph<R>, one: &EndFate) -> Row<'a>
+    ensures { result ≡ end_row graph.now one.now }
+{
+    let end = end_at(graph, one.place, one.index);
+    Row::End {
+        name: Text::new(graph.name_of(one.place)),
+        kind: Text::new(end_text(end)),
+        delay: delay_in(end),
+        moment: one.moment,
+        fate: one.fate,
     }
 }
 

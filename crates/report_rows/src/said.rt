@@ -10,6 +10,7 @@ use std::marker::Model;
 /// What a report says. Contracts see its head, and the list of its rows.
 #[derive(Drop)]
 pub struct Said<'a, R: StateRepresentation> {
+    /// What is said before the rows.
     pub head: Head<'a>,
     pub(crate) source: Source<'a, R>,
 }

@@ -1,16 +1,18 @@
 //! What each report of a version says.
 ghost use Rattle.std.specs.Prelude.{◌≡◌, ◌↔◌, IfOk, None, Some};
-ghost use Rattle.report_rows.specs.Said.{all_said, changes_said, comparison_said, drift_said, said, times_said};
+ghost use Rattle.report_rows.specs.Said.{all_said, changes_said, comparison_said, drift_said, ends_said, failures_said, said, times_said};
 
 use crate::comparison::Comparison;
 use crate::head::Head;
 use crate::listing::Listing;
+use crate::named_failure::named_failures;
 use crate::places::{all_places, shifted_places};
 use crate::said::Said;
-use crate::saying_of_stage::{say_blame, say_one, say_path};
+use crate::saying_of_stage::{say_blame, say_change, say_one, say_path};
 use crate::source::Source;
 use crate::what::What;
 use propagate::StateRepresentation;
+use stage_ends::ends_of;
 use std::alloc::{AllocError, Global};
 use version_store::{QueryFault, Version};
 
@@ -30,9 +32,13 @@ pub fn say_report<'a, R: StateRepresentation>(
         What::One(place) => say_one(alloc, version, place),
         What::Blame(place) => say_blame(alloc, version, place),
         What::Path(place) => say_path(alloc, version, place),
+        What::Change(place) => say_change(alloc, version, place),
         What::Changes => Ok(say_changes(alloc, version)?),
         What::Drift => Ok(say_drift(alloc, version)?),
         What::Times => Ok(say_times(alloc, version)?),
+        What::Ends => Ok(say_ends(alloc, version)?),
+        What::Failures(None) => Ok(say_failures(alloc, version, None)?),
+        What::Failures(Some(origin)) => say_failure(alloc, version, origin),
     }
 }
 
@@ -127,4 +133,50 @@ fn say_drift<'a, R: StateRepresentation>(
         },
         source: Source::of_stages(Listing::Shifts, version, version, places),
     })
+}
+
+fn say_ends<'a, R: StateRepresentation>(
+    alloc: Global,
+    version: &'a Version<R>,
+) -> Result<Said<'a, R>, AllocError>
+    ensures { IfOk result (λ said. said ≡ ends_said version.now) }
+{
+    let ends = ends_of(alloc, version)?;
+    Ok(Said {
+        head: Head::Ends {
+            version: version.number(),
+        },
+        source: Source::of_ends(version, ends),
+    })
+}
+
+fn say_failures<'a, R: StateRepresentation>(
+    alloc: Global,
+    version: &'a Version<R>,
+    origin: Option<u32>,
+) -> Result<Said<'a, R>, AllocError>
+    ensures { IfOk result (λ said. said ≡ failures_said version.now origin) }
+{
+    let failures = named_failures(alloc, version, origin)?;
+    Ok(Said {
+        head: Head::Failures {
+            version: version.number(),
+        },
+        source: Source::of_failures(failures),
+    })
+}
+
+// Of the stage at a place alone.
+fn say_failure<'a, R: StateRepresentation>(
+    alloc: Global,
+    version: &'a Version<R>,
+    origin: u32,
+) -> Result<Said<'a, R>, QueryFault>
+    ensures value { IfOk result (λ report. Some report ≡ said version.now (What.Failures (Some origin))) }
+    ensures no_stage { (result ≡ Err QueryFault.NoStage) ↔ (said version.now (What.Failures (Some origin)) ≡ None) }
+{
+    if version.graph().stage(origin).is_none() {
+        return Err(QueryFault::NoStage);
+    }
+    Ok(say_failures(alloc, version, Some(origin))?)
 }

@@ -2,7 +2,7 @@
 ghost use Rattle.std.specs.Prelude.{◌≡◌, ◌↔◌, IfOk, None, Some};
 ghost use Rattle.std.specs.Option.{option_map};
 ghost use Rattle.stage_graph.specs.Plain.{stage_at};
-ghost use Rattle.report_rows.specs.Said.{blame_said, one_said, path_said};
+ghost use Rattle.report_rows.specs.Said.{blame_said, change_said, one_said, path_said};
 
 use crate::head::Head;
 use crate::listing::Listing;
@@ -123,4 +123,33 @@ fn say_path_of<'a, R: StateRepresentation>(
         },
         source: Source::of_stages(Listing::Steps, version, version, places),
     })
+}
+
+/// What the stage was in the parent, and what it is here.
+pub(crate) fn say_change<'a, R: StateRepresentation>(
+    alloc: Global,
+    version: &'a Version<R>,
+    place: u32,
+) -> Result<Said<'a, R>, QueryFault>
+    ensures value { IfOk result (λ report. Some report ≡ option_map (change_said version.now place) (stage_at version.now.graph.places place)) }
+    ensures no_stage { (result ≡ Err QueryFault.NoStage) ↔ (option_map (change_said version.now place) (stage_at version.now.graph.places place) ≡ None) }
+{
+    match version.stage(place) {
+        Some(view) => Ok(say_change_of(alloc, &view)),
+        None => Err(QueryFault::NoStage),
+    }
+}
+
+fn say_change_of<'a, R: StateRepresentation>(alloc: Global, view: &StageView<'a, R>) -> Said<'a, R>
+    ensures { result ≡ change_said view.now.version.now view.now.place view.now.stage.now }
+{
+    Said {
+        head: Head::Change {
+            version: view.version.number(),
+            name: Text::new(view.stage.name.as_str()),
+            old: KeptStanding::before(view),
+            new: KeptStanding::of(view),
+        },
+        source: Source::none(alloc, view.version),
+    }
 }

@@ -8,7 +8,9 @@ use version_store::{Before, StageView};
 /// How many ticks later or earlier a stage completes.
 #[derive(Clone, Copy, Debug, PartialEq, Eq)]
 pub enum Shift {
+    /// It completes so many ticks later.
     Later(u64),
+    /// It completes so many ticks sooner.
     Earlier(u64),
 }
 

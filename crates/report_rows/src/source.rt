@@ -1,13 +1,16 @@
 //! What the rows of a report are made of.
 ghost use Rattle.std.specs.Prelude.{◌≡◌, [], drop, length, map};
 ghost use Rattle.report_rows.specs.Listings.{rows_at};
+ghost use Rattle.report_rows.specs.Failures.{named_row};
 ghost use Rattle.report_rows.specs.Next.{IsNext};
-ghost use Rattle.report_rows.specs.Rows.{trial_row};
+ghost use Rattle.report_rows.specs.Rows.{end_row, trial_row};
 ghost use Rattle.report_rows.specs.Sources.{rows_left};
 
 use crate::listing::{Listing, has_row, row_at};
-use crate::row::{Row, trial_row};
+use crate::named_failure::NamedFailure;
+use crate::row::{Row, end_row, trial_row};
 use propagate::StateRepresentation;
+use stage_ends::EndFate;
 use stage_graph::{Graph, Representation};
 use std::alloc::Global;
 use time_sweep::Trial;
@@ -28,6 +31,15 @@ pub(crate) enum Source<'a, R: StateRepresentation> {
         version: &'a Version<R>,
         tick: u64,
         trials: Vec<Trial>,
+    },
+    /// What became of ends of a version's stages.
+    Ends {
+        version: &'a Version<R>,
+        ends: Vec<EndFate>,
+    },
+    /// Exceptions that arose in stages.
+    Failures {
+        failures: Vec<NamedFailure<'a>>,
     },
 }
 
@@ -67,6 +79,20 @@ impl<'a, R: StateRepresentation> Source<'a, R> {
         }
     }
 
+    /// What became of these ends.
+    pub(crate) fn of_ends(version: &'a Version<R>, ends: Vec<EndFate>) -> Source<'a, R>
+        ensures { rows_left result 0 ≡ map (end_row version.now.graph) ends.items }
+    {
+        Source::Ends { version, ends }
+    }
+
+    /// These exceptions.
+    pub(crate) fn of_failures(failures: Vec<NamedFailure<'a>>) -> Source<'a, R>
+        ensures { rows_left result 0 ≡ map named_row failures.entry.items }
+    {
+        Source::Failures { failures }
+    }
+
     /// The next row after so many of what they are made of; `at` is how many are done with then.
     #[inline(always)]
     pub(crate) fn next(&self, at: &mut usize) -> Option<Row<'_>>
@@ -84,6 +110,8 @@ impl<'a, R: StateRepresentation> Source<'a, R> {
                 tick,
                 trials,
             } => next_trial(version.graph(), *tick, trials, at),
+            Source::Ends { version, ends } => next_end(version.graph(), ends, at),
+            Source::Failures { failures } => next_failure(failures, at),
         }
     }
 
@@ -99,6 +127,8 @@ impl<'a, R: StateRepresentation> Source<'a, R> {
                 places,
             } => count_stages(*listing, version, against, places, at),
             Source::Trials { trials, .. } => trials.len().saturating_sub(at),
+            Source::Ends { ends, .. } => ends.len().saturating_sub(at),
+            Source::Failures { failures } => failures.len().saturating_sub(at),
         }
     }
 }
@@ -141,6 +171,30 @@ fn next_trial<'a, R: Representation>(
     let trial = trials.get(*at)?;
     *at += 1;
     Some(trial_row(graph, tick, trial))
+}
+
+// The row of the end of this index; `at` is how many ends are done with then.
+#[inline(always)]
+fn next_end<'a, R: Representation>(
+    graph: &'a Graph<R>,
+    ends: &[EndFate],
+    at: &mut usize,
+) -> Option<Row<'a>>
+    ensures { IsNext (λ at. map (end_row graph.now) (drop at ends.now)) at.old at.new result }
+{
+    let end = ends.get(*at)?;
+    *at += 1;
+    Some(end_row(graph, end))
+}
+
+// The row of the exception of this index; `at` is how many are done with then.
+#[inline(always)]
+fn next_failure<'a>(failures: &'a [NamedFailure<'_>], at: &mut usize) -> Option<Row<'a>>
+    ensures { IsNext (λ at. map named_row (drop at failures.now)) at.old at.new result }
+{
+    let failure = failures.get(*at)?;
+    *at += 1;
+    Some(failure.row())
 }
 
 // How many stages have a row, of those at these places from one on.

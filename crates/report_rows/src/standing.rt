@@ -14,6 +14,7 @@ use version_store::{StageView, Version};
 pub enum Standing {
     /// The version has no such stage.
     Absent,
+    /// It has not completed.
     Pending,
     /// Its outcome, and the tick at which it completed.
     Completed(Outcome, u64),
@@ -69,6 +70,14 @@ impl<'a> KeptStanding<'a> {
         KeptStanding {
             kept: kept_of(version, name),
         }
+    }
+
+    /// The same, once more.
+    #[inline(always)]
+    pub(crate) fn again(&self) -> KeptStanding<'a>
+        ensures { result ≡ self.now }
+    {
+        KeptStanding { kept: self.kept }
     }
 
     /// What the stage is, its outcome copied.

@@ -11,10 +11,17 @@ pub enum What {
     Blame(u32),
     /// Why the stage at a place completed when it did, or why it is pending.
     Path(u32),
+    /// What the stage at a place was in the parent, and what it is here.
+    Change(u32),
     /// Each stage that the edits touched: what it was in the parent, and what it is here.
     Changes,
     /// Each stage that completes at another moment than in the parent: how much later or earlier.
     Drift,
     /// Each live stage: when its action started, and how long it was queued and ran.
     Times,
+    /// What became of each end of each stage.
+    Ends,
+    /// The exceptions that arose in stages, or only that of the stage at a place: which stages each reaches, and which handle
+    /// it.
+    Failures(Option<u32>),
 }

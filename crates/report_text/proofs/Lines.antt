@@ -1,5 +1,6 @@
 -- The content of lines, and of what is said.
-use Rattle.std.proofs.Common.{◌≡◌, ℕ, List, [], ◌++◌, length, Option, Result, ap, ◌∙◌, subst}
+use Rattle.std.proofs.Common.{◌≡◌, ℕ, List, [], ◌++◌, length, Option, Result, Ok, Err, ap, ◌∙◌, subst, append_assoc}
+use Rattle.std.specs.Prelude.{OnOk}
 use Rattle.std.specs.List.{flat_map}
 use Rattle.text_io.specs.declared.stopped.Stopped.{Stopped}
 use Rattle.text_io.specs.Writes.{Writes}
@@ -24,3 +25,8 @@ pub of_what_is_said : {W : Type 0} (held : W → Option (List ℕ)) (failures : 
 of_what_is_said held failures a b r seen said rows is are wrote =
     subst (λ (s : Report). Writes held failures a b r (head_text s.head (length said.rows) ++ flat_map row_text said.rows)) is
     (subst (λ (rows : List Row). Writes held failures a b r (head_text seen.head (length rows) ++ flat_map row_text rows)) are wrote)
+
+-- two parts, one after the other
+pub two_parts : {E : Type 0} (r : Result (Unit {0}) E) (old part_way new one other : List ℕ) → part_way ≡ old ++ one → OnOk r (new ≡ part_way ++ other) → OnOk r (new ≡ old ++ (one ++ other))
+two_parts (Ok done) old part_way new one other is grown = grown ∙ ap (λ l. l ++ other) is ∙ append_assoc old one other
+two_parts (Err error) old part_way new one other is grown = tt

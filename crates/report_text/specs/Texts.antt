@@ -2,7 +2,11 @@
 use Rattle.std.specs.Prelude.{ℕ, List, [], ◌∷◌, ◌++◌, Option, None, Some, codes, length}
 use Rattle.std.specs.List.{flat_map}
 use Rattle.std.specs.Fmt.{decimal}
+use Rattle.act_expr.specs.declared.outcome.Outcome.{Outcome}
+use Rattle.act_expr.specs.declared.outcome.Outcome.TheVariants as came_to
 use Rattle.act_expr.specs.OutcomeText.{outcome_text}
+use Rattle.stage_ends.specs.declared.fate.Fate.{Fate}
+use Rattle.stage_ends.specs.declared.fate.Fate.TheVariants.{Struck, CutOff, NotReached, TooLate}
 use Rattle.stage_graph.specs.Texts.{op_text}
 use Rattle.stage_ops.specs.declared.state.Join.{Join}
 use Rattle.stage_ops.specs.Texts.{join_text}
@@ -41,6 +45,34 @@ abbrev pub shift_text : Shift → List ℕ
 shift_text (Later ticks) = codes "later " ++ decimal ticks
 shift_text (Earlier ticks) = codes "earlier " ++ decimal ticks
 
+-- an exception; a dash for a value
+abbrev pub exception_text : Outcome → List ℕ
+exception_text (came_to.Value value) = codes "-"
+exception_text (came_to.Bare name) = name
+exception_text (came_to.Wrapped name) = name
+
+-- EXCEPTION at M
+abbrev pub failure_text : Standing → List ℕ
+failure_text Absent = codes "-"
+failure_text Pending = codes "-"
+failure_text (Completed outcome moment) = exception_text outcome ++ codes " at " ++ decimal moment
+
+-- a space, and the delay of a timeout
+abbrev pub delay_text : Option ℕ → List ℕ
+delay_text None = []
+delay_text (Some delay) = codes " " ++ decimal delay
+
+-- what became of an end
+abbrev pub fate_text : Fate → List ℕ
+fate_text Struck = codes "struck"
+fate_text (CutOff ran of) = codes "struck, cut off after " ++ decimal ran ++ codes " of its " ++ decimal of
+fate_text (NotReached by) = codes "not reached by " ++ decimal by
+fate_text (TooLate by) = codes "too late by " ++ decimal by
+
+-- NAME KIND DELAY at T
+abbrev pub end_text : List ℕ → List ℕ → Option ℕ → ℕ → List ℕ
+end_text name kind delay moment = name ++ codes " " ++ kind ++ delay_text delay ++ codes " at " ++ decimal moment
+
 -- a space, and a name
 abbrev pub spaced : List ℕ → List ℕ
 spaced name = codes " " ++ name
@@ -49,6 +81,10 @@ spaced name = codes " " ++ name
 abbrev pub names_text : List (List ℕ) → List ℕ
 names_text [] = codes " -"
 names_text (first ∷ others) = flat_map spaced (first ∷ others)
+
+-- whom an exception reaches, and who handles it
+abbrev pub concerned_text : List (List ℕ) → List (List ℕ) → List ℕ
+concerned_text reaches handled = (codes " reaches" ++ names_text reaches) ++ (codes "; handled by" ++ names_text handled)
 
 -- TITLE NAMES
 abbrev pub names_line : List ℕ → List (List ℕ) → List ℕ
@@ -74,6 +110,10 @@ because_text queued ran Open = codes " open"
 abbrev pub state_text : List ℕ → List ℕ → ℕ → Standing → List ℕ
 state_text name op rank standing = name ++ codes " " ++ op ++ codes " rank " ++ decimal rank ++ codes " " ++ standing_text standing ++ line_end
 
+-- NAME OLD -> NEW
+abbrev pub change_text : List ℕ → Standing → Standing → List ℕ
+change_text name old new = name ++ codes " " ++ standing_text old ++ codes " -> " ++ standing_text new ++ line_end
+
 abbrev pub row_text : Row → List ℕ
 -- NAME OP rank R STANDING
 row_text (a_row.State name op rank standing) = state_text name (op_text op) rank standing
@@ -83,9 +123,13 @@ row_text (a_row.Times name start queued runs) =
 -- NAME at M queued Q ran R after NEXT, or NAME waits for NEXT
 row_text (a_row.Step name moment queued ran because) = name ++ at_text [] moment ++ because_text queued ran because ++ line_end
 -- NAME OLD -> NEW
-row_text (a_row.Change name old new) = name ++ codes " " ++ standing_text old ++ codes " -> " ++ standing_text new ++ line_end
+row_text (a_row.Change name old new) = change_text name old new
 -- NAME later D, or NAME earlier D
 row_text (a_row.Shift name shift) = name ++ codes " " ++ shift_text shift ++ line_end
+-- NAME KIND DELAY at T FATE
+row_text (a_row.End name kind delay moment fate) = end_text name kind delay moment ++ (codes " " ++ fate_text fate ++ line_end)
+-- NAME EXCEPTION at M reaches NAMES; handled by NAMES
+row_text (a_row.Failure name standing reaches handled) = name ++ codes " " ++ failure_text standing ++ concerned_text reaches handled ++ line_end
 -- NAME sooner D -> OUTCOME at T
 row_text (a_row.Trial name sooner outcome moment) =
     name ++ codes " sooner " ++ decimal sooner ++ codes " -> " ++ outcome_text outcome ++ codes " at " ++ decimal moment ++ line_end
@@ -123,6 +167,8 @@ head_text (a_head.One version name op rank standing sources inner dependents joi
 head_text (a_head.Blame version name chain) count = names_line (codes "blame") chain
 -- path of NAME at M stages K
 head_text (a_head.Path version name moment) count = of_stage (codes "path") name moment ++ counted (codes "stages") count
+-- NAME OLD -> NEW
+head_text (a_head.Change version name old new) count = change_text name old new
 -- changes of version N from P touched K
 head_text (a_head.Changes version parent) count = of_version (codes "changes") version ++ codes " from " ++ number_or_dash parent ++ counted (codes "touched") count
 -- drift of version N from P moved K
@@ -131,6 +177,10 @@ head_text (a_head.Drift version parent) count = of_version (codes "drift") versi
 head_text (a_head.ChangesAgainst version against) count = of_version (codes "changes") version ++ codes " against " ++ decimal against ++ counted (codes "changed") count
 -- drift of version N against B moved K
 head_text (a_head.DriftAgainst version against) count = of_version (codes "drift") version ++ codes " against " ++ decimal against ++ counted (codes "moved") count
+-- ends of version N ends K
+head_text (a_head.Ends version) count = of_version (codes "ends") version ++ counted (codes "ends") count
+-- failures of version N failures K
+head_text (a_head.Failures version) count = of_version (codes "failures") version ++ counted (codes "failures") count
 -- sweep of NAME at M stages K, of which not all may have a row
 head_text (a_head.Sweep version name moment all) count = of_stage (codes "sweep") name moment ++ counted (codes "stages") all
 

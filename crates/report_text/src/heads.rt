@@ -6,7 +6,7 @@ ghost use Rattle.report_text.specs.Texts.{around_text, counted, head_text, numbe
 
 use crate::digits::push_number;
 use crate::names::push_names_line;
-use crate::rows::push_state;
+use crate::rows::{push_change, push_state};
 use crate::words::{push_answer, push_at};
 use act_expr::Mode;
 use report_rows::{Head, Names, mode_text};
@@ -23,7 +23,9 @@ pub(crate) fn push_head(line: &mut String, head: &Head<'_>, count: usize) -> Res
             parent,
             mode,
         } => push_all(line, *version, *parent, *mode, count),
-        Head::Times { version } => push_times(line, *version, count),
+        Head::Times { version } => push_titled(line, "times", *version, "stages", count),
+        Head::Ends { version } => push_titled(line, "ends", *version, "ends", count),
+        Head::Failures { version } => push_titled(line, "failures", *version, "failures", count),
         Head::One {
             name,
             op,
@@ -41,6 +43,9 @@ pub(crate) fn push_head(line: &mut String, head: &Head<'_>, count: usize) -> Res
         Head::Blame { chain, .. } => push_names_line(line, "blame", chain),
         Head::Path { name, moment, .. } => {
             push_of_stage(line, "path", name.as_str(), *moment, count)
+        }
+        Head::Change { name, old, new, .. } => {
+            push_change(line, name.as_str(), &old.standing(), &new.standing())
         }
         Head::Changes { version, parent } => push_changes(line, *version, *parent, count),
         Head::Drift { version, parent } => push_drift(line, *version, *parent, count),
@@ -188,12 +193,18 @@ fn push_of_stage(
     push_counted(line, "stages", count)
 }
 
-// times of version N stages K
-fn push_times(line: &mut String, version: u32, count: usize) -> Result<(), AllocError>
-    ensures { OnOk result (string_bytes line.new ≡ string_bytes line.old ++ head_text (a_head.Times version) count) }
+// TITLE of version N WORD K
+fn push_titled(
+    line: &mut String,
+    title: &str,
+    version: u32,
+    word: &str,
+    count: usize,
+) -> Result<(), AllocError>
+    ensures { OnOk result (string_bytes line.new ≡ string_bytes line.old ++ of_version title.now version ++ counted word.now count) }
 {
-    push_of_version(line, "times", version)?;
-    push_counted(line, "stages", count)
+    push_of_version(line, title, version)?;
+    push_counted(line, word, count)
 }
 
 // version N parent P mode MODE stages K

@@ -19,6 +19,18 @@ pub(crate) fn push_names_line(
     line.push_str("\n")
 }
 
+/// A title, and names, within a line.
+pub(crate) fn push_titled_names(
+    line: &mut String,
+    title: &str,
+    names: &[&str],
+) -> Result<(), AllocError>
+    ensures { OnOk result (string_bytes line.new ≡ string_bytes line.old ++ (title.now ++ names_text (bytes_of names.now))) }
+{
+    line.push_str(title)?;
+    push_names(line, names)
+}
+
 fn push_names(line: &mut String, names: &[&str]) -> Result<(), AllocError>
     ensures { OnOk result (string_bytes line.new ≡ string_bytes line.old ++ names_text (bytes_of names.now)) }
 {

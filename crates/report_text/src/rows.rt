@@ -1,15 +1,20 @@
 //! The lines of rows.
-ghost use Rattle.std.specs.Prelude.{◌≡◌, ◌++◌, OnOk, string_bytes};
+ghost use Rattle.std.specs.Prelude.{◌≡◌, ◌++◌, OnOk, codes, string_bytes};
 ghost use Rattle.stage_graph.specs.Texts.{op_text};
+ghost use Rattle.report_rows.specs.Names.{bytes_of};
 ghost use Rattle.report_rows.specs.declared.row.Row.TheVariants as a_row;
-ghost use Rattle.report_text.specs.Texts.{row_text, state_text};
+ghost use Rattle.report_text.specs.Texts.{change_text, concerned_text, end_text, fate_text, row_text, state_text};
+ghost use Rattle.text_io.specs.Writes.{line_end};
 
 use crate::digits::push_number;
+use crate::names::push_titled_names;
 use crate::words::{
-    push_at, push_because, push_number_or_dash, push_outcome, push_shift, push_standing,
+    push_at, push_because, push_delay, push_failure, push_fate, push_number_or_dash, push_outcome,
+    push_shift, push_standing,
 };
 use act_expr::Outcome;
-use report_rows::{Because, Row, Shift, Standing};
+use report_rows::{Because, LentNames, Row, Shift, Standing};
+use stage_ends::Fate;
 use stage_graph::Op;
 use std::alloc::AllocError;
 
@@ -42,6 +47,19 @@ pub(crate) fn push_row(line: &mut String, row: &Row<'_>) -> Result<(), AllocErro
             push_change(line, name.as_str(), &old.standing(), &new.standing())
         }
         Row::Shift { name, shift } => push_moved(line, name.as_str(), *shift),
+        Row::End {
+            name,
+            kind,
+            delay,
+            moment,
+            fate,
+        } => push_end(line, name.as_str(), kind.as_str(), *delay, *moment, *fate),
+        Row::Failure {
+            name,
+            standing,
+            reaches,
+            handled,
+        } => push_failed(line, name.as_str(), &standing.standing(), reaches, handled),
         Row::Trial {
             name,
             sooner,
@@ -106,13 +124,14 @@ fn push_step(
     line.push_str("\n")
 }
 
-fn push_change(
+/// The line of a stage with what it was, and what it is.
+pub(crate) fn push_change(
     line: &mut String,
     name: &str,
     old: &Standing,
     new: &Standing,
 ) -> Result<(), AllocError>
-    ensures { OnOk result (string_bytes line.new ≡ string_bytes line.old ++ row_text (a_row.Change name.now old.now new.now)) }
+    ensures { OnOk result (string_bytes line.new ≡ string_bytes line.old ++ change_text name.now old.now new.now) }
 {
     line.push_str(name)?;
     line.push_str(" ")?;
@@ -129,6 +148,71 @@ fn push_moved(line: &mut String, name: &str, shift: Shift) -> Result<(), AllocEr
     line.push_str(" ")?;
     push_shift(line, shift)?;
     line.push_str("\n")
+}
+
+fn push_end(
+    line: &mut String,
+    name: &str,
+    kind: &str,
+    delay: Option<u64>,
+    moment: u64,
+    fate: Fate,
+) -> Result<(), AllocError>
+    ensures { OnOk result (string_bytes line.new ≡ string_bytes line.old ++ row_text (a_row.End name.now kind.now delay moment fate)) }
+{
+    push_end_at(line, name, kind, delay, moment)?;
+    push_fate_line(line, fate)
+}
+
+// What became of an end, and the end of the line.
+fn push_fate_line(line: &mut String, fate: Fate) -> Result<(), AllocError>
+    ensures { OnOk result (string_bytes line.new ≡ string_bytes line.old ++ (codes " " ++ fate_text fate ++ line_end)) }
+{
+    line.push_str(" ")?;
+    push_fate(line, fate)?;
+    line.push_str("\n")
+}
+
+// The stage, the end, and when it acts.
+fn push_end_at(
+    line: &mut String,
+    name: &str,
+    kind: &str,
+    delay: Option<u64>,
+    moment: u64,
+) -> Result<(), AllocError>
+    ensures { OnOk result (string_bytes line.new ≡ string_bytes line.old ++ end_text name.now kind.now delay moment) }
+{
+    line.push_str(name)?;
+    line.push_str(" ")?;
+    line.push_str(kind)?;
+    push_delay(line, delay)?;
+    line.push_str(" at ")?;
+    push_number(line, moment)
+}
+
+fn push_failed(
+    line: &mut String,
+    name: &str,
+    standing: &Standing,
+    reaches: &LentNames<'_>,
+    handled: &LentNames<'_>,
+) -> Result<(), AllocError>
+    ensures { OnOk result (string_bytes line.new ≡ string_bytes line.old ++ row_text (a_row.Failure name.now standing.now reaches.now handled.now)) }
+{
+    line.push_str(name)?;
+    line.push_str(" ")?;
+    push_failure(line, standing)?;
+    push_concerned(line, reaches.as_slice(), handled.as_slice())?;
+    line.push_str("\n")
+}
+
+// Whom an exception reaches, and who handles it.
+fn push_concerned(line: &mut String, reaches: &[&str], handled: &[&str]) -> Result<(), AllocError>
+    ensures { OnOk result (string_bytes line.new ≡ string_bytes line.old ++ concerned_text (bytes_of reaches.now) (bytes_of handled.now)) }
+{
+    push_titled_names(line, " reaches", reaches)?;
+    push_titled_names(line, "; handled by", handled)
 }
 
 fn push_trial(

@@ -5,12 +5,14 @@
 ghost use Rattle.std.specs.Prelude.{◌≡◌, ◌++◌, OnOk, codes, string_bytes};
 ghost use Rattle.std.specs.Fmt.{decimal};
 ghost use Rattle.act_expr.specs.OutcomeText.{outcome_text};
+ghost use Rattle.stage_ends.specs.declared.fate.Fate.TheVariants.{CutOff};
 ghost use Rattle.stage_ops.specs.Texts.{join_text};
-ghost use Rattle.report_text.specs.Texts.{at_text, because_text, number_or_dash, own_text, shift_text, standing_text};
+ghost use Rattle.report_text.specs.Texts.{at_text, because_text, delay_text, exception_text, failure_text, fate_text, number_or_dash, own_text, shift_text, standing_text};
 
 use crate::digits::{push_number, push_signed};
 use act_expr::{ExName, Outcome, Value};
 use report_rows::{Because, Shift, Standing};
+use stage_ends::Fate;
 use stage_ops::Join;
 use std::alloc::AllocError;
 
@@ -82,6 +84,80 @@ pub(crate) fn push_standing(line: &mut String, standing: &Standing) -> Result<()
         Standing::Absent => line.push_str("absent"),
         Standing::Pending => line.push_str("pending"),
         Standing::Completed(outcome, moment) => push_completed(line, outcome, *moment),
+    }
+}
+
+// The name of an exception; a dash for a value.
+fn push_exception(line: &mut String, outcome: &Outcome) -> Result<(), AllocError>
+    ensures { OnOk result (string_bytes line.new ≡ string_bytes line.old ++ exception_text outcome.now) }
+{
+    match outcome {
+        Outcome::Value(_) => line.push_str("-"),
+        Outcome::Bare(name) => line.push_str(name.text()),
+        Outcome::Wrapped(name) => line.push_str(name.text()),
+    }
+}
+
+// EXCEPTION at MOMENT
+fn push_failed_at(line: &mut String, outcome: &Outcome, moment: u64) -> Result<(), AllocError>
+    ensures { OnOk result (string_bytes line.new ≡ string_bytes line.old ++ exception_text outcome.now ++ codes " at " ++ decimal moment) }
+{
+    push_exception(line, outcome)?;
+    line.push_str(" at ")?;
+    push_number(line, moment)
+}
+
+/// The exception that a stage holds, and since when.
+pub(crate) fn push_failure(line: &mut String, standing: &Standing) -> Result<(), AllocError>
+    ensures { OnOk result (string_bytes line.new ≡ string_bytes line.old ++ failure_text standing.now) }
+{
+    match standing {
+        Standing::Absent => line.push_str("-"),
+        Standing::Pending => line.push_str("-"),
+        Standing::Completed(outcome, moment) => push_failed_at(line, outcome, *moment),
+    }
+}
+
+/// The delay of a timeout, after a space.
+pub(crate) fn push_delay(line: &mut String, delay: Option<u64>) -> Result<(), AllocError>
+    ensures { OnOk result (string_bytes line.new ≡ string_bytes line.old ++ delay_text delay) }
+{
+    match delay {
+        Some(delay) => {
+            line.push_str(" ")?;
+            push_number(line, delay)
+        }
+        None => Ok(()),
+    }
+}
+
+// What is said of some ticks, and how many they are.
+fn push_ticks(line: &mut String, said: &str, ticks: u64) -> Result<(), AllocError>
+    ensures { OnOk result (string_bytes line.new ≡ string_bytes line.old ++ (said.now ++ decimal ticks)) }
+{
+    line.push_str(said)?;
+    push_number(line, ticks)
+}
+
+// After how many of its ticks an action was cut off.
+fn push_cut_off(line: &mut String, ran: u64, of: u64) -> Result<(), AllocError>
+    ensures { OnOk result (string_bytes line.new ≡ string_bytes line.old ++ fate_text (CutOff ran of)) }
+{
+    line.push_str("struck, cut off after ")?;
+    push_number(line, ran)?;
+    line.push_str(" of its ")?;
+    push_number(line, of)
+}
+
+/// What became of an end.
+pub(crate) fn push_fate(line: &mut String, fate: Fate) -> Result<(), AllocError>
+    ensures { OnOk result (string_bytes line.new ≡ string_bytes line.old ++ fate_text fate) }
+{
+    match fate {
+        Fate::Struck => line.push_str("struck"),
+        Fate::CutOff { ran, of } => push_cut_off(line, ran, of),
+        Fate::NotReached { by } => push_ticks(line, "not reached by ", by),
+        Fate::TooLate { by } => push_ticks(line, "too late by ", by),
     }
 }
 

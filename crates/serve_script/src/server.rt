@@ -10,8 +10,8 @@ ghost use Rattle.recording.specs.StepOf.{step_of};
 ghost use Rattle.recording.specs.declared.fault.Fault.{Fault};
 ghost use Rattle.recording.specs.declared.step.Step.{Step};
 ghost use Rattle.session_core.specs.Machine.{step};
-ghost use Rattle.serve_script.specs.Answers.{IsAnswered, answer_change, answer_event, answer_head, answer_named, answer_report, answer_stand, answer_line, answer_step, answered, last_version, opening_state};
-ghost use Rattle.serve_script.specs.Told.{fault_told, reply_told};
+ghost use Rattle.serve_script.specs.Answers.{IsAnswered, answer_change, answer_event, answer_head, answer_named, answer_report, answer_stand, answer_line, answer_step, last_version, opening_state};
+ghost use Rattle.serve_script.specs.Told.{reply_told};
 ghost use Rattle.serve_script.specs.Replies.{base_in};
 
 use crate::asking::answer_report;

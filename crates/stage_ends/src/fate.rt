@@ -9,6 +9,7 @@ pub struct EndFate {
     pub index: usize,
     /// The tick at which it acts.
     pub moment: u64,
+    /// What became of it.
     pub fate: Fate,
 }
 
@@ -19,8 +20,8 @@ pub enum Fate {
     Struck,
     /// It did, while the stage's own action was queued or ran: after `ran` of the `of` ticks that it would have run.
     CutOff { ran: u64, of: u64 },
-    /// A timeout that had this many ticks left when the stage completed.
+    /// It did not: a timeout that acts this many ticks after the stage completed.
     NotReached { by: u64 },
-    /// A call that came this many ticks after the stage had completed.
+    /// It did not: a call that came this many ticks after the stage had completed.
     TooLate { by: u64 },
 }

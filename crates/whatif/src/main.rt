@@ -7,10 +7,12 @@ mod fault;
 use at_once::run_many;
 use command_help::told;
 use command_line::{Command, CommandLine, Manner, WordsFault, parsed, without_help_of_help};
-use commands::{refuse, run_draw, run_export, run_import, run_report, run_report_stage, run_serve};
+use commands::{
+    refuse, run_draw, run_export, run_import, run_report, run_report_stage, run_serve, run_try,
+};
 use console::{Fault, run_check};
 use level_pool::{OneThread, Runner};
-use recording_reports::StageReport;
+use recording_reports::{StageReport, WholeReport};
 use stage_graph::InShared;
 use std::io::ErrorKind;
 use std::process::ExitCode;
@@ -57,7 +59,9 @@ fn answer<'a, K: StateRepresentation, H: Threads + Wait + Copy + Drop + Send + S
     command: Command<'a>,
 ) -> Result<ExitCode, Fault> {
     match command {
-        Command::Report { recording } => run_report::<K>(rt, manner, recording)?,
+        Command::Report { recording } => {
+            run_report::<K>(rt, manner, recording, WholeReport::All)?
+        }
         Command::Explain { recording, stage } => {
             let asked = StageReport::Explanation;
             run_report_stage::<K, _>(rt, threads, manner, recording, stage, asked)?
@@ -69,6 +73,19 @@ fn answer<'a, K: StateRepresentation, H: Threads + Wait + Copy + Drop + Send + S
         } => {
             let asked = StageReport::Sweep { most };
             run_report_stage::<K, _>(rt, threads, manner, recording, stage, asked)?
+        }
+        Command::Ends { recording } => {
+            run_report::<K>(rt, manner, recording, WholeReport::Ends)?
+        }
+        Command::Failures { recording, origin } => match origin {
+            None => run_report::<K>(rt, manner, recording, WholeReport::Failures)?,
+            Some(stage) => {
+                let asked = StageReport::Failure;
+                run_report_stage::<K, _>(rt, threads, manner, recording, stage, asked)?
+            }
+        },
+        Command::Try { recording, trial } => {
+            run_try::<K, _>(rt, runner, manner, recording, &trial)?
         }
         Command::Draw { recording, picture } => run_draw::<K>(rt, manner, recording, picture)?,
         Command::Check { recording } => return run_check(rt, manner, recording),

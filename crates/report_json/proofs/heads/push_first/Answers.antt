@@ -1,5 +1,6 @@
 use Rattle.std.proofs.Common.{ap, refl}
 use Rattle.report_json.specs.Json.{count}
+use Rattle.report_json.specs.Rows.{names_json}
 use Rattle.report_json.proofs.Pushed.{no_rows_told, only_row}
 use Rattle.report_json.proofs.heads.push_first.Goals as goal
 
@@ -12,14 +13,23 @@ returns-in-Times c = rw c.in-Times.is (no_rows_told _)
 pub returns-in-Path : goal.returns-in-Path
 returns-in-Path c = rw c.in-Path.is (no_rows_told _)
 
+pub returns-in-Change : goal.returns-in-Change
+returns-in-Change c = rw c.in-Change.is (no_rows_told _)
+
 pub returns-in-Changes : goal.returns-in-Changes
 returns-in-Changes c = rw c.in-Changes.is (no_rows_told _)
 
 pub returns-in-Drift : goal.returns-in-Drift
 returns-in-Drift c = rw c.in-Drift.is (no_rows_told _)
 
+pub returns-in-Ends : goal.returns-in-Ends
+returns-in-Ends c = rw c.in-Ends.is (no_rows_told _)
+
+pub returns-in-Failures : goal.returns-in-Failures
+returns-in-Failures c = rw c.in-Failures.is (no_rows_told _)
+
 pub returns-in-Blame : goal.returns-in-Blame
-returns-in-Blame c = rw c.in-Blame.is (only_row c.push_names_member.result _ _ _ _ _ refl c.push_names_member.ensures)
+returns-in-Blame c = rw c.in-Blame.is (only_row c.push_names_member.result _ _ _ _ _ (ap names_json c.as_slice.ensures) c.push_names_member.ensures)
 
 pub returns-in-ChangesAgainst : goal.returns-in-ChangesAgainst
 returns-in-ChangesAgainst c = rw c.in-ChangesAgainst.is (only_row c.count.result _ _ _ _ _ (ap count c.from.ensures) c.count.ensures)

@@ -1,5 +1,6 @@
 use Rattle.std.proofs.Common.{ap}
 use Rattle.report_json.specs.Json.{count, text}
+use Rattle.report_json.specs.Rows.{names_json}
 use Rattle.report_json.proofs.Pushed.{last_row, member_is, next_row, one_row}
 use Rattle.report_json.proofs.heads.push_last_of_one.Goals as goal
 
@@ -17,6 +18,6 @@ returns c =
     c.in_ok-push_outcome.ensures)
     (member_is _ _ _ _ _ (ap count c.from.ensures) c.in_ok-count.ensures))
     c.in_ok-text-2.ensures)
-    c.in_ok-push_names_member.ensures)
+    (member_is _ _ _ _ _ (ap names_json c.as_slice.ensures) c.in_ok-push_names_member.ensures))
     (member_is _ _ _ _ _ (ap text c.as_str-name.ensures) c.in_ok-text-3.ensures))
     c.count-2.ensures

@@ -1,4 +1,4 @@
-use Rattle.std.proofs.Common.{◌∷◌, [], ap, codes, refl, ◌∙◌}
+use Rattle.std.proofs.Common.{◌∷◌, [], ap, codes, refl}
 use Rattle.stage_graph.specs.Texts.{op_text}
 use Rattle.report_rows.specs.declared.row.Row.TheVariants as a_row
 use Rattle.report_json.specs.Json.{count, optional, outcome_json, text}

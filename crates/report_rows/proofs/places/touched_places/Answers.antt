@@ -1,4 +1,4 @@
-use Rattle.std.proofs.Common.{List, ℕ, ◌∙◌, ap}
+use Rattle.std.proofs.Common.{◌∙◌, ap}
 use Rattle.std.proofs.lemmas.Result.{IfOk-weaker}
 use Rattle.report_rows.specs.declared.listing.Listing.TheVariants.{Shifts}
 use Rattle.report_rows.specs.Listings.{rows_at}

@@ -1,0 +1,9 @@
+pub mod Results
+pub mod Amounts
+pub mod Numbers
+pub mod Words
+pub mod Changes
+pub mod Timeouts
+pub mod OwnEdits
+pub mod Making
+pub mod FaultTexts
