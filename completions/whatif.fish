@@ -1,6 +1,6 @@
 # Completion of whatif for fish: put this file into ~/.config/fish/completions.
 
-set -l commands report explain sweep ends failures try draw check serve export many import help
+set -l commands report explain sweep slack ends failures try draw check serve export many import help
 
 # The words after the command that are no options and no option's value.
 function __whatif_places
@@ -9,7 +9,7 @@ function __whatif_places
     set -l at 2
     while test $at -le (count $words)
         switch $words[$at]
-            case --top --workers --trace --unit --stage --origin --what --format
+            case --top --within --workers --trace --unit --stage --origin --what --format
                 set at (math $at + 1)
             case '-?*'
             case '*'
@@ -42,6 +42,7 @@ complete -c whatif -f
 complete -c whatif -n "not __fish_seen_subcommand_from $commands" -a report -d 'Print each stage of a recording'
 complete -c whatif -n "not __fish_seen_subcommand_from $commands" -a explain -d 'Print how a stage ended, and why it is late or pending'
 complete -c whatif -n "not __fish_seen_subcommand_from $commands" -a sweep -d 'Print which stages would make a stage complete sooner'
+complete -c whatif -n "not __fish_seen_subcommand_from $commands" -a slack -d 'Print how many ticks longer each stage may run before a stage completes otherwise'
 complete -c whatif -n "not __fish_seen_subcommand_from $commands" -a ends -d 'Print what came of each timeout, and of each call that completes or cancels a stage'
 complete -c whatif -n "not __fish_seen_subcommand_from $commands" -a failures -d 'Print where each failure arose, which stages it reached, and which did not hand it on'
 complete -c whatif -n "not __fish_seen_subcommand_from $commands" -a try -d 'Print what would come of changes, made together'
@@ -55,20 +56,21 @@ complete -c whatif -n "not __fish_seen_subcommand_from $commands" -a help -d 'Pr
 complete -c whatif -n "not __fish_seen_subcommand_from help" -s h -l help -d 'Print help'
 complete -c whatif -n "not __fish_seen_subcommand_from $commands" -s V -l version -d 'Print the version'
 
-complete -c whatif -n "__fish_seen_subcommand_from report explain sweep ends failures try draw check serve export import; and __whatif_has_places 0" -F
+complete -c whatif -n "__fish_seen_subcommand_from report explain sweep slack ends failures try draw check serve export import; and __whatif_has_places 0" -F
 complete -c whatif -n "__fish_seen_subcommand_from export; and __whatif_has_places 1" -F
-complete -c whatif -n "__fish_seen_subcommand_from explain sweep try; and __whatif_has_places 1" -a '(__whatif_stages)'
+complete -c whatif -n "__fish_seen_subcommand_from explain sweep slack try; and __whatif_has_places 1" -a '(__whatif_stages)'
 complete -c whatif -n "__fish_seen_subcommand_from sweep" -l top -x -d 'Print the first N stages alone'
+complete -c whatif -n "__fish_seen_subcommand_from slack" -l within -x -d 'Print the stages alone that may run no more than D ticks longer'
 complete -c whatif -n "__fish_seen_subcommand_from failures" -l origin -x -a '(__whatif_stages)' -d 'Print the failure that arose in this stage alone'
-complete -c whatif -n "__fish_seen_subcommand_from report explain sweep ends failures try draw serve export many import" -l quiet -d 'Leave explanations and warnings out'
-complete -c whatif -n "__fish_seen_subcommand_from report explain sweep ends failures try draw check serve export many" -l strict -d 'End with status 1 where there is a warning'
+complete -c whatif -n "__fish_seen_subcommand_from report explain sweep slack ends failures try draw serve export many import" -l quiet -d 'Leave explanations and warnings out'
+complete -c whatif -n "__fish_seen_subcommand_from report explain sweep slack ends failures try draw check serve export many" -l strict -d 'End with status 1 where there is a warning'
 complete -c whatif -n "__fish_seen_subcommand_from try" -l stage -x -a '(__whatif_stages)' -d 'Tell what comes of it for this stage'
 complete -c whatif -n "__fish_seen_subcommand_from try" -l save -d 'Write the recording that the changes make'
 complete -c whatif -n "__fish_seen_subcommand_from try" -l draw -d 'Write a picture of what the changes make'
 complete -c whatif -n "__fish_seen_subcommand_from draw" -l stage -x -a '(__whatif_stages)' -d 'Draw the path of this stage'
 complete -c whatif -n "__fish_seen_subcommand_from draw" -l what -x -a 'all path' -d 'Which stages have a row'
 complete -c whatif -n "__fish_seen_subcommand_from draw" -l format -x -a 'svg trace' -d 'An SVG file, or trace events'
-complete -c whatif -n "__fish_seen_subcommand_from report explain sweep ends failures try serve many import" -l format -x -a 'text json' -d 'Text for people, or JSON for programs'
+complete -c whatif -n "__fish_seen_subcommand_from report explain sweep slack ends failures try serve many import" -l format -x -a 'text json' -d 'Text for people, or JSON for programs'
 complete -c whatif -n "__fish_seen_subcommand_from many" -F
 complete -c whatif -n "__fish_seen_subcommand_from many" -l workers -x -a '(seq 16)' -d 'How many threads compute for each script'
 complete -c whatif -n "__fish_seen_subcommand_from import" -l list -d 'Print which traces the file has'

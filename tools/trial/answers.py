@@ -8,7 +8,7 @@ import re
 from .run import Case, complaint, run, shown
 from .schema import Schemas
 
-ASKED = ("report", "explain", "sweep", "ends", "failures", "try", "serve", "many")
+ASKED = ("report", "explain", "sweep", "slack", "ends", "failures", "try", "serve", "many")
 
 
 def value(content):
@@ -102,6 +102,16 @@ def of_sweep(told):
         yield f"{trial['stage']} sooner {trial['sooner']} -> {outcome(trial['outcome'])} at {trial['moment']}"
 
 
+def or_dash(number):
+    return "-" if number is None else number
+
+
+def of_slack(told):
+    yield f"slack of {told['stage']} {at(told['moment'])} stages {told['count']}"
+    for stage in told["stages"]:
+        yield f"{stage['name']} slack {or_dash(stage['slack'])} start {stage['start']} latest {or_dash(stage['latest'])}"
+
+
 def of_changes(told):
     yield title(told, "changed" if "against" in told else "touched", len(told["stages"]))
     for stage in told["stages"]:
@@ -117,8 +127,7 @@ def of_drift(told):
 def of_times(told):
     yield f"times of version {told['version']} stages {len(told['stages'])}"
     for stage in told["stages"]:
-        start = "-" if stage["start"] is None else stage["start"]
-        yield f"{stage['name']} start {start} queued {stage['queued']} runs {stage['runs']}"
+        yield f"{stage['name']} start {or_dash(stage['start'])} queued {stage['queued']} runs {stage['runs']}"
 
 
 def fate(told):
@@ -158,7 +167,7 @@ def of_recording(told):
     yield "]}"
 
 
-REPORTS = {"all": of_all, "one": of_one, "blame": of_blame, "path": of_path, "sweep": of_sweep, "changes": of_changes, "drift": of_drift, "times": of_times, "recording": of_recording, "ends": of_ends, "failures": of_failures, "change": of_change}
+REPORTS = {"all": of_all, "one": of_one, "blame": of_blame, "path": of_path, "sweep": of_sweep, "slack": of_slack, "changes": of_changes, "drift": of_drift, "times": of_times, "recording": of_recording, "ends": of_ends, "failures": of_failures, "change": of_change}
 DETAILS = ("dependent", "member", "head", "version")
 
 

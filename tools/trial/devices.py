@@ -13,6 +13,7 @@ from dataclasses import dataclass, replace
 
 from .cases import FIRST_RUN, NO_READ, OPEN, R, SCRIPTS, lines, step
 from .run import first_difference, shown
+from .slack import TOLD_OF_B
 from .tried import HALF
 from .why import EXPLAINED_B, RECORDED, RECORDED_B, SWEPT_B
 
@@ -180,6 +181,7 @@ def commands():
         Played("report of standard input", ["report"], "r.json", FIRST_RUN, stdin="r.json"),
         Played("explain", ["explain", "r.json", "b"], "r.json", EXPLAINED_B),
         Played("sweep", ["sweep", "r.json", "b"], "r.json", lines(*SWEPT_B)),
+        Played("slack", ["slack", "r.json", "b"], "r.json", TOLD_OF_B),
         Played("ends", ["ends", "r.json"], "r.json", "ends of version 0 ends 0\n"),
         Played("failures", ["failures", "--origin", "a", "r.json"], "r.json", "failures of version 0 failures 0\n"),
         Played("try", ["try", "--stage", "b", "r.json", "a runs=50%"], "r.json", HALF),

@@ -1,10 +1,19 @@
-"""`whatif failures`: where each exception arose, which stages it reached, and which read it and didn't hand it on."""
+"""`whatif failures`: where each exception arose, which stages it reached, and which read it and didn't hand it on; and those of
+them that `whatif explain` tells of, in recordings made at random."""
+import concurrent.futures
+import json
+import random
+import re
+
 from .cases import R, lines, recording, stage, with_r
 from .ends import of_whole
-from .run import Case
+from .recomputed import some
+from .run import LANES, Case, run, shown
 from .why import example
 
 NONE = "failures of version 0 failures 0\n"
+# how many recordings made at random are explained
+HOW_MANY = 200
 NO_STAGE = "refused 10 NoStage\n"
 TIMEOUT, CANCELLED = "java.util.concurrent.TimeoutException", "java.util.concurrent.CancellationException"
 
@@ -245,6 +254,34 @@ def failures_made():
     yield from of_an_origin()
     for name, given, told in LARGE:
         yield Case(f"failures of {name}", ["failures", "large"], told, files={"large": given}, seconds=60)
+
+
+def explained_wrong(program, seed):
+    """What is wrong with the failures that `explain` tells of, of a stage of the recording of a seed, or nothing."""
+    made = some(seed)
+    name = random.Random(f"explained {seed}").choice(made["stages"])["name"]
+    files = {"r.json": json.dumps(made)}
+    all_lines, failure_lines, came = (run(program, Case("explained", [*words, "r.json", *more], None, files=files, seconds=60)).out.decode().splitlines() for words, more in ((["report"], []), (["failures"], []), (["explain"], [name])))
+    state = next(line for line in all_lines[1:] if line.split()[0] == name)
+    moment = re.search(r" at (\d+)$", state)
+    begin = next(at for at, line in enumerate(came) if line.startswith("path of ")) + 1
+    end = next((at for at, line in enumerate(came) if line.startswith("failures of ")), len(came))
+    path = {line.split()[0] for line in came[begin:end]}
+    told = []
+    for line in failure_lines[1:]:
+        origin, at, reached, handled = re.fullmatch(r"(\S+) \S+ at (\d+) reaches (.*); handled by (.*)", line).groups()
+        if path & {origin, *reached.split(), *handled.split()} and (moment is None or int(at) <= int(moment[1])):
+            told.append(line)
+    fails = re.search(r" (bare|wrapped):\S+ at \d+$", state)
+    wanted = [f"failures of version 0 failures {len(told)}", *told] if told and not fails else []
+    return "" if came[end:] == wanted else f"{name}: wanted {wanted}, came {shown(chr(10).join(came).encode())}"
+
+
+def explained(program):
+    """The name of each case, its complaint or nothing, and no refusal."""
+    with concurrent.futures.ThreadPoolExecutor(LANES) as lanes:
+        for seed, said in enumerate(lanes.map(lambda it: explained_wrong(program, it), range(HOW_MANY))):
+            yield f"the failures that explain tells of, {seed}", said, set()
 
 
 def failures_cases():

@@ -9,6 +9,7 @@ from .exports import chain_written
 from .failures import failed_fan, fan_of_failures
 from .limits import chain_of, chain_report
 from .run import LANES, Case, refusals, run, shown
+from .slack import TOLD_OF_B
 from .tried import HALF
 from .why import EXPLAINED_B, RECORDED, RECORDED_B, SWEPT, chain_explained
 
@@ -30,6 +31,7 @@ COMMANDS = [
     Case("explain", ["explain", "r.json", "b"], EXPLAINED_B, files={"r.json": R}),
     Case("explain of 4,096 stages", ["explain", "large", f"s{STAGES - 1}"], chain_explained(STAGES), files={"large": chain_of(STAGES)}),
     Case("sweep", ["sweep", "r.json", "b"], SWEPT, files={"r.json": R}),
+    Case("slack", ["slack", "r.json", "b"], TOLD_OF_B, files={"r.json": R}),
     Case("ends", ["ends"], lines("ends of version 0 ends 4096", *[f"m{it} cancel at {it} struck" for it in range(STAGES)]), stdin=recording(*[stage("manual", f"m{it}", ends=[{"at": it, "do": "cancel"}]) for it in range(STAGES)])),
     Case("failures", ["failures"], fan_of_failures(STAGES), stdin=failed_fan(STAGES)),
     Case("try", ["try", "--quiet", "r.json", "a runs=50%"], HALF, files={"r.json": R}),

@@ -31,8 +31,9 @@ Usage: PROGRAM <COMMAND>
 
 Commands:
   report    Prints each stage of a recording: its rank, its state and its moment
-  explain   Prints how a stage ended, which failure it hands on, and why it completed when it did or is pending
+  explain   Prints how a stage ended, which failure it hands on, or which failures it was spared, and why it completed when it did or is pending
   sweep     Prints which stages would make a stage complete sooner if they took no time
+  slack     Prints how many ticks longer each stage may run before a stage completes otherwise
   ends      Prints what came of each timeout, and of each call that completes or cancels a stage
   failures  Prints where each failure arose, which stages it reached, and which read it and didn't hand it on
   try       Prints what would come of changes, made together
@@ -76,7 +77,7 @@ Examples:
 The lines: docs/FORMATS.md, Reports.
 """)
 HELP_OF_EXPLAIN = help_of("""\
-Prints how a stage ended, which failure it hands on, and why it completed when it did or is pending
+Prints how a stage ended, which failure it hands on, or which failures it was spared, and why it completed when it did or is pending
 
 Usage: PROGRAM explain [OPTIONS] <FILE> <STAGE>
 
@@ -284,7 +285,7 @@ COMMAND_LINES = [
         for name, text in (("report", HELP_OF_REPORT), ("explain", HELP_OF_EXPLAIN), ("sweep", HELP_OF_SWEEP), ("ends", HELP_OF_ENDS), ("failures", HELP_OF_FAILURES), ("try", HELP_OF_TRY), ("draw", HELP_OF_DRAW), ("check", HELP_OF_CHECK), ("export", HELP_OF_EXPORT), ("import", HELP_OF_IMPORT))
         for words in ([name, "--help"], [name, "-h"], ["help", name])
     ],
-    Case("no word names the subcommands", [], "", 2, err="report, explain, sweep, ends, failures, try, draw, check, serve, export, many, import, help"),
+    Case("no word names the subcommands", [], "", 2, err="report, explain, sweep, slack, ends, failures, try, draw, check, serve, export, many, import, help"),
     *[
         case
         for name in ("explain", "sweep")
@@ -419,7 +420,8 @@ LATE_REPLY = [
     (
         ["explain", "customer"],
         ["customer exceptionallyCompose rank 3 value:17 at 114", "sources customer-cache", "inner customer-database", "dependents discount", "join returns 17", "blame -"]
-        + ["path of customer at 114 stages 2", "customer at 114 took over customer-database", "customer-database at 114 queued 14 ran 88 created 12"],
+        + ["path of customer at 114 stages 2", "customer at 114 took over customer-database", "customer-database at 114 queued 14 ran 88 created 12"]
+        + ["failures of version 0 failures 1", "customer-cache com.shop.CacheMiss at 11 reaches -; handled by customer"],
     ),
     (["sweep", "stock-north"], ["sweep of stock-north at 121 stages 1", "stock-north sooner 100 -> value:12 at 21"]),
     (

@@ -1,12 +1,13 @@
 -- The words for what the program can be told to do.
 use Rattle.std.specs.Prelude.{ℕ, List, codes}
 use Rattle.command_line.specs.declared.subcommand.Subcommand.{Subcommand}
-use Rattle.command_line.specs.declared.subcommand.Subcommand.TheVariants.{Report, Explain, Sweep, Ends, Failures, Try, Draw, Check, Serve, Export, Many, Import}
+use Rattle.command_line.specs.declared.subcommand.Subcommand.TheVariants.{Report, Explain, Sweep, Slack, Ends, Failures, Try, Draw, Check, Serve, Export, Many, Import}
 
 abbrev pub word_of : Subcommand → List ℕ
 word_of Report = codes "report"
 word_of Explain = codes "explain"
 word_of Sweep = codes "sweep"
+word_of Slack = codes "slack"
 word_of Ends = codes "ends"
 word_of Failures = codes "failures"
 word_of Try = codes "try"

@@ -5,6 +5,9 @@ use crate::traces::{READINGS, UNITS};
 use clap::{Arg, ArgAction, value_parser};
 use std::alloc::{AllocError, Global};
 
+/// The most ticks that a recording may say.
+const LAST_TICK: i64 = 1 << 40;
+
 /// An argument: its name, what help says of it, and what it takes.
 #[derive(Clone, Copy)]
 pub(crate) struct Argument {
@@ -13,7 +16,7 @@ pub(crate) struct Argument {
     pub(crate) takes: Takes,
 }
 
-/// What an argument takes. The first six are options, whose name stands after two dashes, the others are told by their place.
+/// What an argument takes. The first seven are options, whose name stands after two dashes, the others are told by their place.
 #[derive(Clone, Copy)]
 pub(crate) enum Takes {
     /// Nothing: it is there or not.
@@ -26,6 +29,8 @@ pub(crate) enum Takes {
     TextIf(&'static str, &'static str, &'static str),
     /// A number; where it is bounded, from 1 to the bound, and 1 where it is left out.
     Number(&'static str, Option<u8>),
+    /// A number of ticks, no more than a recording may say.
+    Ticks(&'static str),
     /// One of the words, the first where it is left out.
     OneOf(&'static str, Choice),
     /// A text that may be left out.
@@ -67,6 +72,7 @@ pub(crate) fn arg_of<'a>(alloc: Global, argument: Argument) -> Result<Arg<'a>, A
                 .required_if_eq(other, word)?
         }
         Takes::Number(value, most) => number(arg.long(argument.name).value_name(value), most),
+        Takes::Ticks(value) => ticks(arg.long(argument.name).value_name(value)),
         Takes::OneOf(value, choice) => one_of(arg.long(argument.name).value_name(value), choice),
         Takes::MaybeOne => arg,
         Takes::One => arg.required(true),
@@ -81,6 +87,10 @@ fn number<'a>(arg: Arg<'a>, most: Option<u8>) -> Arg<'a> {
             .value_parser(value_parser!(usize).range(1..=i64::from(most)))
             .default_value("1"),
     }
+}
+
+fn ticks<'a>(arg: Arg<'a>) -> Arg<'a> {
+    arg.value_parser(value_parser!(u64).range(0..=LAST_TICK))
 }
 
 fn one_of<'a>(arg: Arg<'a>, choice: Choice) -> Arg<'a> {

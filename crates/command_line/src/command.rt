@@ -25,6 +25,13 @@ pub enum Command<'a> {
         stage: &'a str,
         most: Option<usize>,
     },
+    /// To print how many ticks longer each stage may run before a stage completes otherwise, and where `within` names ticks those
+    /// alone that may run no more than these longer.
+    Slack {
+        recording: Input<'a>,
+        stage: &'a str,
+        within: Option<u64>,
+    },
     /// To print what came of each end: of each timeout, and of each call that completes or cancels a stage.
     Ends {
         recording: Input<'a>,

@@ -14,6 +14,9 @@ pub(crate) const FORMAT: &str = "format";
 
 pub(crate) const TOP: &str = "top";
 
+/// The most ticks longer of what is printed.
+pub(crate) const WITHIN: &str = "within";
+
 pub(crate) const WORKERS: &str = "workers";
 
 /// The stage whose path is drawn.

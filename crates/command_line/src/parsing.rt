@@ -88,6 +88,11 @@ fn command_of<'a>(
             stage: stage_of(matches)?,
             most: matches.get_one::<usize>(names::TOP),
         },
+        Subcommand::Slack => Command::Slack {
+            recording: input_of(matches),
+            stage: stage_of(matches)?,
+            within: matches.get_one::<u64>(names::WITHIN),
+        },
         Subcommand::Ends => Command::Ends {
             recording: input_of(matches),
         },

@@ -7,7 +7,7 @@ use crate::words::{
     CALLS, CHANGES, CLOCKS, DRAW, DRAWN_STAGE, EACH, FORMAT, LIST, LIST_FORMAT, ORIGIN, PICTURE,
     QUIET, QUIET_IMPORT, RECORDING, RECORDING_OR_DASH, RECORDING_OR_INPUT, ROWS, SAVE, SCRIPT,
     SCRIPTS, STAGE, STAGE_OF_TRIAL, STRICT, STRICT_SCRIPTS, STRICT_STEPS, TOP, TRACE, TRACE_ID,
-    UNIT, WORKERS,
+    UNIT, WITHIN, WORKERS,
 };
 use clap::Command;
 use std::alloc::{AllocError, Global};
@@ -21,6 +21,7 @@ pub(crate) enum Subcommand {
     Report,
     Explain,
     Sweep,
+    Slack,
     Ends,
     Failures,
     Try,
@@ -32,10 +33,11 @@ pub(crate) enum Subcommand {
     Import,
 }
 
-static SUBCOMMANDS: [Subcommand; 12] = [
+static SUBCOMMANDS: [Subcommand; 13] = [
     Subcommand::Report,
     Subcommand::Explain,
     Subcommand::Sweep,
+    Subcommand::Slack,
     Subcommand::Ends,
     Subcommand::Failures,
     Subcommand::Try,
@@ -56,6 +58,7 @@ impl Subcommand {
             Subcommand::Report => "report",
             Subcommand::Explain => "explain",
             Subcommand::Sweep => "sweep",
+            Subcommand::Slack => "slack",
             Subcommand::Ends => "ends",
             Subcommand::Failures => "failures",
             Subcommand::Try => "try",
@@ -104,7 +107,7 @@ fn described<'a>(alloc: Global, subcommand: Subcommand) -> Result<Command<'a>, A
         Subcommand::Explain => told(
             alloc,
             subcommand.name(),
-            "Prints how a stage ended, which failure it hands on, and why it completed when it did or is pending",
+            "Prints how a stage ended, which failure it hands on, or which failures it was spared, and why it completed when it did or is pending",
             "Examples:\n  whatif explain examples/late-reply.json reply\n  whatif explain --quiet - reply < examples/late-reply.json\n\nThe lines: docs/FORMATS.md, Reports.",
             &[QUIET, STRICT, FORMAT, RECORDING_OR_DASH, STAGE],
         ),
@@ -114,6 +117,13 @@ fn described<'a>(alloc: Global, subcommand: Subcommand) -> Result<Command<'a>, A
             "Prints which stages would make a stage complete sooner if they took no time",
             "Examples:\n  whatif sweep examples/late-reply.json reply\n  whatif sweep --top 3 examples/late-reply.json reply\n\nThe lines: docs/FORMATS.md, Reports.",
             &[TOP, QUIET, STRICT, FORMAT, RECORDING_OR_DASH, STAGE],
+        ),
+        Subcommand::Slack => told(
+            alloc,
+            subcommand.name(),
+            "Prints how many ticks longer each stage may run before a stage completes otherwise",
+            "Examples:\n  whatif slack examples/late-reply.json reply\n  whatif slack --within 20 examples/late-reply.json reply\n\nThe lines: docs/FORMATS.md, Reports.",
+            &[WITHIN, QUIET, STRICT, FORMAT, RECORDING_OR_DASH, STAGE],
         ),
         Subcommand::Ends => told(
             alloc,

@@ -79,6 +79,12 @@ pub(crate) const TOP: Argument = Argument {
     takes: Takes::Number("N", None),
 };
 
+pub(crate) const WITHIN: Argument = Argument {
+    name: names::WITHIN,
+    help: "print the stages alone that may run no more than D ticks longer, from 0 to 2^40",
+    takes: Takes::Ticks("D"),
+};
+
 pub(crate) const WORKERS: Argument = Argument {
     name: names::WORKERS,
     help: "how many threads compute for each script, from 1 to 16",

@@ -1,5 +1,5 @@
-//! What `report`, `explain`, `sweep`, `ends`, `failures`, `try`, `draw`, `serve`, `export` and `import` do: from what their words ask
-//! for to what is printed.
+//! What `report`, `explain`, `sweep`, `slack`, `ends`, `failures`, `try`, `draw`, `serve`, `export` and `import` do: from what their words
+//! ask for to what is printed.
 //!
 //! It stands on the crates that answer (`recording_reports`, `tried_changes`, `recording_pictures`, `serve_script`, `recording_text`,
 //! `trace_spans`, `trace_import`) and on `console`, by which people are told of mistakes. A command's own steps belong here; what it

@@ -39,7 +39,7 @@ pub fn run_report<'a, K: StateRepresentation>(
     )
 }
 
-/// Prints what is asked of one stage of a recording; many trials of a sweep are made on the processors that there are.
+/// Prints what is asked of one stage of a recording; many trials, of a sweep or of slacks, are made on the processors that there are.
 pub fn run_report_stage<'a, K: StateRepresentation, H: Threads + Wait + Copy + Drop + Send + Sync>(
     rt: &'a HostRuntime,
     threads: H,

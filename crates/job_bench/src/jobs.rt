@@ -13,8 +13,8 @@ use crate::traces::{Form as TraceForm, trace};
 use anyhow::{Result, bail};
 use level_pool::Runner;
 use recording::read_recording;
-use report_form::{Form, Format, tell_report, tell_sweep};
-use report_rows::What;
+use report_form::{Form, Format, tell_report, tell_slack, tell_sweep};
+use report_rows::{Arisen, What};
 use serve_script::serve;
 use stage_graph::Graph;
 use std::alloc::Global;
@@ -35,6 +35,8 @@ pub(crate) enum Job {
     Spread,
     /// Which stages are worth making faster; a chain, where each trial reaches all that comes after, is the awkward one.
     Sweep,
+    /// How much longer stages may run; for each some of the trials that find it.
+    Slack,
     /// Traces are imported.
     Import,
     /// Scripts of small edits alone.
@@ -56,6 +58,7 @@ impl Job {
             "serve" => Some(Job::Serve),
             "spread" => Some(Job::Spread),
             "sweep" => Some(Job::Sweep),
+            "slack" => Some(Job::Slack),
             "import" => Some(Job::Import),
             "small" => Some(Job::Small),
             "hubs" => Some(Job::Hubs),
@@ -146,7 +149,7 @@ fn reports<R: StateRepresentation>(alloc: Global, plan: &Plan, digest: &mut Dige
 fn fates<R: StateRepresentation>(alloc: Global, plan: &Plan, digest: &mut Digest) -> Result<()> {
     let text = recording(alloc, plan)?;
     let version = loaded::<R>(alloc, text.as_str())?;
-    for what in [What::Ends, What::Failures(None)] {
+    for what in [What::Ends, What::Failures(Arisen::Anywhere)] {
         for form in [Form::Text, Form::Json { line: None }] {
             report_in(alloc, &version, what, form, digest)?;
         }
@@ -172,6 +175,19 @@ fn served<R: StateRepresentation, W: Runner>(
     Ok(())
 }
 
+/// The place of the last stage of a recording.
+fn last_of<R: StateRepresentation>(
+    alloc: Global,
+    plan: &Plan,
+    version: &Version<R>,
+) -> Result<u32> {
+    let last = name(alloc, plan.seed, plan.stages.saturating_sub(1))?;
+    match version.id_of(last.as_str()) {
+        Ok(place) => Ok(place),
+        Err(_) => bail!("no stage {last}"),
+    }
+}
+
 /// Takes in the sweep of the last stage of a recording.
 fn swept<R: StateRepresentation, W: Runner>(
     alloc: Global,
@@ -181,12 +197,25 @@ fn swept<R: StateRepresentation, W: Runner>(
 ) -> Result<()> {
     let text = recording(alloc, plan)?;
     let version = loaded::<R>(alloc, text.as_str())?;
-    let last = name(alloc, plan.seed, plan.stages.saturating_sub(1))?;
-    let Ok(target) = version.id_of(last.as_str()) else {
-        bail!("no stage {last}");
-    };
+    let target = last_of(alloc, plan, &version)?;
     let mut sink = unwritten(alloc);
     tell_sweep(alloc, &version, target, None, runner, Form::Text, &mut sink)?;
+    taken(digest, sink);
+    Ok(())
+}
+
+/// Takes in how much longer the stages of a recording may run before the last one completes otherwise.
+fn slacks_in<R: StateRepresentation, W: Runner>(
+    alloc: Global,
+    runner: &W,
+    plan: &Plan,
+    digest: &mut Digest,
+) -> Result<()> {
+    let text = recording(alloc, plan)?;
+    let version = loaded::<R>(alloc, text.as_str())?;
+    let target = last_of(alloc, plan, &version)?;
+    let mut sink = unwritten(alloc);
+    tell_slack(alloc, &version, target, None, runner, Form::Text, &mut sink)?;
     taken(digest, sink);
     Ok(())
 }
@@ -318,6 +347,20 @@ fn run_sweep<R: StateRepresentation, W: Runner>(
     )
 }
 
+/// Runs the job `slack`.
+fn run_slack<R: StateRepresentation, W: Runner>(
+    alloc: Global,
+    runner: &W,
+    scale: Scale,
+    seed: u32,
+    digest: &mut Digest,
+) -> Result<()> {
+    for shape in [Shape::Chain, Shape::Layers, Shape::Mixed] {
+        slacks_in::<R, W>(alloc, runner, &plan(shape, scale.of(1_024), seed), digest)?;
+    }
+    Ok(())
+}
+
 /// Runs the job `import`.
 fn run_import(alloc: Global, scale: Scale, seed: u32, digest: &mut Digest) -> Result<()> {
     imported(alloc, TraceForm::Otlp, scale.of(22_000), seed, digest)?;
@@ -426,6 +469,7 @@ pub(crate) fn run<R: StateRepresentation, W: Runner>(
         Job::Serve => run_serve::<R, W>(alloc, runner, scale, seed, &mut digest)?,
         Job::Spread => run_spread::<R, W>(alloc, runner, scale, seed, &mut digest)?,
         Job::Sweep => run_sweep::<R, W>(alloc, runner, scale, seed, &mut digest)?,
+        Job::Slack => run_slack::<R, W>(alloc, runner, scale, seed, &mut digest)?,
         Job::Import => run_import(alloc, scale, seed, &mut digest)?,
         Job::Small => run_small::<R, W>(alloc, runner, scale, seed, &mut digest)?,
         Job::Hubs => run_hubs::<R, W>(alloc, runner, scale, seed, &mut digest)?,

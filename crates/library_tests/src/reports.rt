@@ -1,7 +1,7 @@
 //! Reports: of places where no stage stands, and onto writers that take little at a time, nothing, or fail.
 use crate::versions::made;
 use level_pool::OneThread;
-use report_rows::{ReportFault, What};
+use report_rows::{Arisen, ReportFault, What};
 use report_text::report;
 use std::alloc::Global;
 use std::process::Abort;
@@ -41,11 +41,11 @@ const PINNED: [(What, &str); 10] = [
     (What::Change(1), "b value:5 at 15 -> wrapped:X at 10\n"),
     (What::Ends, "ends of version 1 ends 0\n"),
     (
-        What::Failures(None),
+        What::Failures(Arisen::Anywhere),
         "failures of version 1 failures 1\na X at 10 reaches b; handled by -\n",
     ),
     (
-        What::Failures(Some(1)),
+        What::Failures(Arisen::In(1)),
         "failures of version 1 failures 0\n",
     ),
 ];
@@ -118,7 +118,7 @@ fn of_no_stage<R: StateRepresentation, H: Abort + Threads + Sync>(
         What::One(1),
         What::Blame(1),
         What::Change(1),
-        What::Failures(Some(1)),
+        What::Failures(Arisen::In(1)),
         What::One(2),
         What::Blame(2),
     ] {

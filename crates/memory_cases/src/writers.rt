@@ -61,6 +61,7 @@ fn form_named(word: &str) -> Form {
 fn stage_report_named(word: &str) -> StageReport {
     match word {
         "explain" => StageReport::Explanation,
+        "slack" => StageReport::Slack { within: Some(9) },
         _ => StageReport::Sweep { most: Some(2) },
     }
 }

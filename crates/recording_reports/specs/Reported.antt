@@ -1,21 +1,25 @@
 -- What the reports of a recording write: of version 0 of the graph that it names.
-use Rattle.std.specs.Prelude.{ℕ, ◌≡◌, List, [], ◌++◌, Option, None, Some, Result, Ok, Err, unwrap_or}
-use Rattle.std.specs.Option.{option_map}
+use Rattle.std.specs.Prelude.{ℕ, ◌≡◌, Bool, false, not, ◌&&◌, if◌then◌else◌, List, [], ◌++◌, Option, None, Some, Result, Ok, Err, unwrap_or}
+use Rattle.std.specs.Option.{option_map, option_map_or}
 use Rattle.std.specs.Io.KnownBytes.{Appends, Keeps}
 use Rattle.text_io.specs.Sink.{AppendsPrefix}
 use Rattle.stage_graph.specs.Plain.{PlainGraph, place_named}
 use Rattle.recording.specs.Reads.{IsNamed}
 use Rattle.recording.specs.RecordingOf.{named}
 use Rattle.recording.specs.FaultTexts.{fault_number}
+use Rattle.stage_ops.specs.Sources.{is_exceptional}
 use Rattle.version_store.specs.Plain.{PlainVersion, opening_version}
+use Rattle.version_store.specs.Queries.{state_of}
+use Rattle.report_rows.specs.declared.arisen.Arisen.TheVariants as arisen
 use Rattle.report_rows.specs.declared.what.What.{What}
 use Rattle.report_rows.specs.declared.what.What.TheVariants.{All, One, Blame, Path, Ends, Failures}
-use Rattle.report_form.specs.Told.{report_told, sweep_told}
+use Rattle.report_rows.specs.Said.{has_rows}
+use Rattle.report_form.specs.Told.{report_told, slack_told, sweep_told}
 use Rattle.report_form.specs.declared.form.Form.{Form}
 use Rattle.recording_reports.specs.declared.fault.RecordingFault.{RecordingFault}
 use Rattle.recording_reports.specs.declared.fault.RecordingFault.TheVariants.{Refused, NoStage, Write, Memory}
 use Rattle.recording_reports.specs.declared.stage.StageReport.{StageReport}
-use Rattle.recording_reports.specs.declared.stage.StageReport.TheVariants.{Explanation, Sweep, Failure}
+use Rattle.recording_reports.specs.declared.stage.StageReport.TheVariants.{Explanation, Sweep, Slack, Failure}
 use Rattle.recording_reports.specs.declared.all.WholeReport.{WholeReport}
 use Rattle.recording_reports.specs.declared.all.WholeReport.TheVariants as whole
 
@@ -23,7 +27,11 @@ use Rattle.recording_reports.specs.declared.all.WholeReport.TheVariants as whole
 abbrev pub what_of : WholeReport → What
 what_of whole.All = All
 what_of whole.Ends = Ends
-what_of whole.Failures = Failures None
+what_of whole.Failures = Failures arisen.Anywhere
+
+-- of the failures: those that the path of the stage at a place has to do with
+abbrev pub beside : ℕ → What
+beside place = Failures (arisen.Beside place)
 
 abbrev pub told : Form → PlainVersion → What → List ℕ
 told form version what = unwrap_or (report_told form version what) []
@@ -36,11 +44,22 @@ whole_text form asked version = told form version (what_of asked)
 abbrev pub whole_of : Form → WholeReport → PlainGraph → Option (List ℕ)
 whole_of form asked graph = Some (whole_text form asked (opening_version graph))
 
--- the reports `one`, `blame` and `path` of the stage at a place, one after the other; or its sweep; or the failure that arose in it
+-- the stage at the place completed by an exception
+abbrev pub is_failed : PlainGraph → ℕ → Bool
+is_failed graph place = option_map_or (λ done. is_exceptional done.outcome) (state_of graph place).done false
+
+-- the failures that concern the path of a stage that does not fail, if there are any
+abbrev pub handled_text : Form → PlainVersion → ℕ → List ℕ
+handled_text form version place =
+    if not (is_failed version.graph place) && unwrap_or (has_rows version (beside place)) false then told form version (beside place) else []
+
+-- the reports `one`, `blame` and `path` of the stage at a place, one after the other, and then the failures that its path has to do with, where
+-- it does not fail itself; or its sweep; or how much longer stages may run before it completes otherwise; or the failure that arose in it
 abbrev pub stage_text : Form → StageReport → PlainVersion → ℕ → List ℕ
-stage_text form Explanation version place = told form version (One place) ++ told form version (Blame place) ++ told form version (Path place)
+stage_text form Explanation version place = told form version (One place) ++ told form version (Blame place) ++ told form version (Path place) ++ handled_text form version place
 stage_text form (Sweep most) version place = unwrap_or (sweep_told form version place most) []
-stage_text form Failure version place = told form version (Failures (Some place))
+stage_text form (Slack within) version place = unwrap_or (slack_told form version place within) []
+stage_text form Failure version place = told form version (Failures (arisen.In place))
 
 -- the same of the stage of a name; none where the graph has no such stage
 abbrev pub stage_of : Form → StageReport → List ℕ → PlainGraph → Option (List ℕ)

@@ -9,7 +9,7 @@ ghost use Rattle.recording_reports.specs.Reported.{IsReported, failed_writes, wh
 use crate::fault::RecordingFault;
 use recording::{Fault, read_recording};
 use report_form::{Form, tell_report};
-use report_rows::{ReportFault, What};
+use report_rows::{Arisen, ReportFault, What};
 use stage_graph::Graph;
 use std::alloc::Global;
 use text_io::Sink;
@@ -43,7 +43,13 @@ fn write_all<R: StateRepresentation, S: Sink>(
     match asked {
         WholeReport::All => tell_report(alloc, version, What::All, form, sink),
         WholeReport::Ends => tell_report(alloc, version, What::Ends, form, sink),
-        WholeReport::Failures => tell_report(alloc, version, What::Failures(None), form, sink),
+        WholeReport::Failures => tell_report(
+            alloc,
+            version,
+            What::Failures(Arisen::Anywhere),
+            form,
+            sink,
+        ),
     }
 }
 

@@ -3,14 +3,14 @@ ghost use Rattle.std.specs.Prelude.{◌≡◌, ◌≢◌, ◌↔◌, ◌+◌, �
 ghost use Rattle.std.specs.Io.KnownBytes.{Appends};
 ghost use Rattle.text_io.specs.Sink.{AppendsPrefix};
 ghost use Rattle.report_rows.specs.Faults.{failed_writes};
-ghost use Rattle.report_form.specs.Told.{comparison_told, report_told, sweep_told};
+ghost use Rattle.report_form.specs.Told.{comparison_told, report_told, slack_told, sweep_told};
 
 use crate::form::Form;
 use level_pool::Runner;
 use propagate::StateRepresentation;
-use report_json::{write_comparison, write_report, write_sweep};
+use report_json::{write_comparison, write_report, write_slack, write_sweep};
 use report_rows::{Comparison, ReportFault, What};
-use report_text::{compare, report, report_sweep};
+use report_text::{compare, report, report_slack, report_sweep};
 use std::alloc::Global;
 use text_io::Sink;
 use version_store::Version;
@@ -85,5 +85,32 @@ pub fn tell_sweep<R: StateRepresentation, W: Runner, S: Sink>(
     match form {
         Form::Text => report_sweep(alloc, version, target, most, runner, sink),
         Form::Json { line } => write_sweep(alloc, version, target, most, runner, line, sink),
+    }
+}
+
+/// Writes how many ticks longer the action of each stage may run before a stage completes otherwise, where `within` names ticks
+/// of those alone that may run no more than these longer, in the form that is asked for: as `report_slack` of `report_text` does,
+/// or as `write_slack`.
+///
+/// Errors: `NoStage` where the stage is not live, and then nothing is written; `Write` where a write failed or took
+/// nothing; `Memory`.
+pub fn tell_slack<R: StateRepresentation, W: Runner, S: Sink>(
+    alloc: Global,
+    version: &Version<R>,
+    target: u32,
+    within: Option<u64>,
+    runner: &W,
+    form: Form,
+    sink: &mut S,
+) -> Result<(), ReportFault>
+    requires { S.failures sink.old < 2 ^ 64 - 1 }
+    ensures ok { OnOk result (Appends (S.held sink.old) (S.held sink.new) (unwrap_or (slack_told form version.now target within) [])) }
+    ensures err { OnErr result (AppendsPrefix (S.held sink.old) (S.held sink.new) (unwrap_or (slack_told form version.now target within) [])) }
+    ensures no_stage { (result ≡ Err ReportFault.NoStage) ↔ (slack_told form version.now target within ≡ None) }
+    ensures failures { S.failures sink.new ≡ S.failures sink.old + failed_writes result }
+{
+    match form {
+        Form::Text => report_slack(alloc, version, target, within, runner, sink),
+        Form::Json { line } => write_slack(alloc, version, target, within, runner, line, sink),
     }
 }

@@ -18,6 +18,7 @@ use Rattle.report_rows.specs.declared.shift.Shift.TheVariants.{Later, Earlier}
 use Rattle.report_rows.specs.declared.standing.Standing.{Standing}
 use Rattle.report_rows.specs.declared.standing.Standing.TheVariants.{Absent, Pending, Completed}
 use Rattle.report_rows.specs.Report.{Report}
+use Rattle.report_rows.specs.Rows.{latest_start}
 use Rattle.report_json.specs.Heads.{Fact, a_text, a_count, maybe_count, maybe_outcome, a_standing, some_names, an_answer, some_rows, Facts, fact_json, facts, facts_json, join_members, object_of}
 use Rattle.report_json.specs.Json.{at_line, count, object, outcome_json, text}
 use Rattle.report_json.specs.Rows.{because_members, exception_json, fate_members, kind_of_stage, moment_in, names_json, outcome_in, row_json, row_members, rows_json, shift_members, standing_json, standing_members}
@@ -79,6 +80,8 @@ row_exact (a_row.Failure name standing reaches handled) = object_exact 2 (row_me
     (text_exact 2 _, (optional_exact 2 exception_json (outcome_in standing) (exception_exact 2), (optional_exact 2 count (moment_in standing) (count_exact 2), (names_exact 1 reaches, (names_exact 1 handled, tt)))))
 row_exact (a_row.Trial name sooner outcome moment) = object_exact 2 (row_members (a_row.Trial name sooner outcome moment))
     (text_exact 2 _, (count_exact 2 _, (outcome_exact 1 outcome, (count_exact 2 _, tt))))
+row_exact (a_row.Slack name slack start) = object_exact 2 (row_members (a_row.Slack name slack start))
+    (text_exact 2 _, (optional_exact 2 count slack (count_exact 2), (count_exact 2 _, (optional_exact 2 count (latest_start start slack) (count_exact 2), tt))))
 
 rows_exact : (rows : List Row) → IsExact 4 (rows_json rows)
 rows_exact rows = list_exact 3 row_json rows row_exact

@@ -7,7 +7,7 @@ use Rattle.stage_ops.specs.declared.state.Join.{Join}
 use Rattle.stage_ops.specs.declared.state.Join.TheVariants.{Waits, Returns, Cancelled, Throws}
 use Rattle.serde_json.specs.Data.{Data, null}
 use Rattle.report_rows.specs.declared.head.Head.{Head}
-use Rattle.report_rows.specs.declared.head.Head.TheVariants.{All, Times, One, Blame, Path, Change, Changes, Drift, ChangesAgainst, DriftAgainst, Ends, Failures, Sweep}
+use Rattle.report_rows.specs.declared.head.Head.TheVariants.{All, Times, One, Blame, Path, Change, Changes, Drift, ChangesAgainst, DriftAgainst, Ends, Failures, Sweep, Slack}
 use Rattle.report_rows.specs.declared.row.Row.{Row}
 use Rattle.report_rows.specs.declared.standing.Standing.{Standing}
 use Rattle.report_rows.specs.Modes.{mode_text}
@@ -76,6 +76,7 @@ facts_before (ChangesAgainst version against) = (codes "against", a_count agains
 facts_before (DriftAgainst version against) = (codes "against", a_count against) ∷ []
 -- all trials are counted, of which not all may have a row
 facts_before (Sweep version name moment all) = (codes "count", a_count all) ∷ []
+facts_before (Slack version name moment all) = (codes "count", a_count all) ∷ []
 
 -- of a list of stages
 abbrev pub listed : List ℕ → List Row → ℕ → Facts
@@ -126,6 +127,7 @@ facts_after (DriftAgainst version against) stages = listed (codes "drift") stage
 facts_after (Ends version) ends = listed (codes "ends") ends version
 facts_after (Failures version) failures = listed (codes "failures") failures version
 facts_after (Sweep version name moment all) trials = moment_of (codes "sweep") moment ++ listed_of (codes "target") name (codes "trials") trials version
+facts_after (Slack version name moment all) stages = moment_of (codes "slack") moment ++ listed_of (codes "stage") name (codes "stages") stages version
 
 -- ---- the report
 

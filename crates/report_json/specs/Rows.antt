@@ -14,6 +14,7 @@ use Rattle.report_rows.specs.declared.shift.Shift.{Shift}
 use Rattle.report_rows.specs.declared.shift.Shift.TheVariants.{Later, Earlier}
 use Rattle.report_rows.specs.declared.standing.Standing.{Standing}
 use Rattle.report_rows.specs.declared.standing.Standing.TheVariants.{Absent, Pending, Completed}
+use Rattle.report_rows.specs.Rows.{latest_start}
 use Rattle.report_json.specs.Json.{NamedValues, text, count, optional, list, object, outcome_json}
 
 -- ---- what a stage is
@@ -120,6 +121,11 @@ row_members (a_row.Trial name sooner outcome moment) =
     (codes "sooner", count sooner) ∷
     (codes "outcome", outcome_json outcome) ∷
     (codes "moment", count moment) ∷ []
+row_members (a_row.Slack name slack start) =
+    (codes "name", text name) ∷
+    (codes "slack", optional count slack) ∷
+    (codes "start", count start) ∷
+    (codes "latest", optional count (latest_start start slack)) ∷ []
 
 abbrev pub row_json : Row → Data
 row_json row = object (row_members row)

@@ -58,6 +58,7 @@ fn push_first(line: &mut Line, head: &Head<'_>) -> Result<(), AllocError>
         Head::ChangesAgainst { against, .. } => line.count("against", u64::from(*against)),
         Head::DriftAgainst { against, .. } => line.count("against", u64::from(*against)),
         Head::Sweep { count, .. } => line.count("count", *count as u64),
+        Head::Slack { count, .. } => line.count("count", *count as u64),
         Head::All { .. } => Ok(()),
         Head::Times { .. } => Ok(()),
         Head::Path { .. } => Ok(()),
@@ -124,6 +125,12 @@ fn push_last<R: StateRepresentation>(
             moment,
             ..
         } => push_last_of_sweep(line, *version, name, *moment, rows),
+        Head::Slack {
+            version,
+            name,
+            moment,
+            ..
+        } => push_last_of_slack(line, *version, name, *moment, rows),
     }
 }
 
@@ -167,6 +174,20 @@ fn push_last_of_sweep<R: StateRepresentation>(
 {
     push_moment_of(line, "sweep", moment)?;
     push_listed_of(line, "target", name, "trials", rows, version)
+}
+
+// The last members of `slack`.
+fn push_last_of_slack<R: StateRepresentation>(
+    line: &mut Line,
+    version: u32,
+    name: &Text<'_>,
+    moment: Option<u64>,
+    rows: &mut Rows<'_, R>,
+) -> Result<(), AllocError>
+    ensures { OnOk result (TellsRows (facts_json (moment_of (codes "slack") moment ++ listed_of (codes "stage") name.now (codes "stages") rows.old version)) line.old line.new) }
+{
+    push_moment_of(line, "slack", moment)?;
+    push_listed_of(line, "stage", name, "stages", rows, version)
 }
 
 // The moment of a stage, and the name of a report that lists what leads to it.

@@ -17,4 +17,4 @@ mod writing;
 pub use line_answers::write_at_version;
 pub use lines::write_answer;
 pub use object::Object;
-pub use reporting::{write_comparison, write_report, write_sweep};
+pub use reporting::{write_comparison, write_report, write_slack, write_sweep};

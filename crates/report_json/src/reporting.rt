@@ -6,12 +6,14 @@ ghost use Rattle.serde_json.specs.Read.{read};
 ghost use Rattle.serde_json.specs.Written.{compact_text};
 ghost use Rattle.report_rows.specs.Faults.{failed_writes};
 ghost use Rattle.report_json.specs.Json.{at_line, line_text, told};
-ghost use Rattle.report_json.specs.Reports.{comparison_json, report_json, sweep_json};
+ghost use Rattle.report_json.specs.Reports.{comparison_json, report_json, slack_json, sweep_json};
 
 use crate::writing::write_said;
 use level_pool::Runner;
 use propagate::StateRepresentation;
-use report_rows::{Comparison, ReportFault, What, say_comparison, say_report, say_sweep};
+use report_rows::{
+    Comparison, ReportFault, What, say_comparison, say_report, say_slack, say_sweep,
+};
 use std::alloc::Global;
 use text_io::Sink;
 use version_store::Version;
@@ -86,6 +88,33 @@ pub fn write_sweep<R: StateRepresentation, W: Runner, S: Sink>(
     ensures reads_back { OnOk result (IfSome (sweep_json version.now target most) (λ report. read (compact_text (at_line line report)) ≡ Some (at_line line report))) }
 {
     let said = say_sweep(alloc, version, target, most, runner)?;
+    write_said(alloc, &said, line, sink)?;
+    Ok(())
+}
+
+/// Writes how many ticks longer the action of each stage may run before a stage completes otherwise, where `within` names ticks
+/// of those alone that may run no more than these longer, as one line, as `write_answer` does. What was written reads back as
+/// the report.
+///
+/// Errors: `NoStage` where the stage is not live, and then nothing is written; `Write` where a write failed or took
+/// nothing; `Memory`, and then nothing is written.
+pub fn write_slack<R: StateRepresentation, W: Runner, S: Sink>(
+    alloc: Global,
+    version: &Version<R>,
+    target: u32,
+    within: Option<u64>,
+    runner: &W,
+    line: Option<u64>,
+    sink: &mut S,
+) -> Result<(), ReportFault>
+    requires { S.failures sink.old < 2 ^ 64 - 1 }
+    ensures ok { OnOk result (Appends (S.held sink.old) (S.held sink.new) (told line (slack_json version.now target within))) }
+    ensures err { OnErr result (AppendsPrefix (S.held sink.old) (S.held sink.new) (told line (slack_json version.now target within))) }
+    ensures no_stage { (result ≡ Err ReportFault.NoStage) ↔ (slack_json version.now target within ≡ None) }
+    ensures failures { S.failures sink.new ≡ S.failures sink.old + failed_writes result }
+    ensures reads_back { OnOk result (IfSome (slack_json version.now target within) (λ report. read (compact_text (at_line line report)) ≡ Some (at_line line report))) }
+{
+    let said = say_slack(alloc, version, target, within, runner)?;
     write_said(alloc, &said, line, sink)?;
     Ok(())
 }

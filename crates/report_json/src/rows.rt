@@ -14,7 +14,7 @@ use crate::stages::{
 };
 use act_expr::Outcome;
 use propagate::StateRepresentation;
-use report_rows::{Because, LentNames, Row, Rows, Shift, Standing};
+use report_rows::{Because, LentNames, Row, Rows, Shift, Standing, latest_start};
 use stage_ends::Fate;
 use stage_graph::Op;
 use std::alloc::AllocError;
@@ -80,6 +80,7 @@ fn push_row(line: &mut Line, row: &Row<'_>) -> Result<(), AllocError>
             outcome,
             moment,
         } => push_trial(line, name.as_str(), *sooner, outcome.as_outcome(), *moment),
+        Row::Slack { name, slack, start } => push_slack(line, name.as_str(), *slack, *start),
     }
 }
 
@@ -244,5 +245,18 @@ fn push_trial(
     push_outcome_member(line, "outcome", outcome)?;
     line.count("sooner", sooner)?;
     line.text("stage", name)?;
+    line.end_object()
+}
+
+// How much longer the action of the stage may run, when it started, and how late it may start.
+fn push_slack(line: &mut Line, name: &str, slack: Option<u64>, start: u64) -> Result<(), AllocError>
+    ensures { OnOk result (Tells (row_json (a_row.Slack name.now slack start)) line.old line.new) }
+{
+    let latest = latest_start(start, slack);
+    line.begin_object()?;
+    line.optional_count("latest", latest)?;
+    line.text("name", name)?;
+    line.optional_count("slack", slack)?;
+    line.count("start", start)?;
     line.end_object()
 }

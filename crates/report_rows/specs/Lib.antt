@@ -3,6 +3,7 @@ pub mod Causes
 pub mod Ends
 pub mod Failures
 pub mod Faults
+pub mod Known
 pub mod Listings
 pub mod Modes
 pub mod Names

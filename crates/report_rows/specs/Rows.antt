@@ -1,5 +1,5 @@
 -- What the reports say of a stage.
-use Rattle.std.specs.Prelude.{ℕ, ◌-◌, Option, None, Some, if◌then◌else◌}
+use Rattle.std.specs.Prelude.{ℕ, ◌+◌, ◌-◌, ◌^◌, Option, None, Some, min, if◌then◌else◌}
 use Rattle.std.specs.Option.{option_map}
 use Rattle.stage_graph.specs.declared.stage.Stage.{Stage}
 use Rattle.stage_graph.specs.Plain.{PlainGraph}
@@ -9,6 +9,7 @@ use Rattle.version_store.specs.Plain.{PlainVersion}
 use Rattle.version_store.specs.Queries.{state_of, moment_in, start_in, before}
 use Rattle.failure_origins.specs.declared.failure.Failure.{Failure}
 use Rattle.stage_ends.specs.declared.fate.EndFate.{EndFate}
+use Rattle.stage_slack.specs.declared.slack.Slack.{Slack}
 use Rattle.time_sweep.specs.declared.trial.Trial.{Trial}
 use Rattle.report_rows.specs.declared.row.Row.{Row}
 use Rattle.report_rows.specs.declared.row.Row.TheVariants as a_row
@@ -60,3 +61,12 @@ failure_row graph failure stage =
 -- what a target that completes at this tick would come to if the action of the stage took no time
 abbrev pub trial_row : PlainGraph → ℕ → Trial → Row
 trial_row graph tick trial = a_row.Trial (name_at graph trial.place) (tick - trial.moment) trial.outcome trial.moment
+
+-- how much longer the action of a stage may run, and when it started
+abbrev pub slack_row : PlainGraph → Slack → Row
+slack_row graph slack = a_row.Slack (name_at graph slack.place) slack.ticks slack.start
+
+-- as many ticks after the start as the slack has, and the last tick of the clock if that is sooner; none where the slack has no end
+abbrev pub latest_start : ℕ → Option ℕ → Option ℕ
+latest_start start None = None
+latest_start start (Some ticks) = Some (min (start + ticks) (2 ^ 64 - 1))

@@ -1,5 +1,5 @@
 -- What each report says.
-use Rattle.std.specs.Prelude.{ℕ, List, [], Option, None, Some, length, map, take}
+use Rattle.std.specs.Prelude.{ℕ, Bool, List, [], Option, None, Some, length, map, nat_lt, take}
 use Rattle.std.specs.Option.{option_map}
 use Rattle.stage_graph.specs.declared.stage.Stage.{Stage}
 use Rattle.stage_graph.specs.Plain.{stage_at, all_places, dependents}
@@ -11,8 +11,12 @@ use Rattle.scratch_eval.specs.Path.{path}
 use Rattle.version_store.specs.Plain.{PlainVersion, parent_of}
 use Rattle.version_store.specs.Queries.{before, state_of, moment_in, touched_of}
 use Rattle.stage_ends.specs.Ends.{ends}
+use Rattle.stage_slack.specs.declared.slack.Slack.{Slack}
+use Rattle.stage_slack.specs.Slacks.{slacks}
 use Rattle.time_sweep.specs.declared.trial.Trial.{Trial}
 use Rattle.time_sweep.specs.Sweep.{completion_of, sweep, ticks_of}
+use Rattle.report_rows.specs.declared.arisen.Arisen.{Arisen}
+use Rattle.report_rows.specs.declared.arisen.Arisen.TheVariants as arisen
 use Rattle.report_rows.specs.declared.comparison.Comparison.{Comparison}
 use Rattle.report_rows.specs.declared.comparison.Comparison.TheVariants as compared
 use Rattle.report_rows.specs.declared.head.Head.TheVariants as a_head
@@ -23,7 +27,7 @@ use Rattle.report_rows.specs.Failures.{failure_rows}
 use Rattle.report_rows.specs.Listings.{rows_at}
 use Rattle.report_rows.specs.Names.{names_at}
 use Rattle.report_rows.specs.Report.{Report}
-use Rattle.report_rows.specs.Rows.{end_row, trial_row}
+use Rattle.report_rows.specs.Rows.{end_row, slack_row, trial_row}
 use Rattle.report_rows.specs.Standings.{standing_at, standing_before}
 
 -- ---- a version
@@ -63,11 +67,11 @@ ends_said version = record {
   rows = map (end_row version.graph) (ends version.graph);
 }
 
--- the exceptions that arose in stages, or only that of the stage at a place, by place
-abbrev pub failures_said : PlainVersion → Option ℕ → Report
-failures_said version origin = record {
+-- the exceptions that arose in stages, of those that are asked for, by place
+abbrev pub failures_said : PlainVersion → Arisen → Report
+failures_said version arisen = record {
   head = a_head.Failures version.number;
-  rows = failure_rows version.graph origin;
+  rows = failure_rows version.graph arisen;
 }
 
 -- ---- a stage of a version
@@ -113,8 +117,13 @@ said version Changes = Some (changes_said version)
 said version Drift = Some (drift_said version)
 said version Times = Some (times_said version)
 said version Ends = Some (ends_said version)
-said version (Failures None) = Some (failures_said version None)
-said version (Failures (Some origin)) = option_map (λ stage. failures_said version (Some origin)) (stage_at version.graph.places origin)
+said version (Failures arisen.Anywhere) = Some (failures_said version arisen.Anywhere)
+said version (Failures (arisen.In origin)) = option_map (λ stage. failures_said version (arisen.In origin)) (stage_at version.graph.places origin)
+said version (Failures (arisen.Beside place)) = option_map (λ stage. failures_said version (arisen.Beside place)) (stage_at version.graph.places place)
+
+-- whether a report has rows; none where it asks for a stage that is not live
+abbrev pub has_rows : PlainVersion → What → Option Bool
+has_rows version what = option_map (λ report. nat_lt 0 (length report.rows)) (said version what)
 
 -- ---- a version against another one, stage by stage of the same name
 
@@ -144,3 +153,19 @@ sweep_of_stage version target most stage = record {
 -- what a sweep says of a target; none where it is not live
 abbrev pub sweep_said : PlainVersion → ℕ → Option ℕ → Option Report
 sweep_said version target most = option_map (sweep_of_stage version target most) (stage_at version.graph.places target)
+
+-- ---- how much longer stages may run
+
+-- the stage, and these slacks
+abbrev pub slacks_listed : PlainVersion → ℕ → List Slack → Stage → Report
+slacks_listed version target slacks stage = record {
+  head = a_head.Slack version.number stage.name (moment_in (state_of version.graph target)) (length slacks);
+  rows = map (slack_row version.graph) slacks;
+}
+
+abbrev pub slack_of_stage : PlainVersion → ℕ → Option ℕ → Stage → Report
+slack_of_stage version target within stage = slacks_listed version target (slacks version.graph target within) stage
+
+-- what the slacks of a target say; none where it is not live
+abbrev pub slack_said : PlainVersion → ℕ → Option ℕ → Option Report
+slack_said version target within = option_map (slack_of_stage version target within) (stage_at version.graph.places target)

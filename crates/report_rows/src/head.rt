@@ -86,4 +86,11 @@ pub enum Head<'a> {
         moment: Option<u64>,
         count: usize,
     },
+    /// How much longer the actions of stages may run before a stage completes otherwise; how many have a row.
+    Slack {
+        version: u32,
+        name: Text<'a>,
+        moment: Option<u64>,
+        count: usize,
+    },
 }

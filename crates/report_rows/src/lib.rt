@@ -2,11 +2,14 @@
 #![tactic(auto)]
 
 mod against;
+mod arisen;
 mod because;
 mod comparison;
 mod end;
 mod fault;
 mod head;
+mod known_places;
+mod latest;
 mod listing;
 mod mode;
 mod named_failure;
@@ -17,6 +20,7 @@ mod rows;
 mod said;
 mod saying;
 mod saying_of_stage;
+mod saying_slack;
 mod shift;
 mod source;
 mod standing;
@@ -25,16 +29,19 @@ mod text;
 mod trial_outcome;
 mod what;
 
+pub use arisen::Arisen;
 pub use because::Because;
 pub use comparison::Comparison;
 pub use fault::ReportFault;
 pub use head::Head;
+pub use latest::latest_start;
 pub use mode::mode_text;
 pub use names::{LentNames, Names};
 pub use row::Row;
 pub use rows::Rows;
 pub use said::Said;
-pub use saying::{say_comparison, say_report};
+pub use saying::{has_rows, say_comparison, say_report};
+pub use saying_slack::say_slack;
 pub use shift::Shift;
 pub use standing::{KeptStanding, Standing};
 pub use sweeping::say_sweep;

@@ -1,9 +1,12 @@
 //! The exceptions that arose in stages, with the names of the stages that they concern.
-ghost use Rattle.std.specs.Prelude.{◌≡◌, IfOk, map};
+ghost use Rattle.std.specs.Prelude.{◌≡◌, List, ℕ, IfOk, map};
 ghost use Rattle.std.specs.Option.{option_map};
-ghost use Rattle.report_rows.specs.Failures.{failure_row_at, failure_rows, is_of, named_row};
+ghost use Rattle.report_rows.specs.Failures.{arose_by, failure_row_at, failure_rows, have_common, is_asked, is_by, meets, named_row, path_asked};
+ghost use Rattle.version_store.specs.Queries.{moment_in, state_of};
+ghost use Rattle.report_rows.specs.Known.{Knows};
 ghost use Rattle.report_rows.specs.Rows.{failure_row};
 
+use crate::arisen::Arisen;
 use crate::names::Names;
 use crate::row::Row;
 use crate::standing::KeptStanding;
@@ -11,7 +14,8 @@ use crate::text::Text;
 use failure_origins::{Failure, failures_of};
 use propagate::StateRepresentation;
 use std::alloc::{AllocError, Global};
-use version_store::{StageView, Version};
+use std::collections::HashSet;
+use version_store::{NoStage, StageView, Version};
 
 /// An exception that arose in a stage: the stage's name and what it came to, whom the exception reaches, and who handles it.
 #[derive(Drop)]
@@ -57,13 +61,74 @@ impl<'a> NamedFailure<'a> {
     }
 }
 
-// Whether it arose in the stage at a place, where one is asked for.
-fn is_of(origin: Option<u32>, failure: &Failure) -> bool
-    ensures { result ≡ is_of origin failure.now }
+// Whether one of these places is on the path.
+fn have_common(places: &[u32], path: &HashSet<u32>) -> bool
+    ensures { (on : List ℕ) → Knows path.now on → result ≡ have_common places.now on }
 {
-    match origin {
-        Some(origin) => failure.origin == origin,
-        None => true,
+    for place in places {
+        if path.contains(place) {
+            return true;
+        }
+    }
+    false
+}
+
+// Whether it arose in a stage of the path, reaches one, or is handled by one.
+fn meets(path: &HashSet<u32>, failure: &Failure) -> bool
+    ensures { (on : List ℕ) → Knows path.now on → result ≡ meets on failure.now }
+{
+    path.contains(&failure.origin)
+        || have_common(failure.reaches.as_slice(), path)
+        || have_common(failure.handled.as_slice(), path)
+}
+
+// When the stage at a place completed.
+fn moment_of<R: StateRepresentation>(version: &Version<R>, place: u32) -> Option<u64>
+    ensures { result ≡ moment_in (state_of version.now.graph place) }
+{
+    match version.state(place) {
+        Ok(state) => match state.done {
+            Some(done) => Some(done.moment),
+            None => None,
+        },
+        Err(NoStage) => None,
+    }
+}
+
+// Whether the first is not later than the second, where both are there.
+fn is_by(moment: Option<u64>, last: Option<u64>) -> bool
+    ensures { result ≡ is_by moment last }
+{
+    match (moment, last) {
+        (Some(moment), Some(last)) => moment <= last,
+        _ => true,
+    }
+}
+
+// Whether it arose no later than the stage at a place completed.
+fn arose_by<R: StateRepresentation>(version: &Version<R>, place: u32, failure: &Failure) -> bool
+    ensures { result ≡ arose_by version.now.graph place failure.now }
+{
+    is_by(
+        moment_of(version, failure.origin),
+        moment_of(version, place),
+    )
+}
+
+// Whether it is asked for; these places are known of the path that exceptions have to meet.
+fn is_asked<R: StateRepresentation>(
+    version: &Version<R>,
+    arisen: Arisen,
+    path: &HashSet<u32>,
+    failure: &Failure,
+) -> bool
+    requires { Knows path.now (path_asked version.now.graph arisen) }
+    ensures { result ≡ is_asked version.now.graph arisen failure.now }
+{
+    match arisen {
+        Arisen::Anywhere => true,
+        Arisen::In(origin) => failure.origin == origin,
+        Arisen::Beside(place) => arose_by(version, place, failure) && meets(path, failure),
     }
 }
 
@@ -71,12 +136,14 @@ fn is_of(origin: Option<u32>, failure: &Failure) -> bool
 fn named_at<'a, R: StateRepresentation>(
     alloc: Global,
     version: &'a Version<R>,
-    origin: Option<u32>,
+    arisen: Arisen,
+    path: &HashSet<u32>,
     failure: &Failure,
 ) -> Result<Option<NamedFailure<'a>>, AllocError>
-    ensures { IfOk result (λ named. option_map named_row named ≡ failure_row_at version.now.graph origin failure.now) }
+    requires { Knows path.now (path_asked version.now.graph arisen) }
+    ensures { IfOk result (λ named. option_map named_row named ≡ failure_row_at version.now.graph arisen failure.now) }
 {
-    if !is_of(origin, failure) {
+    if !is_asked(version, arisen, path, failure) {
         return Ok(None);
     }
     match version.stage(failure.origin) {
@@ -85,18 +152,21 @@ fn named_at<'a, R: StateRepresentation>(
     }
 }
 
-/// The exceptions that arose in the stages of a version, or only that of the stage at a place, by place.
+/// The exceptions that arose in the stages of a version, of those that are asked for, by place. These places are known of
+/// the path that they have to meet.
 pub(crate) fn named_failures<'a, R: StateRepresentation>(
     alloc: Global,
     version: &'a Version<R>,
-    origin: Option<u32>,
+    arisen: Arisen,
+    path: &HashSet<u32>,
 ) -> Result<Vec<NamedFailure<'a>>, AllocError>
-    ensures { IfOk result (λ named. map named_row named.items ≡ failure_rows version.now.graph origin) }
+    requires { Knows path.now (path_asked version.now.graph arisen) }
+    ensures { IfOk result (λ named. map named_row named.items ≡ failure_rows version.now.graph arisen) }
 {
     let failures = failures_of(alloc, version)?;
     let mut named = Vec::new(alloc);
     for failure in failures.as_slice() {
-        if let Some(one) = named_at(alloc, version, origin, failure)? {
+        if let Some(one) = named_at(alloc, version, arisen, path, failure)? {
             named.push(one)?;
         }
     }

@@ -2,7 +2,7 @@
 ghost use Rattle.std.specs.Prelude.{◌≡◌};
 ghost use Rattle.report_rows.specs.declared.row.Row.TheVariants as a_row;
 ghost use Rattle.report_rows.specs.Standings.{standing_at, standing_there};
-ghost use Rattle.report_rows.specs.Rows.{change_against_row, change_row, end_row, shift_row, state_row, step_row, times_row, trial_row};
+ghost use Rattle.report_rows.specs.Rows.{change_against_row, change_row, end_row, shift_row, slack_row, state_row, step_row, times_row, trial_row};
 
 use crate::against::is_changed;
 use crate::because::Because;
@@ -15,6 +15,7 @@ use crate::trial_outcome::TrialOutcome;
 use propagate::StateRepresentation;
 use stage_ends::{EndFate, Fate};
 use stage_graph::{Graph, Op, Representation, Stage};
+use stage_slack::Slack;
 use time_sweep::Trial;
 use version_store::{StageView, Version};
 
@@ -77,6 +78,12 @@ pub enum Row<'a> {
         sooner: u64,
         outcome: TrialOutcome<'a>,
         moment: u64,
+    },
+    /// How many ticks longer its action may run before another stage completes otherwise, and when the action started.
+    Slack {
+        name: Text<'a>,
+        slack: Option<u64>,
+        start: u64,
     },
 }
 
@@ -207,5 +214,17 @@ pub(crate) fn trial_row<'a, R: Representation>(
         sooner: tick.saturating_sub(trial.moment),
         outcome: TrialOutcome::new(&trial.outcome),
         moment: trial.moment,
+    }
+}
+
+/// How much longer the action of a stage may run.
+#[inline(always)]
+pub(crate) fn slack_row<'a, R: Representation>(graph: &'a Graph<R>, slack: &Slack) -> Row<'a>
+    ensures { result ≡ slack_row graph.now slack.now }
+{
+    Row::Slack {
+        name: Text::new(graph.name_of(slack.place)),
+        slack: slack.ticks,
+        start: slack.start,
     }
 }

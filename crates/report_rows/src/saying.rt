@@ -1,9 +1,13 @@
 //! What each report of a version says.
 ghost use Rattle.std.specs.Prelude.{◌≡◌, ◌↔◌, IfOk, None, Some};
-ghost use Rattle.report_rows.specs.Said.{all_said, changes_said, comparison_said, drift_said, ends_said, failures_said, said, times_said};
+ghost use Rattle.report_rows.specs.Failures.{path_asked};
+ghost use Rattle.report_rows.specs.Known.{Knows};
+ghost use Rattle.report_rows.specs.Said.{all_said, changes_said, comparison_said, drift_said, ends_said, failures_said, has_rows, said, times_said};
 
+use crate::arisen::Arisen;
 use crate::comparison::Comparison;
 use crate::head::Head;
+use crate::known_places::{known_places, none_known};
 use crate::listing::Listing;
 use crate::named_failure::named_failures;
 use crate::places::{all_places, shifted_places};
@@ -14,7 +18,8 @@ use crate::what::What;
 use propagate::StateRepresentation;
 use stage_ends::ends_of;
 use std::alloc::{AllocError, Global};
-use version_store::{QueryFault, Version};
+use std::collections::HashSet;
+use version_store::{QueryFault, StageView, Version};
 
 /// What a report of a version says.
 ///
@@ -37,9 +42,28 @@ pub fn say_report<'a, R: StateRepresentation>(
         What::Drift => Ok(say_drift(alloc, version)?),
         What::Times => Ok(say_times(alloc, version)?),
         What::Ends => Ok(say_ends(alloc, version)?),
-        What::Failures(None) => Ok(say_failures(alloc, version, None)?),
-        What::Failures(Some(origin)) => say_failure(alloc, version, origin),
+        What::Failures(Arisen::Anywhere) => {
+            let none = none_known(alloc);
+            Ok(say_failures(alloc, version, Arisen::Anywhere, &none)?)
+        }
+        What::Failures(Arisen::In(origin)) => say_failure_in(alloc, version, origin),
+        What::Failures(Arisen::Beside(place)) => say_failures_beside(alloc, version, place),
     }
+}
+
+/// Whether a report of a version has rows.
+///
+/// Errors: as [`say_report`].
+pub fn has_rows<R: StateRepresentation>(
+    alloc: Global,
+    version: &Version<R>,
+    what: What,
+) -> Result<bool, QueryFault>
+    ensures value { IfOk result (λ has. Some has ≡ has_rows version.now what) }
+    ensures no_stage { (result ≡ Err QueryFault.NoStage) ↔ (has_rows version.now what ≡ None) }
+{
+    let said = say_report(alloc, version, what)?;
+    Ok(said.rows().count() > 0)
 }
 
 /// What a comparison of a version with another one says, stage by stage of the same name.
@@ -153,11 +177,13 @@ fn say_ends<'a, R: StateRepresentation>(
 fn say_failures<'a, R: StateRepresentation>(
     alloc: Global,
     version: &'a Version<R>,
-    origin: Option<u32>,
+    arisen: Arisen,
+    path: &HashSet<u32>,
 ) -> Result<Said<'a, R>, AllocError>
-    ensures { IfOk result (λ said. said ≡ failures_said version.now origin) }
+    requires { Knows path.now (path_asked version.now.graph arisen) }
+    ensures { IfOk result (λ said. said ≡ failures_said version.now arisen) }
 {
-    let failures = named_failures(alloc, version, origin)?;
+    let failures = named_failures(alloc, version, arisen, path)?;
     Ok(Said {
         head: Head::Failures {
             version: version.number(),
@@ -167,16 +193,43 @@ fn say_failures<'a, R: StateRepresentation>(
 }
 
 // Of the stage at a place alone.
-fn say_failure<'a, R: StateRepresentation>(
+fn say_failure_in<'a, R: StateRepresentation>(
     alloc: Global,
     version: &'a Version<R>,
     origin: u32,
 ) -> Result<Said<'a, R>, QueryFault>
-    ensures value { IfOk result (λ report. Some report ≡ said version.now (What.Failures (Some origin))) }
-    ensures no_stage { (result ≡ Err QueryFault.NoStage) ↔ (said version.now (What.Failures (Some origin)) ≡ None) }
+    ensures value { IfOk result (λ report. Some report ≡ said version.now (What.Failures (Arisen.In origin))) }
+    ensures no_stage { (result ≡ Err QueryFault.NoStage) ↔ (said version.now (What.Failures (Arisen.In origin)) ≡ None) }
 {
     if version.graph().stage(origin).is_none() {
         return Err(QueryFault::NoStage);
     }
-    Ok(say_failures(alloc, version, Some(origin))?)
+    let none = none_known(alloc);
+    Ok(say_failures(alloc, version, Arisen::In(origin), &none)?)
+}
+
+// Of those that concern the path of the stage at a place.
+fn say_failures_beside<'a, R: StateRepresentation>(
+    alloc: Global,
+    version: &'a Version<R>,
+    place: u32,
+) -> Result<Said<'a, R>, QueryFault>
+    ensures value { IfOk result (λ report. Some report ≡ said version.now (What.Failures (Arisen.Beside place))) }
+    ensures no_stage { (result ≡ Err QueryFault.NoStage) ↔ (said version.now (What.Failures (Arisen.Beside place)) ≡ None) }
+{
+    match version.stage(place) {
+        Some(view) => Ok(say_beside(alloc, &view)?),
+        None => Err(QueryFault::NoStage),
+    }
+}
+
+fn say_beside<'a, R: StateRepresentation>(
+    alloc: Global,
+    view: &StageView<'a, R>,
+) -> Result<Said<'a, R>, AllocError>
+    ensures { IfOk result (λ said. said ≡ failures_said view.now.version.now (Arisen.Beside view.now.place)) }
+{
+    let path = view.path(alloc)?;
+    let known = known_places(alloc, path.as_slice())?;
+    say_failures(alloc, view.version, Arisen::Beside(view.place), &known)
 }

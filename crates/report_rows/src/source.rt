@@ -3,15 +3,16 @@ ghost use Rattle.std.specs.Prelude.{◌≡◌, [], drop, length, map};
 ghost use Rattle.report_rows.specs.Listings.{rows_at};
 ghost use Rattle.report_rows.specs.Failures.{named_row};
 ghost use Rattle.report_rows.specs.Next.{IsNext};
-ghost use Rattle.report_rows.specs.Rows.{end_row, trial_row};
+ghost use Rattle.report_rows.specs.Rows.{end_row, slack_row, trial_row};
 ghost use Rattle.report_rows.specs.Sources.{rows_left};
 
 use crate::listing::{Listing, has_row, row_at};
 use crate::named_failure::NamedFailure;
-use crate::row::{Row, end_row, trial_row};
+use crate::row::{Row, end_row, slack_row, trial_row};
 use propagate::StateRepresentation;
 use stage_ends::EndFate;
 use stage_graph::{Graph, Representation};
+use stage_slack::Slack;
 use std::alloc::Global;
 use time_sweep::Trial;
 use version_store::Version;
@@ -31,6 +32,11 @@ pub(crate) enum Source<'a, R: StateRepresentation> {
         version: &'a Version<R>,
         tick: u64,
         trials: Vec<Trial>,
+    },
+    /// How much longer the actions of stages of a version may run.
+    Slacks {
+        version: &'a Version<R>,
+        slacks: Vec<Slack>,
     },
     /// What became of ends of a version's stages.
     Ends {
@@ -79,6 +85,13 @@ impl<'a, R: StateRepresentation> Source<'a, R> {
         }
     }
 
+    /// These slacks.
+    pub(crate) fn of_slacks(version: &'a Version<R>, slacks: Vec<Slack>) -> Source<'a, R>
+        ensures { rows_left result 0 ≡ map (slack_row version.now.graph) slacks.items }
+    {
+        Source::Slacks { version, slacks }
+    }
+
     /// What became of these ends.
     pub(crate) fn of_ends(version: &'a Version<R>, ends: Vec<EndFate>) -> Source<'a, R>
         ensures { rows_left result 0 ≡ map (end_row version.now.graph) ends.items }
@@ -110,6 +123,7 @@ impl<'a, R: StateRepresentation> Source<'a, R> {
                 tick,
                 trials,
             } => next_trial(version.graph(), *tick, trials, at),
+            Source::Slacks { version, slacks } => next_slack(version.graph(), slacks, at),
             Source::Ends { version, ends } => next_end(version.graph(), ends, at),
             Source::Failures { failures } => next_failure(failures, at),
         }
@@ -127,6 +141,7 @@ impl<'a, R: StateRepresentation> Source<'a, R> {
                 places,
             } => count_stages(*listing, version, against, places, at),
             Source::Trials { trials, .. } => trials.len().saturating_sub(at),
+            Source::Slacks { slacks, .. } => slacks.len().saturating_sub(at),
             Source::Ends { ends, .. } => ends.len().saturating_sub(at),
             Source::Failures { failures } => failures.len().saturating_sub(at),
         }
@@ -171,6 +186,20 @@ fn next_trial<'a, R: Representation>(
     let trial = trials.get(*at)?;
     *at += 1;
     Some(trial_row(graph, tick, trial))
+}
+
+// The row of the slack of this index; `at` is how many slacks are done with then.
+#[inline(always)]
+fn next_slack<'a, R: Representation>(
+    graph: &'a Graph<R>,
+    slacks: &[Slack],
+    at: &mut usize,
+) -> Option<Row<'a>>
+    ensures { IsNext (λ at. map (slack_row graph.now) (drop at slacks.now)) at.old at.new result }
+{
+    let slack = slacks.get(*at)?;
+    *at += 1;
+    Some(slack_row(graph, slack))
 }
 
 // The row of the end of this index; `at` is how many ends are done with then.

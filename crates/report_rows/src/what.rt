@@ -1,4 +1,5 @@
 //! Which report is requested.
+use crate::arisen::Arisen;
 
 /// A report of a version.
 #[derive(Clone, Copy, Debug, PartialEq, Eq)]
@@ -21,7 +22,6 @@ pub enum What {
     Times,
     /// What became of each end of each stage.
     Ends,
-    /// The exceptions that arose in stages, or only that of the stage at a place: which stages each reaches, and which handle
-    /// it.
-    Failures(Option<u32>),
+    /// Exceptions that arose in stages: which stages each reaches, and which handle it.
+    Failures(Arisen),
 }

@@ -22,6 +22,7 @@ use Rattle.report_rows.specs.declared.standing.Standing.{Standing}
 use Rattle.report_rows.specs.declared.standing.Standing.TheVariants.{Absent, Pending, Completed}
 use Rattle.report_rows.specs.Modes.{mode_text}
 use Rattle.report_rows.specs.Report.{Report}
+use Rattle.report_rows.specs.Rows.{latest_start}
 use Rattle.text_io.specs.Writes.{line_end}
 
 -- ---- words
@@ -133,6 +134,9 @@ row_text (a_row.Failure name standing reaches handled) = name ++ codes " " ++ fa
 -- NAME sooner D -> OUTCOME at T
 row_text (a_row.Trial name sooner outcome moment) =
     name ++ codes " sooner " ++ decimal sooner ++ codes " -> " ++ outcome_text outcome ++ codes " at " ++ decimal moment ++ line_end
+-- NAME slack D start A latest L
+row_text (a_row.Slack name slack start) =
+    name ++ codes " slack " ++ number_or_dash slack ++ codes " start " ++ decimal start ++ codes " latest " ++ number_or_dash (latest_start start slack) ++ line_end
 
 -- ---- heads
 
@@ -183,6 +187,8 @@ head_text (a_head.Ends version) count = of_version (codes "ends") version ++ cou
 head_text (a_head.Failures version) count = of_version (codes "failures") version ++ counted (codes "failures") count
 -- sweep of NAME at M stages K, of which not all may have a row
 head_text (a_head.Sweep version name moment all) count = of_stage (codes "sweep") name moment ++ counted (codes "stages") all
+-- slack of NAME at M stages K
+head_text (a_head.Slack version name moment all) count = of_stage (codes "slack") name moment ++ counted (codes "stages") all
 
 -- ---- a report
 

@@ -61,6 +61,12 @@ pub(crate) fn push_head(line: &mut String, head: &Head<'_>, count: usize) -> Res
             count: all,
             ..
         } => push_of_stage(line, "sweep", name.as_str(), *moment, *all),
+        Head::Slack {
+            name,
+            moment,
+            count: all,
+            ..
+        } => push_of_stage(line, "slack", name.as_str(), *moment, *all),
     }
 }
 

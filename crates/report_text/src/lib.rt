@@ -9,4 +9,4 @@ mod rows;
 mod words;
 mod writing;
 
-pub use reporting::{compare, report, report_sweep};
+pub use reporting::{compare, report, report_slack, report_sweep};

@@ -2,12 +2,14 @@
 ghost use Rattle.std.specs.Prelude.{◌≡◌, ◌≢◌, ◌↔◌, ◌+◌, ◌-◌, ◌^◌, ◌<◌, [], None, unwrap_or, OnOk, OnErr};
 ghost use Rattle.std.specs.Io.KnownBytes.{Appends};
 ghost use Rattle.text_io.specs.Sink.{AppendsPrefix};
-ghost use Rattle.report_text.specs.Reports.{comparison_text, failed_writes, sweep_report, text};
+ghost use Rattle.report_text.specs.Reports.{comparison_text, failed_writes, slack_report, sweep_report, text};
 
 use crate::writing::write_said;
 use level_pool::Runner;
 use propagate::StateRepresentation;
-use report_rows::{Comparison, ReportFault, What, say_comparison, say_report, say_sweep};
+use report_rows::{
+    Comparison, ReportFault, What, say_comparison, say_report, say_slack, say_sweep,
+};
 use std::alloc::Global;
 use text_io::Sink;
 use version_store::Version;
@@ -74,6 +76,31 @@ pub fn report_sweep<R: StateRepresentation, W: Runner, S: Sink>(
     ensures failures { S.failures sink.new ≡ S.failures sink.old + failed_writes result }
 {
     let said = say_sweep(alloc, version, target, most, runner)?;
+    write_said(alloc, &said, sink)?;
+    Ok(())
+}
+
+/// Writes how many ticks longer the action of each stage may run before a stage completes otherwise, where `within` names ticks
+/// of those alone that may run no more than these longer, a line at a time: the least first, and of several that are the same by
+/// place.
+///
+/// Errors: `NoStage` where the stage is not live, and then nothing is written; `Write` where a write failed or took
+/// nothing; `Memory`.
+pub fn report_slack<R: StateRepresentation, W: Runner, S: Sink>(
+    alloc: Global,
+    version: &Version<R>,
+    target: u32,
+    within: Option<u64>,
+    runner: &W,
+    sink: &mut S,
+) -> Result<(), ReportFault>
+    requires { S.failures sink.old < 2 ^ 64 - 1 }
+    ensures ok { OnOk result (Appends (S.held sink.old) (S.held sink.new) (unwrap_or (slack_report version.now target within) [])) }
+    ensures err { OnErr result (AppendsPrefix (S.held sink.old) (S.held sink.new) (unwrap_or (slack_report version.now target within) [])) }
+    ensures no_stage { (result ≡ Err ReportFault.NoStage) ↔ (slack_report version.now target within ≡ None) }
+    ensures failures { S.failures sink.new ≡ S.failures sink.old + failed_writes result }
+{
+    let said = say_slack(alloc, version, target, within, runner)?;
     write_said(alloc, &said, sink)?;
     Ok(())
 }

@@ -13,7 +13,7 @@ use crate::words::{
     push_shift, push_standing,
 };
 use act_expr::Outcome;
-use report_rows::{Because, LentNames, Row, Shift, Standing};
+use report_rows::{Because, LentNames, Row, Shift, Standing, latest_start};
 use stage_ends::Fate;
 use stage_graph::Op;
 use std::alloc::AllocError;
@@ -66,6 +66,7 @@ pub(crate) fn push_row(line: &mut String, row: &Row<'_>) -> Result<(), AllocErro
             outcome,
             moment,
         } => push_trial(line, name.as_str(), *sooner, outcome.as_outcome(), *moment),
+        Row::Slack { name, slack, start } => push_slack(line, name.as_str(), *slack, *start),
     }
 }
 
@@ -231,5 +232,23 @@ fn push_trial(
     push_outcome(line, outcome)?;
     line.push_str(" at ")?;
     push_number(line, moment)?;
+    line.push_str("\n")
+}
+
+fn push_slack(
+    line: &mut String,
+    name: &str,
+    slack: Option<u64>,
+    start: u64,
+) -> Result<(), AllocError>
+    ensures { OnOk result (string_bytes line.new ≡ string_bytes line.old ++ row_text (a_row.Slack name.now slack start)) }
+{
+    line.push_str(name)?;
+    line.push_str(" slack ")?;
+    push_number_or_dash(line, slack)?;
+    line.push_str(" start ")?;
+    push_number(line, start)?;
+    line.push_str(" latest ")?;
+    push_number_or_dash(line, latest_start(start, slack))?;
     line.push_str("\n")
 }

@@ -5,6 +5,7 @@ use denote.Builtin.{One}
 use denote.RattleType.{RattleType}
 use denote.Ref.{NamedLft}
 use denote.Param.Send.{IsSync, sendable}
+use denote.Param.SendFields.{declared_sync}
 use denote.Struct.Field.{shr_ref_field}
 use denote.Struct.Tuple.{TupleAt}
 use Rattle.std.proofs.Crossing.{crosses}
@@ -13,8 +14,9 @@ use Rattle.std.below.core.specs.contracts.marker.ClosureMark as mark
 use Rattle.act_expr.proofs.Crossing.{expr_sync}
 use Rattle.stage_graph.proofs.Crossing.{name_sync, places_sync, outcome_sync, ends_sync}
 use Rattle.stage_graph.specs.contracts.stage.Stage as stage
-use Rattle.time_sweep.specs.contracts.known.Start as start
+use Rattle.time_sweep.specs.contracts.parts.Parts as parts
 use Rattle.time_sweep.specs.contracts.standing.Standing as standing
+use Rattle.time_sweep.specs.contracts.trial_start.TrialStart as start
 
 stage_sync : IsSync stage.the_row
 stage_sync = search (sendable, crosses, name_sync, places_sync, outcome_sync, ends_sync, expr_sync) depth 60 fits 100000
@@ -24,6 +26,9 @@ standing_sync ℓ = search (sendable, crosses, stage_sync) depth 60 fits 100000
 
 pub start_sync : (ℓ : NamedLft) → IsSync (start.the_row ℓ)
 start_sync ℓ = search (sendable, crosses, standing_sync) depth 60 fits 100000
+
+pub parts_sync : (ℓ : NamedLft) → IsSync (parts.the_row ℓ)
+parts_sync ℓ = declared_sync (parts.the_type ℓ) (start_sync ℓ, (search (sendable, crosses) depth 60 fits 100000, (search sendable, tt)))
 
 -- V: the version, W: what the trials start from
 pub captures_sync : (ν : Sym) (ℓ ℓ' ℓ'' : NamedLft) (V W : RattleType) (one : One V.mir) (two : One W.mir) → IsSync V → IsSync W

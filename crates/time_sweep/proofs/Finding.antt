@@ -11,9 +11,10 @@ use Rattle.stage_graph.specs.Walk.{rank}
 use Rattle.stage_graph.proofs.Lists.{All-contains_each, set_cases}
 use Rattle.rank_order.specs.Lists.{is_among}
 use Rattle.propagate.specs.Reach.{Stages}
-use Rattle.propagate.proofs.Members.{among_push_cases, among_push_left, among_push_self}
+use Rattle.propagate.proofs.Members.{among_here, among_push_cases, among_push_left, among_push_self}
 use Rattle.propagate.proofs.Ranks.{live_within}
 use Rattle.time_sweep.specs.Known.{AreRanksFor, IsFinding, IsFurther, IsKnown, rank_in, unknown}
+use Rattle.time_sweep.specs.Waits.{IsOnly}
 
 -- ---- nothing is found yet
 
@@ -101,6 +102,14 @@ module _ (stages : Stages) (ranks : List (Option ℕ)) (waiting : List ℕ) (fin
         let long = length-append waiting (place ∷ []) in
         omega (arith, counted, one, long);
   }
+
+  pub one_only : IsOnly ranks waiting grown (waiting ++ place ∷ []) (place ∷ [])
+  one_only = record {
+    known = λ other known. ⊎_elim (λ (same : other ≡ place). inr (itself other same)) (λ is. inl (sym (ap is_some is) ∙ known)) (elsewhere other);
+    waits = λ other among. ⊎_elim (λ was. inl was) (λ (same : place ≡ other). inr (itself other (sym same))) (among_push_cases other place waiting among);
+  } where
+    itself : (other : ℕ) → other ≡ place → is_among other (place ∷ []) ≡ true
+    itself other same = subst (λ (s : ℕ). is_among s (place ∷ []) ≡ true) (sym same) (among_here place [])
 
 -- the places of a list that are known stay known
 pub all_kept : {ranks ranks_then : List (Option ℕ)} {waiting waiting_then : List ℕ} → IsFurther ranks waiting ranks_then waiting_then → (places : List ℕ) → All (IsKnown ranks) places → All (IsKnown ranks_then) places

@@ -1,6 +1,8 @@
+pub mod ByKey
 pub mod Crossing
 pub mod Finding
 pub mod Settling
+pub mod Exchanging
 pub mod Hurrying
 pub mod Knowing
 pub mod Overlaid
@@ -10,3 +12,4 @@ pub mod Trying
 pub mod Readers
 pub mod Stands
 pub mod Unreached
+pub mod Waiting

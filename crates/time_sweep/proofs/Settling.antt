@@ -20,7 +20,7 @@ use Rattle.propagate.proofs.Ranks.{rank_feed}
 use Rattle.propagate.proofs.Ascending.{IsBefore}
 
 -- Two ranked graphs of the same feeds, which differ at one place only.
-pub record IsHurrying (old new : Stages) (place : ℕ) : Type 0 where
+pub record IsExchange (old new : Stages) (place : ℕ) : Type 0 where
   pub old_ranked : IsRanked old
   pub new_ranked : IsRanked new
   pub feeds : (s : ℕ) → feeds_at new s ≡ feeds_at old s
@@ -39,15 +39,15 @@ pub record IsSettling (step : Step) (old new : Stages) (known : ℕ → Bool) (c
   pub ascending : AllPairs (IsBefore old) computed
   pub each_known : (c : ℕ) → is_among c computed ≡ true → known c ≡ true
 
-module _ {step : Step} (law : ReadsDecide step) {old new : Stages} {place : ℕ} (hurrying : IsHurrying old new place) (known : ℕ → Bool) where
+module _ {step : Step} (law : ReadsDecide step) {old new : Stages} {place : ℕ} (exchange : IsExchange old new place) (known : ℕ → Bool) where
   -- At the beginning nothing is computed. The place whose stage differs is marked, if it is known.
   pub begun : (marked : ℕ → Bool) (states : ℕ → State) → ((s : ℕ) → known s ≡ true → marked s ≡ false → s ≢ place) → ((s : ℕ) → marked s ≡ true → known s ≡ true)
       → ((s : ℕ) → states s ≡ at step old s) → IsSettling step old new known [] marked states
   begun marked states other within same = record {
     meets = λ s here unmarked.
         same s
-        ∙ scratch_meets law old hurrying.old_ranked s
-        ∙ ap (λ p. come_to step p (at step old)) (sym (hurrying.elsewhere s (other s here unmarked)))
+        ∙ scratch_meets law old exchange.old_ranked s
+        ∙ ap (λ p. come_to step p (at step old)) (sym (exchange.elsewhere s (other s here unmarked)))
         ∙ same_on_feeds law (stage_at new s) (at step old) states (λ feed c. ap seen_of (sym (same feed)));
     either = λ s. inl (same s);
     within = within;
@@ -67,19 +67,19 @@ module _ {step : Step} (law : ReadsDecide step) {old new : Stages} {place : ℕ}
         settling.meets s here unmarked
         ∙ same_on_feeds law (stage_at new s) states (at step new)
         (λ feed c.
-        let c' : Contains (feeds_at old s) feed = subst (λ feeds. Contains feeds feed) (hurrying.feeds s) c in
-        let lower : rank old feed < rank old s = rank_feed old hurrying.old_ranked s feed c' in
+        let c' : Contains (feeds_at old s) feed = subst (λ feeds. Contains feeds feed) (exchange.feeds s) c in
+        let lower : rank old feed < rank old s = rank_feed old exchange.old_ranked s feed c' in
         ap seen_of (settled_below bound low k feed (omega arith) (omega arith) (closed s feed here c')))
-        ∙ sym (scratch_meets law new hurrying.new_ranked s)
+        ∙ sym (scratch_meets law new exchange.new_ranked s)
 
     -- The state that a known place of the least marked rank comes to is that of the new graph.
     pub comes_right : (u : ℕ) → known u ≡ true → ((m : ℕ) → marked m ≡ true → rank old u ≤ rank old m) → come_to step (stage_at new u) states ≡ at step new u
     comes_right u here low =
         same_on_feeds law (stage_at new u) states (at step new)
         (λ feed c.
-        let c' : Contains (feeds_at old u) feed = subst (λ feeds. Contains feeds feed) (hurrying.feeds u) c in
-        ap seen_of (settled_below (rank old u) low (rank old u) feed (rank_feed old hurrying.old_ranked u feed c') (omega arith) (closed u feed here c')))
-        ∙ sym (scratch_meets law new hurrying.new_ranked u)
+        let c' : Contains (feeds_at old u) feed = subst (λ feeds. Contains feeds feed) (exchange.feeds u) c in
+        ap seen_of (settled_below (rank old u) low (rank old u) feed (rank_feed old exchange.old_ranked u feed c') (omega arith) (closed u feed here c')))
+        ∙ sym (scratch_meets law new exchange.new_ranked u)
 
     -- where nothing is marked, a known place has its state of the new graph
     pub settled_whole : ((m : ℕ) → marked m ≡ false) → (s : ℕ) → known s ≡ true → states s ≡ at step new s
@@ -120,7 +120,7 @@ module _ {step : Step} (law : ReadsDecide step) {old new : Stages} {place : ℕ}
           ⊎_elim (λ (e : u ≡ m). absurd (true≢false (sym (eq-eqb m u (sym e)) ∙ parts.1))) (λ later. later) (first.least m parts.0)
 
       feed_lower : (s feed : ℕ) → Contains (feeds_at new s) feed → rank old feed < rank old s
-      feed_lower s feed c = rank_feed old hurrying.old_ranked s feed (subst (λ feeds. Contains feeds feed) (hurrying.feeds s) c)
+      feed_lower s feed c = rank_feed old exchange.old_ranked s feed (subst (λ feeds. Contains feeds feed) (exchange.feeds s) c)
 
       -- reader: the places that have read the first marked one, as far as they are known and have it as a feed
       module _ (told : Bool) (reader marked_then : ℕ → Bool) (states_then : ℕ → State)
@@ -141,7 +141,7 @@ module _ {step : Step} (law : ReadsDecide step) {old new : Stages} {place : ℕ}
         told_lower s is =
             let inner = and_parts told (hears s) is in
             let parts = and_parts (is_among u (feeds_at old s)) (known s && reader s) inner.1 in
-            (rank_feed old hurrying.old_ranked s u (among_contains u (feeds_at old s) parts.0), (and_parts (known s) (reader s) parts.1).0)
+            (rank_feed old exchange.old_ranked s u (among_contains u (feeds_at old s) parts.0), (and_parts (known s) (reader s) parts.1).0)
 
         marked_cases : (s : ℕ) → marked_then s ≡ true → (left s ≡ true) ⊎ ((rank old u < rank old s) × (known s ≡ true))
         marked_cases s is =
@@ -158,7 +158,7 @@ module _ {step : Step} (law : ReadsDecide step) {old new : Stages} {place : ℕ}
             let e : u ≡ read = eqb-true u read same in
             let mine : Contains (reads_of (stage_at new s) (states s).reads) u = subst (λ r. Contains (reads_of (stage_at new s) (states s).reads) r) (sym e) c in
             let among : is_among u (feeds_at old s) ≡ true =
-            contains_among u (feeds_at old s) (subst (λ feeds. Contains feeds u) (hurrying.feeds s) (reads_are_feeds (stage_at new s) (states s).reads u mine)) in
+            contains_among u (feeds_at old s) (subst (λ feeds. Contains feeds u) (exchange.feeds s) (reads_are_feeds (stage_at new s) (states s).reads u mine)) in
             let quiet : told ≡ false =
             false_unless told (λ loud.
             let silent : (told && hears s) ≡ false = (unmarked_parts s unmarked).1 in

@@ -25,36 +25,36 @@ use Rattle.propagate.proofs.Turns.{all_in_time, in_time}
 use Rattle.time_sweep.specs.declared.changes.Change.{Change}
 use Rattle.time_sweep.specs.Changed.{changed_places, state_in, states_in}
 use Rattle.time_sweep.specs.Known.{AreRanksFor}
-use Rattle.time_sweep.specs.Sweep.{hurried}
-use Rattle.time_sweep.proofs.Hurrying.{fast, hurried_ranked, hurried_reads, hurried_sound, hurrying}
+use Rattle.time_sweep.specs.WithStage.{with_stage, IsFitting}
+use Rattle.time_sweep.proofs.Exchanging.{exchange, with_ranked, with_reads, with_sound}
 use Rattle.time_sweep.proofs.Overlaid.{nothing_changed, overlaid, places_long, places_more, state_anywhere, unchanged}
 use Rattle.time_sweep.proofs.Settling.{IsSettling, ascending_more, begun, first_comes, first_known, settled_before, settled_whole, settling_more}
 use Rattle.time_sweep.proofs.Unreached.{is_known}
 
 -- the states of a trial so far, and the places that are marked
 abbrev pub IsTurn : PlainGraph → Stage → List (Option ℕ) → List State → List ℕ → List Change → (ℕ → Bool) → Type 0
-IsTurn graph stage ranks before at list marked =
-    IsSettling (java_step graph.mode) graph.places (hurried graph stage).places (is_known ranks) (changed_places list) marked (state_in before at list)
+IsTurn graph changed ranks before at list marked =
+    IsSettling (java_step graph.mode) graph.places (with_stage graph changed).places (is_known ranks) (changed_places list) marked (state_in before at list)
 
 -- the state that a place comes to in the graph with this stage
 abbrev pub comes : PlainGraph → Stage → List State → List ℕ → List Change → ℕ → State
-comes graph quick before at list place = come_to (java_step graph.mode) (stage_at (slice_set graph.places quick.place (Some quick)) place) (state_in before at list)
+comes graph changed before at list place = come_to (java_step graph.mode) (stage_at (with_stage graph changed).places place) (state_in before at list)
 
-module _ (graph : PlainGraph) (ranked : IsRanked graph.places) (sound : IsSound graph) (stage : Stage) (stands : stage_at graph.places stage.place ≡ Some stage)
+module _ (graph : PlainGraph) (ranked : IsRanked graph.places) (sound : IsSound graph) (changed : Stage) (fits : IsFitting graph.places changed)
     (target : ℕ) (ranks : List (Option ℕ)) (are : AreRanksFor graph.places target ranks) (before : List State) (states : AreStates (java_step graph.mode) graph.places before) where
-  pub first_turn : (at : List ℕ) (list : List Change) (marked : ℕ → Bool) → list ≡ [] → is_known ranks stage.place ≡ true → ((s : ℕ) → marked s ≡ (s == stage.place)) → IsTurn graph stage ranks before at list marked
+  pub first_turn : (at : List ℕ) (list : List Change) (marked : ℕ → Bool) → list ≡ [] → is_known ranks changed.place ≡ true → ((s : ℕ) → marked s ≡ (s == changed.place)) → IsTurn graph changed ranks before at list marked
   first_turn at' list marked none known marks =
-      subst (λ (computed : List ℕ). IsSettling (java_step graph.mode) graph.places (hurried graph stage).places (is_known ranks) computed marked (state_in before at' list))
+      subst (λ (computed : List ℕ). IsSettling (java_step graph.mode) graph.places (with_stage graph changed).places (is_known ranks) computed marked (state_in before at' list))
       (sym (ap changed_places none))
-      (begun (java_reads_decide graph.mode) (hurrying graph stage stands ranked) (is_known ranks) marked (state_in before at' list)
-      (λ s here unmarked same. true≢false (sym (marks s ∙ eq-eqb s stage.place same) ∙ unmarked))
-      (λ s is. subst (λ place. is_known ranks place ≡ true) (sym (eqb-true s stage.place (sym (marks s) ∙ is))) known)
+      (begun (java_reads_decide graph.mode) (exchange graph changed fits ranked) (is_known ranks) marked (state_in before at' list)
+      (λ s here unmarked same. true≢false (sym (marks s ∙ eq-eqb s changed.place same) ∙ unmarked))
+      (λ s is. subst (λ place. is_known ranks place ≡ true) (sym (eqb-true s changed.place (sym (marks s) ∙ is))) known)
       (λ s. nothing_changed before at' list none s ∙ states.each s))
 
   moments : MomentsFollowRanks (java_step graph.mode)
   moments = moments_follow_ranks (java_step graph.mode) (java_reads_decide graph.mode) (java_soon graph.mode)
 
-  module _ (at' : List ℕ) (list : List Change) (marked : ℕ → Bool) (each : length at' ≡ length graph.places) (turn : IsTurn graph stage ranks before at' list marked) where
+  module _ (at' : List ℕ) (list : List Change) (marked : ℕ → Bool) (each : length at' ≡ length graph.places) (turn : IsTurn graph changed ranks before at' list marked) where
     pub turn_moments : All (λ state. IsBy (2 ^ 62) (seen_of state)) (states_in before at' list)
     turn_moments =
         all_in_time (states_in before at' list)
@@ -63,30 +63,30 @@ module _ (graph : PlainGraph) (ranked : IsRanked graph.places) (sound : IsSound 
         (⊎_elim
         (λ old. subst (λ (state : State). IsBy (2 ^ 62) (seen_of state)) (sym old) (in_time (java_step graph.mode) moments graph ranked sound s))
         (λ new. subst (λ (state : State). IsBy (2 ^ 62) (seen_of state)) (sym new)
-        (in_time (java_step graph.mode) moments (hurried graph stage) (hurried_ranked graph stage stands ranked) (hurried_sound graph stage stands sound) s))
+        (in_time (java_step graph.mode) moments (with_stage graph changed) (with_ranked graph changed fits ranked) (with_sound graph changed fits sound) s))
         (turn.either s)))
 
     -- in the end the target has its state
-    pub ended : ((m : ℕ) → marked m ≡ false) → state_in before at' list target ≡ at (java_step graph.mode) (hurried graph stage).places target
-    ended none = settled_whole (java_reads_decide graph.mode) (hurrying graph stage stands ranked) (is_known ranks) are.feeds turn none target are.own
+    pub ended : ((m : ℕ) → marked m ≡ false) → state_in before at' list target ≡ at (java_step graph.mode) (with_stage graph changed).places target
+    ended none = settled_whole (java_reads_decide graph.mode) (exchange graph changed fits ranked) (is_known ranks) are.feeds turn none target are.own
 
     module _ {left : ℕ → Bool} {u : ℕ} (first : IsFirst (rank graph.places) marked left u) where
       pub turn_known : is_known ranks u ≡ true
-      turn_known = first_known (java_reads_decide graph.mode) (hurrying graph stage stands ranked) (is_known ranks) are.feeds turn first
+      turn_known = first_known (java_reads_decide graph.mode) (exchange graph changed fits ranked) (is_known ranks) are.feeds turn first
 
       pub turn_live : IsLive graph.places u
       turn_live = are.live u turn_known
 
       -- the same where the first mark is of a higher rank
-      pub ended_before : rank graph.places target < rank graph.places u → state_in before at' list target ≡ at (java_step graph.mode) (hurried graph stage).places target
-      ended_before below = settled_before (java_reads_decide graph.mode) (hurrying graph stage stands ranked) (is_known ranks) are.feeds turn first target are.own below
+      pub ended_before : rank graph.places target < rank graph.places u → state_in before at' list target ≡ at (java_step graph.mode) (with_stage graph changed).places target
+      ended_before below = settled_before (java_reads_decide graph.mode) (exchange graph changed fits ranked) (is_known ranks) are.feeds turn first target are.own below
 
       pub turn_few : length list < length graph.places
       turn_few =
           let places : List ℕ = changed_places list ++ u ∷ [] in
           let short : length places ≤ length graph.places =
           length-le_from_distinct_below places (length graph.places)
-          (distinct_from_before graph.places places (ascending_more (java_reads_decide graph.mode) (hurrying graph stage stands ranked) (is_known ranks) are.feeds turn first))
+          (distinct_from_before graph.places places (ascending_more (java_reads_decide graph.mode) (exchange graph changed fits ranked) (is_known ranks) are.feeds turn first))
           (λ s among.
           live_within graph.places s
           (⊎_elim
@@ -97,7 +97,7 @@ module _ (graph : PlainGraph) (ranked : IsRanked graph.places) (sound : IsSound 
 
       -- A dependent is not computed before, so it has the state of the version, and has read what it had read there.
       unread : (s : ℕ) → is_known ranks s ≡ true → is_among u (feeds_at graph.places s) ≡ true → has_read graph.places (state_at before) u s ≡ false
-          → is_among u (reads_of (stage_at (hurried graph stage).places s) (state_in before at' list s).reads) ≡ false
+          → is_among u (reads_of (stage_at (with_stage graph changed).places s) (state_in before at' list s).reads) ≡ false
       unread s known feed deaf =
           let lower : rank graph.places u < rank graph.places s = rank_feed graph.places ranked s u (among_contains u (feeds_at graph.places s) feed) in
           let later : is_among s (changed_places list) ≡ false =
@@ -107,44 +107,36 @@ module _ (graph : PlainGraph) (ranked : IsRanked graph.places) (sound : IsSound 
           (λ tie. let same : rank graph.places s ≡ rank graph.places u = tie.0 in omega arith)
           (turn.before s u earlier first.here)) in
           ap (λ (places : List ℕ). is_among u places)
-          (hurried_reads graph stage stands s (state_in before at' list s).reads
+          (with_reads graph changed fits s (state_in before at' list s).reads
           ∙ ap (λ (state : State). reads_of (stage_at graph.places s) state.reads) (unchanged before at' list s later))
           ∙ deaf
 
-      module _ {quick : Stage} (same : quick ≡ fast stage) (at_then : List ℕ) (list_then : List Change) (marked_then : ℕ → Bool)
+      module _ (at_then : List ℕ) (list_then : List Change) (marked_then : ℕ → Bool)
           (at_is : at_then ≡ slice_set at' u (length list))
-          (list_is : list_then ≡ list ++ (record { place = u; state = comes graph quick before at' list u }) ∷ [])
-          (marks : (s : ℕ) → marked_then s ≡ (left s || (differ (seen_of (state_in before at' list u)) (seen_of (comes graph quick before at' list u)) && (is_among u (feeds_at graph.places s) && (is_known ranks s && has_read graph.places (state_at before) u s))))) where
+          (list_is : list_then ≡ list ++ (record { place = u; state = comes graph changed before at' list u }) ∷ [])
+          (marks : (s : ℕ) → marked_then s ≡ (left s || (differ (seen_of (state_in before at' list u)) (seen_of (comes graph changed before at' list u)) && (is_among u (feeds_at graph.places s) && (is_known ranks s && has_read graph.places (state_at before) u s))))) where
         abbrev now : State
-        now = come_to (java_step graph.mode) (stage_at (hurried graph stage).places u) (state_in before at' list)
-
-        is_now : comes graph quick before at' list u ≡ now
-        is_now = ap (λ (quick : Stage). comes graph quick before at' list u) same
-
-        list_now : list_then ≡ list ++ (record { place = u; state = now }) ∷ []
-        list_now = list_is ∙ ap (λ (state : State). list ++ (record { place = u; state = state }) ∷ []) is_now
+        now = comes graph changed before at' list u
 
         holds : (s : ℕ) → state_in before at_then list_then s ≡ (if u == s then now else state_in before at' list s)
         holds s =
             ap (λ (at'' : List ℕ). state_in before at'' list_then s) at_is
-            ∙ ap (λ (list'' : List Change). state_in before (slice_set at' u (length list)) list'' s) list_now
+            ∙ ap (λ (list'' : List Change). state_in before (slice_set at' u (length list)) list'' s) list_is
             ∙ overlaid before at' list u now (let inside = live_within graph.places u turn_live in omega (arith, inside, each)) s
 
-        pub next_turn : IsTurn graph stage ranks before at_then list_then marked_then
+        pub next_turn : IsTurn graph changed ranks before at_then list_then marked_then
         next_turn =
-            subst (λ (computed : List ℕ). IsSettling (java_step graph.mode) graph.places (hurried graph stage).places (is_known ranks) computed marked_then (state_in before at_then list_then))
-            (sym (ap changed_places list_now ∙ places_more list (record { place = u; state = now })))
-            (settling_more (java_reads_decide graph.mode) (hurrying graph stage stands ranked) (is_known ranks) are.feeds turn first
+            subst (λ (computed : List ℕ). IsSettling (java_step graph.mode) graph.places (with_stage graph changed).places (is_known ranks) computed marked_then (state_in before at_then list_then))
+            (sym (ap changed_places list_is ∙ places_more list (record { place = u; state = now })))
+            (settling_more (java_reads_decide graph.mode) (exchange graph changed fits ranked) (is_known ranks) are.feeds turn first
             (differ (seen_of (state_in before at' list u)) (seen_of now)) (has_read graph.places (state_at before) u) marked_then (state_in before at_then list_then) unread refl
-            (λ s.
-            marks s
-            ∙ ap (λ (state : State). left s || (differ (seen_of (state_in before at' list u)) (seen_of state) && (is_among u (feeds_at graph.places s) && (is_known ranks s && has_read graph.places (state_at before) u s)))) is_now)
+            marks
             holds)
 
-        -- the computed place has its state of the graph in which the action takes no time
-        pub ended_here : u ≡ target → state_in before at_then list_then target ≡ at (java_step graph.mode) (hurried graph stage).places target
+        -- the computed place has its state of the graph with the changed stage
+        pub ended_here : u ≡ target → state_in before at_then list_then target ≡ at (java_step graph.mode) (with_stage graph changed).places target
         ended_here here =
             holds target
             ∙ cond-true (u == target) now (state_in before at' list target) (eq-eqb u target here)
-            ∙ first_comes (java_reads_decide graph.mode) (hurrying graph stage stands ranked) (is_known ranks) are.feeds turn first
-            ∙ ap (at (java_step graph.mode) (hurried graph stage).places) here
+            ∙ first_comes (java_reads_decide graph.mode) (exchange graph changed fits ranked) (is_known ranks) are.feeds turn first
+            ∙ ap (at (java_step graph.mode) (with_stage graph changed).places) here

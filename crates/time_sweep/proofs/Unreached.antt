@@ -1,4 +1,4 @@
--- A place that the target cannot wait for has no trial.
+-- What stands at a place that the target cannot wait for doesn't matter to it, so the place has no trial.
 use Rattle.std.proofs.Common.{◌≡◌, ℕ, Bool, true, false, List, [], ◌∷◌, Option, Some, None, cond, refl, ap, sym, ◌∙◌}
 use Rattle.std.specs.Prelude.{filter_map, is_some}
 use Rattle.std.specs.List.{cons_option}
@@ -15,33 +15,30 @@ use Rattle.stage_ops.specs.JavaLaws.{java_reads_decide}
 use Rattle.time_sweep.specs.declared.trial.Trial.{Trial}
 use Rattle.time_sweep.specs.Known.{AreRanksFor, rank_in}
 use Rattle.time_sweep.specs.Sweep.{completion_of, hurried, sooner_trial, trial_at, trial_of, trials}
-use Rattle.time_sweep.proofs.Hurrying.{hurrying, none_sooner}
+use Rattle.time_sweep.specs.WithStage.{with_stage, IsFitting}
+use Rattle.time_sweep.proofs.Exchanging.{exchange}
+use Rattle.time_sweep.proofs.Hurrying.{fast, fast_fits, none_sooner}
 use Rattle.time_sweep.proofs.Settling.{IsSettling, begun, settled_whole}
 
 -- whether the rank of a place is known
 abbrev pub is_known : List (Option ℕ) → ℕ → Bool
 is_known ranks place = is_some (rank_in ranks place)
 
-module _ (graph : PlainGraph) (ranked : IsRanked graph.places) (target : ℕ) (ranks : List (Option ℕ)) (are : AreRanksFor graph.places target ranks) (stage : Stage)
-    (stands : stage_at graph.places stage.place ≡ Some stage) (unknown : is_known ranks stage.place ≡ false) where
-  unmarked : IsSettling (java_step graph.mode) graph.places (hurried graph stage).places (is_known ranks) [] (λ s. false) (at (java_step graph.mode) graph.places)
+module _ (graph : PlainGraph) (ranked : IsRanked graph.places) (target : ℕ) (ranks : List (Option ℕ)) (are : AreRanksFor graph.places target ranks) (changed : Stage)
+    (fits : IsFitting graph.places changed) (unknown : is_known ranks changed.place ≡ false) where
+  unmarked : IsSettling (java_step graph.mode) graph.places (with_stage graph changed).places (is_known ranks) [] (λ s. false) (at (java_step graph.mode) graph.places)
   unmarked =
-      begun (java_reads_decide graph.mode) (hurrying graph stage stands ranked) (is_known ranks) (λ s. false) (at (java_step graph.mode) graph.places)
+      begun (java_reads_decide graph.mode) (exchange graph changed fits ranked) (is_known ranks) (λ s. false) (at (java_step graph.mode) graph.places)
       (λ s here none same. true≢false (sym here ∙ ap (is_known ranks) same ∙ unknown))
       (λ s is. absurd (false≢true is))
       (λ s. refl)
 
-  same_completion : completion_of graph target ≡ completion_of (hurried graph stage) target
+  pub same_completion : completion_of graph target ≡ completion_of (with_stage graph changed) target
   same_completion =
       ap (λ (state : State). state.done)
-      (settled_whole (java_reads_decide graph.mode) (hurrying graph stage stands ranked) (is_known ranks) are.feeds unmarked (λ m. refl) target are.own)
+      (settled_whole (java_reads_decide graph.mode) (exchange graph changed fits ranked) (is_known ranks) are.feeds unmarked (λ m. refl) target are.own)
 
-  pub unreached : (place : ℕ) → trial_of graph target place (Some stage) ≡ None
-  unreached place =
-      ap (λ (new : Option Done). cond (is_some stage.action) (sooner_trial place (completion_of graph target) new) None) (sym same_completion)
-      ∙ none_sooner (is_some stage.action) place (completion_of graph target)
-
--- the same of the stage at a place, if one stands there
+-- a place of no rank has no trial
 pub unreached_at : (graph : PlainGraph) → IsRanked graph.places → IsSound graph → (target : ℕ) (ranks : List (Option ℕ)) → AreRanksFor graph.places target ranks → (place : ℕ) → is_known ranks place ≡ false
     → trial_at graph target place ≡ None
 unreached_at graph ranked sound target ranks are place unknown = of (stage_at graph.places place) refl where
@@ -49,7 +46,10 @@ unreached_at graph ranked sound target ranks are place unknown = of (stage_at gr
   of None none = refl
   of (Some stage) here =
       let own : stage.place ≡ place = (sound.stages place stage here).own_place in
-      unreached graph ranked target ranks are stage (ap (stage_at graph.places) own ∙ here) (ap (is_known ranks) own ∙ unknown) place
+      let stands : stage_at graph.places stage.place ≡ Some stage = ap (stage_at graph.places) own ∙ here in
+      ap (λ (new : Option Done). cond (is_some stage.action) (sooner_trial place (completion_of graph target) new) None)
+      (sym (same_completion graph ranked target ranks are (fast stage) (fast_fits graph.places stage stands (sound.stages stage.place stage stands)) (ap (is_known ranks) own ∙ unknown)))
+      ∙ none_sooner (is_some stage.action) place (completion_of graph target)
 
 -- a target that is pending has no trials
 no_trial : (graph : PlainGraph) (target place : ℕ) (here : Option Stage) → completion_of graph target ≡ None → trial_of graph target place here ≡ None

@@ -1,5 +1,9 @@
+pub mod ByKey
 pub mod Changed
 pub mod Known
 pub mod Standing
+pub mod Starts
 pub mod Sweep
 pub mod Tried
+pub mod Waits
+pub mod WithStage

@@ -1,10 +1,11 @@
 //! The places that a target can wait for: itself, its feeds, their feeds, and so on. Where these have very many feeds all
 //! places stand for them.
-ghost use Rattle.std.specs.Prelude.{◌≡◌, [], ℕ, All, Contains, IfOk, IfSome, OnOk, None, replicate};
+ghost use Rattle.std.specs.Prelude.{◌≡◌, [], ◌∷◌, ℕ, All, Contains, IfOk, IfSome, OnOk, None, replicate};
 ghost use Rattle.std.specs.Option.{option_map};
 ghost use Rattle.stage_graph.specs.Plain.{feeds_at, stage_at, IsLive};
 ghost use Rattle.stage_graph.specs.Walk.{rank};
 ghost use Rattle.time_sweep.specs.Known.{AreRanksFor, IsFinding, IsFurther, IsKnown};
+ghost use Rattle.time_sweep.specs.Waits.{CanWaitFor, IsOnly};
 
 use crate::known::known_rank;
 use propagate::StateRepresentation;
@@ -58,6 +59,7 @@ impl Found {
         ensures finding { OnOk result (IsFinding version.now.graph.places self.new.ranks.items) }
         ensures further { OnOk result (IsFurther self.old.ranks.items self.old.waiting.items self.new.ranks.items self.new.waiting.items) }
         ensures known { OnOk result (IsKnown self.new.ranks.items place) }
+        ensures only { OnOk result (IsOnly self.old.ranks.items self.old.waiting.items self.new.ranks.items self.new.waiting.items (place ∷ [])) }
     {
         if known_rank(self.ranks.as_slice(), place).is_some() {
             return Ok(());
@@ -78,6 +80,7 @@ impl Found {
         ensures finding { OnOk result (IsFinding version.now.graph.places self.new.ranks.items) }
         ensures further { OnOk result (IsFurther self.old.ranks.items self.old.waiting.items self.new.ranks.items self.new.waiting.items) }
         ensures known { OnOk result (All (IsKnown self.new.ranks.items) places.now) }
+        ensures only { OnOk result (IsOnly self.old.ranks.items self.old.waiting.items self.new.ranks.items self.new.waiting.items places.now) }
     {
         for place in places {
             self.find(version, *place)?;
@@ -95,6 +98,7 @@ impl Found {
         ensures finding { OnOk result (IsFinding version.now.graph.places self.new.ranks.items) }
         ensures further { OnOk result (IsFurther self.old.ranks.items self.old.waiting.items self.new.ranks.items self.new.waiting.items) }
         ensures known { OnOk result ((feed : ℕ) → Contains (feeds_at version.now.graph.places place) feed → IsKnown self.new.ranks.items feed) }
+        ensures only { OnOk result (IsOnly self.old.ranks.items self.old.waiting.items self.new.ranks.items self.new.waiting.items (feeds_at version.now.graph.places place)) }
     {
         let Some(stage) = version.graph().stage(place) else {
             return Ok(());
@@ -139,6 +143,25 @@ fn ancestor_ranks<R: StateRepresentation>(
         found.find_feeds(version, place)?;
     }
     Ok(Some(found.ranks))
+}
+
+/// The ranks of the places that a target can wait for, and of no others.
+pub(crate) fn exact_ranks<R: StateRepresentation>(
+    alloc: Global,
+    version: &Version<R>,
+    target: u32,
+) -> Result<Vec<Option<u32>>, AllocError>
+    requires { IsLive version.now.graph.places target }
+    ensures ranks { IfOk result (λ ranks. AreRanksFor version.now.graph.places target ranks.items) }
+    ensures exact { IfOk result (λ ranks. (place : ℕ) → IsKnown ranks.items place → CanWaitFor version.now.graph.places target place) }
+{
+    let count = version.graph().len();
+    let mut found = Found::nothing(alloc, count)?;
+    found.find(version, target)?;
+    while let Some(place) = found.waiting.pop() {
+        found.find_feeds(version, place)?;
+    }
+    Ok(found.ranks)
 }
 
 /// The rank of the stage at a place; none where no stage stands.

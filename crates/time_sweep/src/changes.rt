@@ -13,10 +13,10 @@ pub(crate) struct Change {
     pub(crate) state: KeptState,
 }
 
-/// The states that a trial changes. What has a place here that names it is changed, and nothing else is: so a trial that
+/// The states that a trial changes, with room for those of one trial after another. What has a place here that names it is changed, and nothing else is: so a trial that
 /// follows another begins with an empty list, and `at` may keep what it has.
 #[derive(Drop)]
-pub(crate) struct Changes {
+pub struct Changes {
     /// Where the change of each place stands in the list, if it has one.
     pub(crate) at: Vec<u32>,
     pub(crate) list: Vec<Change>,

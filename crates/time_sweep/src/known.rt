@@ -1,31 +1,14 @@
-//! What all trials of a sweep start from: the states of the version, and the ranks of the places that matter.
+//! The states of a version, and the ranks that are known, in lists by place.
 ghost use Rattle.std.specs.Prelude.{◌≡◌, IfOk, slice_index_or, None};
 ghost use Rattle.stage_ops.specs.Java.{java_step};
 ghost use Rattle.propagate.specs.Reach.{AreStates};
 ghost use Rattle.stage_ops.specs.States.{state_at};
 ghost use Rattle.version_store.specs.Queries.{state_of};
 
-use crate::standing::Standing;
 use propagate::{KeptState, StateRepresentation};
 use stage_ops::{Reads, State};
 use std::alloc::{AllocError, Global};
 use version_store::{NoStage, Version};
-
-/// What all trials of a sweep start from.
-#[derive(Drop)]
-pub(crate) struct Start<'a> {
-    pub(crate) target: u32,
-    /// The state of each place.
-    pub(crate) before: Vec<KeptState>,
-    /// The rank of each place that the target can wait for, and maybe of others.
-    pub(crate) ranks: Vec<Option<u32>>,
-    /// What stands at these places.
-    pub(crate) standing: Vec<Option<Standing<'a>>>,
-    /// The places at which trials are made.
-    pub(crate) places: Vec<u32>,
-    /// How many of them a part has.
-    pub(crate) size: usize,
-}
 
 /// The state of a place: pending where no stage stands.
 fn state_at<R: StateRepresentation>(version: &Version<R>, place: u32) -> State

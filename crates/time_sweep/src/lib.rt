@@ -1,17 +1,25 @@
-//! Which stages are worth making faster: for each stage with an action, when another stage would complete if that action
-//! took no time. A trial keeps nothing: it computes only the stages that it can reach, and of those only the ones that the
-//! other can wait for, where these are soon found, over the states of the version. A runner makes parts of the trials
-//! beside each other.
+//! Trials: how a target completes in the graph in which one stage has changed, but for its name and its feeds. A trial keeps
+//! nothing: it computes only the stages that the changed one can reach, and of those only the ones that the target can wait
+//! for, where these are soon found, over the states of the version.
+//!
+//! And by such trials, which stages are worth making faster: for each stage with an action, when the target would complete if
+//! that action took no time. A runner makes parts of these trials beside each other.
 #![tactic(auto)]
 
 mod ancestors;
 mod changes;
-mod hurried;
+mod completion;
 mod known;
+mod parts;
 mod standing;
 mod sweep;
 mod trial;
+mod trial_start;
 mod trials;
+mod waits;
 
+pub use changes::Changes;
 pub use sweep::sweep_of;
 pub use trial::Trial;
+pub use trial_start::TrialStart;
+pub use waits::waited_for;

@@ -74,6 +74,14 @@ fn answer<'a, K: StateRepresentation, H: Threads + Wait + Copy + Drop + Send + S
             let asked = StageReport::Sweep { most };
             run_report_stage::<K, _>(rt, threads, manner, recording, stage, asked)?
         }
+        Command::Slack {
+            recording,
+            stage,
+            within,
+        } => {
+            let asked = StageReport::Slack { within };
+            run_report_stage::<K, _>(rt, threads, manner, recording, stage, asked)?
+        }
         Command::Ends { recording } => {
             run_report::<K>(rt, manner, recording, WholeReport::Ends)?
         }

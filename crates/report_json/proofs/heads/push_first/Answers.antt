@@ -39,3 +39,6 @@ returns-in-DriftAgainst c = rw c.in-DriftAgainst.is (only_row c.count-in-DriftAg
 
 pub returns-in-Sweep : goal.returns-in-Sweep
 returns-in-Sweep c = rw c.in-Sweep.is (only_row c.count-in-Sweep.result _ _ _ _ _ refl c.count-in-Sweep.ensures)
+
+pub returns-in-Slack : goal.returns-in-Slack
+returns-in-Slack c = rw c.in-Slack.is (only_row c.count-in-Slack.result _ _ _ _ _ refl c.count-in-Slack.ensures)

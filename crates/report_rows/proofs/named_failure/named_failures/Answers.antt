@@ -11,7 +11,7 @@ use Rattle.report_rows.proofs.named_failure.named_failures.Goals.{in-Some+in_ok-
 
 pub loop-failure-preserved : goal.loop-failure-preserved
 loop-failure-preserved g c =
-    let row = failure_row_at c.args.version.now.graph c.args.origin in
+    let row = failure_row_at c.args.version.now.graph c.args.arisen in
     let failures = c.as_slice-failure-items.result.now in
     let k = c.loop-failure.failure-index in
     let inv = c.loop-failure.invariant in

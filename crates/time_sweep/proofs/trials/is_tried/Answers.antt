@@ -11,14 +11,14 @@ positive : (b : Bool) → not b ≡ false → b ≡ true
 positive true is = refl
 positive false is = cc
 
-pub returns-then-is_none-clause-none : goal.returns-then-is_none-clause-none
-returns-then-is_none-clause-none g c none =
+pub returns-then-is_none : goal.returns-then-is_none
+returns-then-is_none g c none =
     let graph = c.args.version.now.graph in
     unreached_at graph c.graph-graph.ensures.ranked (subst IsSound c.graph-graph.ensures.graph c.len.ensures.sound) c.args.target c.args.ranks.now c.requires c.args.place
     (ap (λ (rank : Option ℕ). is_some rank) (sym c.known_rank.ensures) ∙ c.is_none.ensures ∙ ap not c.if-is_none.true)
 
-pub returns-clause-none : goal.returns-clause-none
-returns-clause-none g c none =
+pub returns : goal.returns
+returns g c none =
     let graph = c.args.version.now.graph in
     let stage = c.in-Some.stage.now in
     let here : stage_at graph.places c.args.place ≡ Some stage =

@@ -9,7 +9,7 @@ use Rattle.time_sweep.proofs.trials.trials_among.Goals.{in-Some+in_ok-push, in_d
 
 pub loop-place-preserved : goal.loop-place-preserved
 loop-place-preserved g c =
-    let trial = trial_at c.args.version.now.graph c.args.target in
+    let trial = trial_at c.args.version.now.graph c.args.start.now.target in
     let places = c.args.places.now in
     let k = c.loop-place.place-index in
     let inv = c.loop-place.invariant in
@@ -26,5 +26,5 @@ loop-place-preserved g c =
             (inv.found ∙ sym (append-nil (filter_map trial (take k places)))
             ∙ ap (λ (one : Option Trial). filter_map trial (take k places) ++ cons_option one []) (sym w.in_default.is ∙ c.in_ok-trial.ensures.trial) ∙ sym next)
       ];
-      each = c.in_ok-trial.ensures.each;
+      room = c.in_ok-trial.ensures.room;
     }

@@ -1,6 +1,4 @@
 use Rattle.std.proofs.Common.{arith}
-use Rattle.std.proofs.lemmas.List.Elements.{All-push}
-use Rattle.time_sweep.specs.Known.{IsKnown}
 use Rattle.time_sweep.specs.Sweep.{trial_at}
 use Rattle.time_sweep.proofs.Trying.{tried_more, tried_same}
 use Rattle.time_sweep.proofs.trials.tried_places.Goals as goal
@@ -13,14 +11,12 @@ loop-place-preserved g c =
     elim c.if-is_tried.branch [
       | then-is_tried+in_ok-push w ↦
           record {
-            known = rw (w.places-is, w.in_ok-push.ensures.items) (All-push (IsKnown c.args.ranks.now) c.loop-place.places.items c.loop-place.place inv.known (c.is_tried.ensures.known w.if-is_tried.true));
             trials = rw (w.places-is, w.in_ok-push.ensures.items) (tried_more trial c.loop-place.places.items c.loop-place.place inv.trials);
             few = rw w.places-is (omega (arith, inv.few, w.in_ok-push.ensures.len));
           }
       | else-is_tried w ↦
           record {
-            known = rw w.places-is inv.known;
-            trials = rw w.places-is (tried_same trial c.loop-place.places.items c.loop-place.place inv.trials (c.is_tried.ensures.none w.if-is_tried.false));
+            trials = rw w.places-is (tried_same trial c.loop-place.places.items c.loop-place.place inv.trials (c.is_tried.ensures w.if-is_tried.false));
             few = rw w.places-is (omega (arith, inv.few));
           }
     ]

@@ -1,0 +1,6 @@
+pub mod Changing
+pub mod Crossing
+pub mod Ending
+pub mod Gathering
+pub mod Rescuing
+pub mod Undoing
