@@ -27,7 +27,7 @@ _whatif_words() {
   for ((at = 1; at < COMP_CWORD; at++)); do
     case $closed${COMP_WORDS[at]} in
       --) closed=after- ;;
-      --top | --within | --workers | --trace | --unit | --stage | --origin | --what | --format)
+      --top | --want | --within | --by | --as | --workers | --trace | --unit | --stage | --origin | --what | --format)
         option=${COMP_WORDS[at]}
         if [ "${COMP_WORDS[at + 1]}" = = ]; then at=$((at + 1)); fi
         at=$((at + 1))
@@ -50,6 +50,7 @@ _whatif_words() {
       --trace) _whatif_traces "$1" "${file:-$(_whatif_file_behind)}" ;;
       --unit) echo us ns ms ;;
       --what) echo all path ;;
+      --want) echo value ;;
       --format)
         case $command in
           draw) echo svg trace ;;
@@ -61,8 +62,9 @@ _whatif_words() {
   elif [[ -z $closed && $typed == -?* || -z $closed && $typed == - ]]; then
     case $command in
       '') echo -h --help -V --version ;;
-      sweep) echo --top --quiet --strict --format -h --help ;;
+      sweep) echo --top --want --queued --by --quiet --strict --format -h --help ;;
       slack) echo --within --quiet --strict --format -h --help ;;
+      rescue) echo --by --as --top --quiet --strict --format -h --help ;;
       failures) echo --origin --quiet --strict --format -h --help ;;
       try) echo --stage --save --draw --quiet --strict --format -h --help ;;
       draw) echo --stage --what --format --quiet --strict -h --help ;;
@@ -74,12 +76,12 @@ _whatif_words() {
       *) echo --quiet --strict --format -h --help ;;
     esac
   elif [ -z "$command" ]; then
-    echo report explain sweep slack ends failures try draw check serve export many import help
+    echo report explain sweep slack rescue ends failures try compare draw check serve export many import help
   else
     case $command:$places in
-      help:0) echo report explain sweep slack ends failures try draw check serve export many import help ;;
-      explain:1 | sweep:1 | slack:1 | try:[1-9]*) _whatif_stages "$1" "$file" ;;
-      report:0 | explain:0 | sweep:0 | slack:0 | ends:0 | failures:0 | try:0 | draw:0 | check:0 | serve:0 | export:0 | export:1 | many:* | import:0) ;;
+      help:0) echo report explain sweep slack rescue ends failures try compare draw check serve export many import help ;;
+      explain:1 | sweep:1 | slack:1 | rescue:1 | compare:2 | try:[1-9]*) _whatif_stages "$1" "$file" ;;
+      report:0 | explain:0 | sweep:0 | slack:0 | rescue:0 | ends:0 | failures:0 | try:0 | compare:0 | compare:1 | draw:0 | check:0 | serve:0 | export:0 | export:1 | many:* | import:0) ;;
       *) echo - ;;
     esac
   fi

@@ -1,6 +1,6 @@
 # Completion of whatif for fish: put this file into ~/.config/fish/completions.
 
-set -l commands report explain sweep slack ends failures try draw check serve export many import help
+set -l commands report explain sweep slack rescue ends failures try compare draw check serve export many import help
 
 # The words after the command that are no options and no option's value.
 function __whatif_places
@@ -9,7 +9,7 @@ function __whatif_places
     set -l at 2
     while test $at -le (count $words)
         switch $words[$at]
-            case --top --within --workers --trace --unit --stage --origin --what --format
+            case --top --want --within --by --as --workers --trace --unit --stage --origin --what --format
                 set at (math $at + 1)
             case '-?*'
             case '*'
@@ -43,9 +43,11 @@ complete -c whatif -n "not __fish_seen_subcommand_from $commands" -a report -d '
 complete -c whatif -n "not __fish_seen_subcommand_from $commands" -a explain -d 'Print how a stage ended, and why it is late or pending'
 complete -c whatif -n "not __fish_seen_subcommand_from $commands" -a sweep -d 'Print which stages would make a stage complete sooner'
 complete -c whatif -n "not __fish_seen_subcommand_from $commands" -a slack -d 'Print how many ticks longer each stage may run before a stage completes otherwise'
+complete -c whatif -n "not __fish_seen_subcommand_from $commands" -a rescue -d 'Print which single changes would have made a stage complete with a value'
 complete -c whatif -n "not __fish_seen_subcommand_from $commands" -a ends -d 'Print what came of each timeout, and of each call that completes or cancels a stage'
 complete -c whatif -n "not __fish_seen_subcommand_from $commands" -a failures -d 'Print where each failure arose, which stages it reached, and which did not hand it on'
 complete -c whatif -n "not __fish_seen_subcommand_from $commands" -a try -d 'Print what would come of changes, made together'
+complete -c whatif -n "not __fish_seen_subcommand_from $commands" -a compare -d 'Print what made a stage late in one run that was not late in another'
 complete -c whatif -n "not __fish_seen_subcommand_from $commands" -a draw -d 'Write a picture of a recording'
 complete -c whatif -n "not __fish_seen_subcommand_from $commands" -a check -d 'Print every fault of a recording'
 complete -c whatif -n "not __fish_seen_subcommand_from $commands" -a serve -d 'Answer the steps that come on standard input'
@@ -56,21 +58,28 @@ complete -c whatif -n "not __fish_seen_subcommand_from $commands" -a help -d 'Pr
 complete -c whatif -n "not __fish_seen_subcommand_from help" -s h -l help -d 'Print help'
 complete -c whatif -n "not __fish_seen_subcommand_from $commands" -s V -l version -d 'Print the version'
 
-complete -c whatif -n "__fish_seen_subcommand_from report explain sweep slack ends failures try draw check serve export import; and __whatif_has_places 0" -F
-complete -c whatif -n "__fish_seen_subcommand_from export; and __whatif_has_places 1" -F
-complete -c whatif -n "__fish_seen_subcommand_from explain sweep slack try; and __whatif_has_places 1" -a '(__whatif_stages)'
+complete -c whatif -n "__fish_seen_subcommand_from report explain sweep slack rescue ends failures try compare draw check serve export import; and __whatif_has_places 0" -F
+complete -c whatif -n "__fish_seen_subcommand_from compare export; and __whatif_has_places 1" -F
+complete -c whatif -n "__fish_seen_subcommand_from explain sweep slack rescue try; and __whatif_has_places 1" -a '(__whatif_stages)'
+complete -c whatif -n "__fish_seen_subcommand_from compare; and __whatif_has_places 2" -a '(__whatif_stages)'
 complete -c whatif -n "__fish_seen_subcommand_from sweep" -l top -x -d 'Print the first N stages alone'
+complete -c whatif -n "__fish_seen_subcommand_from sweep" -l want -x -a value -d 'Print the stages alone by which the stage then completes with a value'
+complete -c whatif -n "__fish_seen_subcommand_from sweep" -l queued -d 'Make the queues alone shorter'
+complete -c whatif -n "__fish_seen_subcommand_from sweep" -l by -x -d 'Leave P percent of the times'
 complete -c whatif -n "__fish_seen_subcommand_from slack" -l within -x -d 'Print the stages alone that may run no more than D ticks longer'
+complete -c whatif -n "__fish_seen_subcommand_from rescue" -l by -x -d 'The tick by which the stage is to have a value'
+complete -c whatif -n "__fish_seen_subcommand_from rescue" -l as -x -d 'The value that stands in place of an exception'
+complete -c whatif -n "__fish_seen_subcommand_from rescue" -l top -x -d 'Print the first N changes alone'
 complete -c whatif -n "__fish_seen_subcommand_from failures" -l origin -x -a '(__whatif_stages)' -d 'Print the failure that arose in this stage alone'
-complete -c whatif -n "__fish_seen_subcommand_from report explain sweep slack ends failures try draw serve export many import" -l quiet -d 'Leave explanations and warnings out'
-complete -c whatif -n "__fish_seen_subcommand_from report explain sweep slack ends failures try draw check serve export many" -l strict -d 'End with status 1 where there is a warning'
+complete -c whatif -n "__fish_seen_subcommand_from report explain sweep slack rescue ends failures try compare draw serve export many import" -l quiet -d 'Leave explanations and warnings out'
+complete -c whatif -n "__fish_seen_subcommand_from report explain sweep slack rescue ends failures try compare draw check serve export many" -l strict -d 'End with status 1 where there is a warning'
 complete -c whatif -n "__fish_seen_subcommand_from try" -l stage -x -a '(__whatif_stages)' -d 'Tell what comes of it for this stage'
 complete -c whatif -n "__fish_seen_subcommand_from try" -l save -d 'Write the recording that the changes make'
 complete -c whatif -n "__fish_seen_subcommand_from try" -l draw -d 'Write a picture of what the changes make'
 complete -c whatif -n "__fish_seen_subcommand_from draw" -l stage -x -a '(__whatif_stages)' -d 'Draw the path of this stage'
 complete -c whatif -n "__fish_seen_subcommand_from draw" -l what -x -a 'all path' -d 'Which stages have a row'
 complete -c whatif -n "__fish_seen_subcommand_from draw" -l format -x -a 'svg trace' -d 'An SVG file, or trace events'
-complete -c whatif -n "__fish_seen_subcommand_from report explain sweep slack ends failures try serve many import" -l format -x -a 'text json' -d 'Text for people, or JSON for programs'
+complete -c whatif -n "__fish_seen_subcommand_from report explain sweep slack rescue ends failures try compare serve many import" -l format -x -a 'text json' -d 'Text for people, or JSON for programs'
 complete -c whatif -n "__fish_seen_subcommand_from many" -F
 complete -c whatif -n "__fish_seen_subcommand_from many" -l workers -x -a '(seq 16)' -d 'How many threads compute for each script'
 complete -c whatif -n "__fish_seen_subcommand_from import" -l list -d 'Print which traces the file has'

@@ -8,7 +8,7 @@ import re
 from .run import Case, complaint, run, shown
 from .schema import Schemas
 
-ASKED = ("report", "explain", "sweep", "slack", "ends", "failures", "try", "serve", "many")
+ASKED = ("report", "explain", "sweep", "slack", "rescue", "ends", "failures", "try", "compare", "serve", "many")
 
 
 def value(content):
@@ -97,7 +97,9 @@ def of_path(told):
 
 
 def of_sweep(told):
-    yield f"sweep of {told['target']} {at(told['moment'])} stages {told['count']}"
+    left = told.get("hundredths", {})
+    haste = "".join([" with", *[f" {it}={left[it]}%" for it in left]]) if left else ""
+    yield f"sweep of {told['target']} {at(told['moment'])}{haste} stages {told['count']}"
     for trial in told["trials"]:
         yield f"{trial['stage']} sooner {trial['sooner']} -> {outcome(trial['outcome'])} at {trial['moment']}"
 
@@ -110,6 +112,49 @@ def of_slack(told):
     yield f"slack of {told['stage']} {at(told['moment'])} stages {told['count']}"
     for stage in told["stages"]:
         yield f"{stage['name']} slack {or_dash(stage['slack'])} start {stage['start']} latest {or_dash(stage['latest'])}"
+
+
+def tried_change(change):
+    """A change of a stage, as an assignment of `try` where there is one that makes it."""
+    match change["kind"]:
+        case "noTime":
+            return "runs=0"
+        case "notQueued":
+            return "queued=0"
+        case "noFailure":
+            return f"gives={value(change['value'])}"
+    end = f"{change['do']}{'' if change['delay'] is None else ' ' + str(change['delay'])} set at {change['at']}"
+    if change["kind"] == "withoutEnd":
+        return "unlimited" if change["only"] else f"without {end}"
+    return f"limit={change['longer']}" if change["only"] else f"{end} -> {change['longer']}"
+
+
+def of_rescue(told):
+    has_replied = told["outcome"] is not None and "value" in told["outcome"] and (told["by"] is None or told["moment"] <= told["by"])
+    yield f"rescue of {told['stage']} {state(told)}: {'none needed' if has_replied else str(told['count']) + ' of ' + str(told['tried']) + ' changes'}"
+    for rescue in told["rescues"]:
+        yield f"{rescue['name']} {tried_change(rescue['change'])} -> value:{value(rescue['value'])} at {rescue['moment']}"
+
+
+def signed(good, bad):
+    return "-" if None in (good, bad) else f"{bad - good:+}"
+
+
+def result(content):
+    return "pending" if content["outcome"] is None else outcome(content["outcome"])
+
+
+def difference(stage):
+    good, bad = stage["good"], stage["bad"]
+    if good is None or bad is None:
+        return f"{stage['name']} only in {'BAD' if good is None else 'GOOD'}"
+    share = " ".join(f"{it} {signed(good[it], bad[it])}" for it in ("queued", "ran"))
+    return f"{stage['name']} {share} at {signed(good['moment'], bad['moment'])} {result(good)} -> {result(bad)}"
+
+
+def of_differences(told):
+    yield f"differences of {told['stage']} at {signed(told['good']['moment'], told['bad']['moment'])} stages {len(told['stages'])}"
+    yield from map(difference, told["stages"])
 
 
 def of_changes(told):
@@ -167,7 +212,7 @@ def of_recording(told):
     yield "]}"
 
 
-REPORTS = {"all": of_all, "one": of_one, "blame": of_blame, "path": of_path, "sweep": of_sweep, "slack": of_slack, "changes": of_changes, "drift": of_drift, "times": of_times, "recording": of_recording, "ends": of_ends, "failures": of_failures, "change": of_change}
+REPORTS = {"all": of_all, "one": of_one, "blame": of_blame, "path": of_path, "sweep": of_sweep, "slack": of_slack, "rescue": of_rescue, "changes": of_changes, "drift": of_drift, "times": of_times, "recording": of_recording, "ends": of_ends, "failures": of_failures, "change": of_change, "differences": of_differences}
 DETAILS = ("dependent", "member", "head", "version")
 
 

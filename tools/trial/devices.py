@@ -12,6 +12,8 @@ import tempfile
 from dataclasses import dataclass, replace
 
 from .cases import FIRST_RUN, NO_READ, OPEN, R, SCRIPTS, lines, step
+from .rescue import SAVED_B
+from .compare import OF_ITSELF
 from .run import first_difference, shown
 from .slack import TOLD_OF_B
 from .tried import HALF
@@ -180,11 +182,14 @@ def commands():
         Played("report of a file", ["report", "r.json"], "r.json", FIRST_RUN),
         Played("report of standard input", ["report"], "r.json", FIRST_RUN, stdin="r.json"),
         Played("explain", ["explain", "r.json", "b"], "r.json", EXPLAINED_B),
+        Played("explain without a stage", ["explain", "--quiet", "r.json"], "r.json", EXPLAINED_B),
         Played("sweep", ["sweep", "r.json", "b"], "r.json", lines(*SWEPT_B)),
         Played("slack", ["slack", "r.json", "b"], "r.json", TOLD_OF_B),
+        Played("rescue", ["rescue", "--by", "14", "r.json", "b"], "r.json", SAVED_B),
         Played("ends", ["ends", "r.json"], "r.json", "ends of version 0 ends 0\n"),
         Played("failures", ["failures", "--origin", "a", "r.json"], "r.json", "failures of version 0 failures 0\n"),
         Played("try", ["try", "--stage", "b", "r.json", "a runs=50%"], "r.json", HALF),
+        Played("compare", ["compare", "-", "r.json", "b"], "r.json", OF_ITSELF, stdin="r.json"),
         Played("draw", ["draw", "r.json", "--format", "trace", "--what", "path", "--stage", "a"], "r.json", None),
         Played("import", ["import", "--quiet", "s"], "s", None, files={"s": SPAN}),
     ]

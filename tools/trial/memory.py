@@ -5,9 +5,11 @@ import shlex
 import sys
 
 from .cases import FIRST_RUN, R, SCRIPTS, lines, recording, stage
+from .compare import OF_ITSELF, chain_compared
 from .exports import chain_written
 from .failures import failed_fan, fan_of_failures
 from .limits import chain_of, chain_report
+from .rescue import SAVED_B
 from .run import LANES, Case, refusals, run, shown
 from .slack import TOLD_OF_B
 from .tried import HALF
@@ -30,11 +32,17 @@ COMMANDS = [
     Case("report of 4,096 stages", ["report", "large"], chain_report(STAGES), files={"large": chain_of(STAGES)}),
     Case("explain", ["explain", "r.json", "b"], EXPLAINED_B, files={"r.json": R}),
     Case("explain of 4,096 stages", ["explain", "large", f"s{STAGES - 1}"], chain_explained(STAGES), files={"large": chain_of(STAGES)}),
+    Case("explain without a stage", ["explain", "--quiet", "r.json"], EXPLAINED_B, files={"r.json": R}),
     Case("sweep", ["sweep", "r.json", "b"], SWEPT, files={"r.json": R}),
+    Case("sweep by no percentage", ["sweep", "--by", "100%", "r.json", "b"], "", 2, files={"r.json": R}),
     Case("slack", ["slack", "r.json", "b"], TOLD_OF_B, files={"r.json": R}),
+    Case("rescue", ["rescue", "--by", "14", "r.json", "b"], SAVED_B, files={"r.json": R}),
     Case("ends", ["ends"], lines("ends of version 0 ends 4096", *[f"m{it} cancel at {it} struck" for it in range(STAGES)]), stdin=recording(*[stage("manual", f"m{it}", ends=[{"at": it, "do": "cancel"}]) for it in range(STAGES)])),
     Case("failures", ["failures"], fan_of_failures(STAGES), stdin=failed_fan(STAGES)),
     Case("try", ["try", "--quiet", "r.json", "a runs=50%"], HALF, files={"r.json": R}),
+    Case("compare", ["compare", "r.json", "-", "b"], OF_ITSELF, files={"r.json": R}, stdin=R),
+    Case("compare of 4,096 stages without a stage", ["compare", "--quiet", "large", "large"], chain_compared(STAGES), files={"large": chain_of(STAGES)}),
+    Case("compare of 4,096 stages", ["compare", "large", "large", f"s{STAGES - 1}"], chain_compared(STAGES), files={"large": chain_of(STAGES)}),
     Case("serve", ["serve", "r.json"], ANSWERS, files={"r.json": R}, stdin=lines(*STEPS)),
     # (the last version of the script has a bare pin)
     Case("export", ["export", "r.json", "s"], lines(RECORDED, '{"name":"a","op":"async","runs":10,"action":4,"pinResult":{"bare":"X"}},', RECORDED_B, "]}"), files={"r.json": R, "s": lines(*STEPS)}),

@@ -6,7 +6,7 @@ import shlex
 
 from .run import Case
 
-COMMAND = re.compile(r"(?<!\| )\./whatif (report|explain|sweep|slack|ends|failures|try|serve|export|many|import|draw)((?: (?:[\w./-]+|'[^'\n]*'))+)(?: < (examples/[\w.-]+))?")
+COMMAND = re.compile(r"(?<!\| )\./whatif (report|explain|sweep|slack|rescue|ends|failures|try|compare|serve|export|many|import|draw)((?: (?:[\w./-]+|'[^'\n]*'))+)(?: < (examples/[\w.-]+))?")
 BLOCK = re.compile(r"^```(\w*)\n(.*?)^```$", re.M | re.S)
 PAGES = ("README.md", os.path.join("docs", "TOUR.md"))
 

@@ -5,6 +5,7 @@ import json
 import random
 
 from .answers import as_json, text_of
+from .asking import Asking
 from .cases import MOST_TICKS, NO_READ, R, lines, recording, stage, with_r
 from .courses import timeout
 from .limits import MOST_RECORDING, chain_of, filled
@@ -20,11 +21,11 @@ UNREAD = R.replace('"op"', '"queue":1,"op"', 1)
 HELP_OF_SLACK = help_of("""\
 Prints how many ticks longer each stage may run before a stage completes otherwise
 
-Usage: PROGRAM slack [OPTIONS] <FILE> <STAGE>
+Usage: PROGRAM slack [OPTIONS] <FILE> [STAGE]
 
 Arguments:
   <FILE>   the recording; - is standard input
-  <STAGE>  the stage
+  [STAGE]  the stage; where it is left out, the one that completes last of those on which no other waits
 
 Options:
       --within <D>       print the stages alone that may run no more than D ticks longer, from 0 to 2^40
@@ -166,8 +167,7 @@ EACH_AS_JSON = (
 
 def refused_words():
     for name, words, err in (
-        ("without a file", [], f"(?s){MISSING}.*<FILE>.*<STAGE>"),
-        ("without a stage", ["r.json"], f"(?s){MISSING}.*<STAGE>"),
+        ("without a file", [], f"(?s){MISSING}.*<FILE>"),
         ("of two stages", ["r.json", "a", "b"], "'b'"),
         ("with an unknown option", ["--nonsense", "r.json", "a"], "nonsense"),
         ("of a stage that is no text", ["r.json", b"\xff"], r"\S"),
@@ -240,41 +240,6 @@ def slack_cases():
 # ---- once more, by scripts
 
 
-class Asking:
-    """What a stage of a recording comes to where another one runs longer, by `setTimes` and `one` of scripts."""
-
-    def __init__(self, program, text, target):
-        self.program, self.text, self.target = program, text, target
-        self.stages = {it["name"]: it for it in json.loads(text)["stages"]}
-        (times,) = self.told([{"do": "report", "version": 0, "what": "times"}])
-        self.times = {it["name"]: it for it in times["stages"]}
-        (self.before,) = self.completions([])
-
-    def told(self, steps):
-        script = "".join(json.dumps(it) + "\n" for it in steps)
-        out = run(self.program, Case("asked", ["serve", "--format", "json", "r.json"], None, stdin=script, files={"r.json": self.text}, seconds=120)).out
-        return [told for told in map(json.loads, out.splitlines()) if "report" in told]
-
-    def completions(self, longer):
-        """How the target completes as it is, or where each of these stages by itself runs so many ticks longer."""
-        asked = {"do": "report", "session": 1, "what": "one", "stage": self.target}
-        steps = [{"do": "open", "session": 1, "version": 0}]
-        for name, ticks in longer:
-            here = self.times[name]
-            steps += [{"do": "setTimes", "session": 1, "stage": name, "queued": here["queued"], "runs": here["runs"] + ticks}, asked, {"do": "undo", "session": 1}]
-        return [(it["outcome"], it["moment"]) for it in self.told(steps if longer else [*steps, asked])]
-
-    def waited_for(self):
-        """The stages that the target can wait for and whose action has started, by place."""
-        met, left = set(), [self.target]
-        while left:
-            name = left.pop()
-            if name not in met:
-                met.add(name)
-                left += self.stages[name].get("sources", []) + self.stages[name].get("inner", [])
-        return [it for it in self.stages if it in met and "action" in self.stages[it] and self.times[it]["start"] is not None]
-
-
 def search(most):
     """Asks of ticks whether the target stays, and returns the most; none where it stays with as many as there may be."""
     if (yield most):
@@ -295,7 +260,7 @@ def found(asking):
     searches = {it: search(MOST_TICKS - asking.times[it]["runs"]) for it in asking.waited_for()}
     asked, slacks = {name: next(it) for name, it in searches.items()}, {}
     while asked:
-        met = dict(zip(asked, asking.completions(list(asked.items()))))
+        met = dict(zip(asked, asking.completions([(it, asking.times[it]["queued"], asking.times[it]["runs"] + ticks) for it, ticks in asked.items()])))
         for name in list(asked):
             try:
                 asked[name] = searches[name].send(met[name] == asking.before)

@@ -304,7 +304,7 @@ def traces(top, program):
     for name, unit in (("search.zipkin.trace", "us"), ("pay.jaeger.trace", "us"), ("order.otlp.trace", "us"), ("late-order.otlp.trace", "ms")):
         came = run(program, Case(name, ["import", "--unit", unit, "-"], None, stdin=read(top, f"examples/{name}")))
         yield f"docs/TRACES.md shows the recording of {name}", unshown(came.out, page), set()
-    told = run(program, Case("explain", ["explain", "-", "shop.POST-order"], None, stdin=came.out))
+    told = run(program, Case("explain", ["explain", "-"], None, stdin=came.out))
     tour = read(top, "docs/TOUR.md")
     yield "docs/TOUR.md shows why the traced order was late", unshown(told.out, tour), set()
     script = read(top, "examples/late-order.script")

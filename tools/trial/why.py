@@ -34,9 +34,11 @@ Commands:
   explain   Prints how a stage ended, which failure it hands on, or which failures it was spared, and why it completed when it did or is pending
   sweep     Prints which stages would make a stage complete sooner if they took no time
   slack     Prints how many ticks longer each stage may run before a stage completes otherwise
+  rescue    Prints which single changes would have made a stage complete with a value, in time if a tick is given
   ends      Prints what came of each timeout, and of each call that completes or cancels a stage
   failures  Prints where each failure arose, which stages it reached, and which read it and didn't hand it on
   try       Prints what would come of changes, made together
+  compare   Prints what made a stage late in one run that was not late in another: its path in both, and the stages in which they differ
   draw      Writes a picture of a recording: when each stage waited, was queued, ran and completed
   check     Prints every fault of a recording, and every member that nothing reads
   serve     Answers the steps that come on standard input, one to a line, about a recording
@@ -79,11 +81,11 @@ The lines: docs/FORMATS.md, Reports.
 HELP_OF_EXPLAIN = help_of("""\
 Prints how a stage ended, which failure it hands on, or which failures it was spared, and why it completed when it did or is pending
 
-Usage: PROGRAM explain [OPTIONS] <FILE> <STAGE>
+Usage: PROGRAM explain [OPTIONS] <FILE> [STAGE]
 
 Arguments:
   <FILE>   the recording; - is standard input
-  <STAGE>  the stage
+  [STAGE]  the stage; where it is left out, the one that completes last of those on which no other waits
 
 Options:
       --quiet            leave explanations and warnings out
@@ -100,14 +102,17 @@ The lines: docs/FORMATS.md, Reports.
 HELP_OF_SWEEP = help_of("""\
 Prints which stages would make a stage complete sooner if they took no time
 
-Usage: PROGRAM sweep [OPTIONS] <FILE> <STAGE>
+Usage: PROGRAM sweep [OPTIONS] <FILE> [STAGE]
 
 Arguments:
   <FILE>   the recording; - is standard input
-  <STAGE>  the stage
+  [STAGE]  the stage; where it is left out, the one that completes last of those on which no other waits
 
 Options:
       --top <N>          print the first N stages alone
+      --want <ENDING>    print the stages alone by which the stage then completes with a value [possible values: value]
+      --queued           make the queues alone shorter: each action runs as long as it does
+      --by <P%>          leave P percent of the times, rounded down, from 0% to 99%; where it is left out, none
       --quiet            leave explanations and warnings out
       --strict           end with status 1 where there is a warning
       --format <FORMAT>  text for people, or json for programs: a line for each answer, which is one object [default: text] [possible values: text, json]
@@ -116,6 +121,7 @@ Options:
 Examples:
   whatif sweep examples/late-reply.json reply
   whatif sweep --top 3 examples/late-reply.json reply
+  whatif sweep --want value --queued --by 50% examples/late-reply.json reply
 
 The lines: docs/FORMATS.md, Reports.
 """)
@@ -285,13 +291,12 @@ COMMAND_LINES = [
         for name, text in (("report", HELP_OF_REPORT), ("explain", HELP_OF_EXPLAIN), ("sweep", HELP_OF_SWEEP), ("ends", HELP_OF_ENDS), ("failures", HELP_OF_FAILURES), ("try", HELP_OF_TRY), ("draw", HELP_OF_DRAW), ("check", HELP_OF_CHECK), ("export", HELP_OF_EXPORT), ("import", HELP_OF_IMPORT))
         for words in ([name, "--help"], [name, "-h"], ["help", name])
     ],
-    Case("no word names the subcommands", [], "", 2, err="report, explain, sweep, slack, ends, failures, try, draw, check, serve, export, many, import, help"),
+    Case("no word names the subcommands", [], "", 2, err="report, explain, sweep, slack, rescue, ends, failures, try, compare, draw, check, serve, export, many, import, help"),
     *[
         case
         for name in ("explain", "sweep")
         for case in (
-            Case(f"{name} without a file", [name], "", 2, err=f"(?s){MISSING}.*<FILE>.*<STAGE>"),
-            Case(f"{name} without a stage", [name, "r.json"], "", 2, err=f"(?s){MISSING}.*<STAGE>"),
+            Case(f"{name} without a file", [name], "", 2, err=f"(?s){MISSING}.*<FILE>"),
             Case(f"{name} of two stages", [name, "r.json", "a", "b"], "", 2, err="'b'"),
             Case(f"{name} with an unknown option", [name, "--nonsense", "r.json", "a"], "", 2, err="nonsense"),
             Case(f"{name} of a stage that is no text", [name, "r.json", b"\xff"], "", 2, err=r"\S"),
@@ -388,7 +393,7 @@ TOLD = [
         + ["join throws java.util.concurrent.CompletionException cause java.util.concurrent.TimeoutException", "blame a", "path of a at 9 stages 1", "a at 9 ended by orTimeout"],
     ),
     ("an end", "sweep", TIMED_OUT, "a", ["sweep of a at 9 stages 1", "a sooner 9 -> value:1 at 0"]),
-    ("another outcome", "sweep", EITHER, "e", ["sweep of e at 4 stages 3", "y sooner 4 -> wrapped:X at 0", "x sooner 3 -> value:1 at 1", "e sooner 1 -> value:1 at 3"]),
+    ("another outcome", "sweep", EITHER, "e", ["sweep of e at 4 stages 3", "x sooner 3 -> value:1 at 1", "e sooner 1 -> value:1 at 3", "y sooner 4 -> wrapped:X at 0"]),
     (
         "two stages at one tick by place",
         "sweep",
@@ -426,7 +431,7 @@ LATE_REPLY = [
     (["sweep", "stock-north"], ["sweep of stock-north at 121 stages 1", "stock-north sooner 100 -> value:12 at 21"]),
     (
         ["sweep", "stock"],
-        ["sweep of stock at 59 stages 5", "stock-south sooner 38 -> wrapped:com.shop.StockServiceDown at 21", "stock-north sooner 37 -> value:12 at 22"]
+        ["sweep of stock at 59 stages 5", "stock-north sooner 37 -> value:12 at 22", "stock-south sooner 38 -> wrapped:com.shop.StockServiceDown at 21"]
         + [f"{who} sooner {ticks} -> wrapped:com.shop.StockServiceDown at {59 - ticks}" for who, ticks in (("basket", 13), ("session", 6), ("request", 2))],
     ),
     (["sweep", "customer"], ["sweep of customer at 114 stages 1", "customer-database sooner 102 -> value:17 at 12"]),

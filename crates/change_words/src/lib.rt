@@ -21,3 +21,4 @@ pub use change::Change;
 pub use fault::{MakingFault, Misread, ReadFault, Wrong};
 pub use key::{KEYS, Key};
 pub use making::edits_of;
+pub use number::value_of;

@@ -51,7 +51,7 @@ fn signed_of(text: &str) -> Result<i64, Wrong>
 }
 
 /// A number, or `null`.
-pub(crate) fn value_of(text: &str) -> Result<Value, Wrong>
+pub fn value_of(text: &str) -> Result<Value, Wrong>
     ensures { result ≡ value_of text.now }
 {
     if text == "null" {

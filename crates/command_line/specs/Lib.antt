@@ -1,2 +1,3 @@
 pub mod Words
+pub mod Percents
 pub mod Subcommands

@@ -1,16 +1,18 @@
 -- The words for what the program can be told to do.
 use Rattle.std.specs.Prelude.{ℕ, List, codes}
 use Rattle.command_line.specs.declared.subcommand.Subcommand.{Subcommand}
-use Rattle.command_line.specs.declared.subcommand.Subcommand.TheVariants.{Report, Explain, Sweep, Slack, Ends, Failures, Try, Draw, Check, Serve, Export, Many, Import}
+use Rattle.command_line.specs.declared.subcommand.Subcommand.TheVariants.{Report, Explain, Sweep, Slack, Rescue, Ends, Failures, Try, Compare, Draw, Check, Serve, Export, Many, Import}
 
 abbrev pub word_of : Subcommand → List ℕ
 word_of Report = codes "report"
 word_of Explain = codes "explain"
 word_of Sweep = codes "sweep"
 word_of Slack = codes "slack"
+word_of Rescue = codes "rescue"
 word_of Ends = codes "ends"
 word_of Failures = codes "failures"
 word_of Try = codes "try"
+word_of Compare = codes "compare"
 word_of Draw = codes "draw"
 word_of Check = codes "check"
 word_of Serve = codes "serve"

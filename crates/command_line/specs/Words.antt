@@ -9,6 +9,8 @@ use Rattle.command_line.specs.declared.picture.PictureFormat.{PictureFormat}
 use Rattle.command_line.specs.declared.picture.PictureFormat.TheVariants.{Svg, TraceEvents}
 use Rattle.command_line.specs.declared.picture.Rows.{Rows}
 use Rattle.command_line.specs.declared.picture.Rows.TheVariants as rows
+use Rattle.command_line.specs.declared.sweep.Ending.{Ending}
+use Rattle.command_line.specs.declared.sweep.Ending.TheVariants.{Any, Value}
 use Rattle.command_line.specs.declared.traces.Unit.{Unit}
 use Rattle.command_line.specs.declared.traces.Unit.TheVariants.{Microsecond, Nanosecond, Millisecond}
 use Rattle.command_line.specs.declared.traces.Reading.{Reading}
@@ -44,6 +46,10 @@ unit_of (Some word) =
     if bytes_eq word (codes "ns") then Nanosecond
     else if bytes_eq word (codes "ms") then Millisecond
     else Microsecond
+
+abbrev pub ending_of : Option (List ℕ) → Ending
+ending_of None = Any
+ending_of (Some word) = if bytes_eq word (codes "value") then Value else Any
 
 abbrev pub reading_of : Option (List ℕ) → Reading
 reading_of None = Inferred

@@ -16,7 +16,7 @@ pub(crate) struct Argument {
     pub(crate) takes: Takes,
 }
 
-/// What an argument takes. The first seven are options, whose name stands after two dashes, the others are told by their place.
+/// What an argument takes. The first nine are options, whose name stands after two dashes, the others are told by their place.
 #[derive(Clone, Copy)]
 pub(crate) enum Takes {
     /// Nothing: it is there or not.
@@ -31,6 +31,10 @@ pub(crate) enum Takes {
     Number(&'static str, Option<u8>),
     /// A number of ticks, no more than a recording may say.
     Ticks(&'static str),
+    /// A text that may be a number below 0.
+    Value(&'static str),
+    /// One of these words, or none.
+    MaybeWord(&'static str, &'static [&'static str]),
     /// One of the words, the first where it is left out.
     OneOf(&'static str, Choice),
     /// A text that may be left out.
@@ -73,6 +77,16 @@ pub(crate) fn arg_of<'a>(alloc: Global, argument: Argument) -> Result<Arg<'a>, A
         }
         Takes::Number(value, most) => number(arg.long(argument.name).value_name(value), most),
         Takes::Ticks(value) => ticks(arg.long(argument.name).value_name(value)),
+        Takes::Value(value) => {
+            arg.long(argument.name)
+                .value_name(value)
+                .allow_negative_numbers(true)
+        }
+        Takes::MaybeWord(value, words) => {
+            arg.long(argument.name)
+                .value_name(value)
+                .value_parser(words)
+        }
         Takes::OneOf(value, choice) => one_of(arg.long(argument.name).value_name(value), choice),
         Takes::MaybeOne => arg,
         Takes::One => arg.required(true),

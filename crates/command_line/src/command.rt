@@ -3,11 +3,12 @@ use crate::input::Input;
 use crate::manner::Manner;
 use crate::picture::Picture;
 use crate::scripts::Scripts;
+use crate::sweep::Sweep;
 use crate::traces::{Mapping, Wanted};
 use crate::trial::Trial;
 
 /// What the program is told to do. A recording by a path alone stands in a file, as standard input has the script or is not
-/// read.
+/// read. Where no `stage` is named, the one is meant that completes last of those on which no other waits.
 #[derive(Debug, Drop)]
 pub enum Command<'a> {
     /// To print each stage of a recording.
@@ -17,20 +18,29 @@ pub enum Command<'a> {
     /// To print how a stage ended, and why.
     Explain {
         recording: Input<'a>,
-        stage: &'a str,
+        stage: Option<&'a str>,
     },
-    /// To print which stages would make a stage complete sooner, and no more of them than `most`.
+    /// To print which stages would make a stage complete sooner.
     Sweep {
         recording: Input<'a>,
-        stage: &'a str,
-        most: Option<usize>,
+        stage: Option<&'a str>,
+        sweep: Sweep,
     },
     /// To print how many ticks longer each stage may run before a stage completes otherwise, and where `within` names ticks those
     /// alone that may run no more than these longer.
     Slack {
         recording: Input<'a>,
-        stage: &'a str,
+        stage: Option<&'a str>,
         within: Option<u64>,
+    },
+    /// To print which single changes would have made a stage complete with a value, by the tick `by` where that is given, and no
+    /// more of them than `most`. The word `value` says which value stands in place of an exception, and is yet to be read.
+    Rescue {
+        recording: Input<'a>,
+        stage: Option<&'a str>,
+        by: Option<u64>,
+        value: Option<&'a str>,
+        most: Option<usize>,
     },
     /// To print what came of each end: of each timeout, and of each call that completes or cancels a stage.
     Ends {
@@ -45,6 +55,13 @@ pub enum Command<'a> {
     Try {
         recording: Input<'a>,
         trial: Trial<'a>,
+    },
+    /// To print in which stages two recordings differ, a good one and a bad one, and the path of a stage in both. Where none is
+    /// named, that of the bad one is meant.
+    Compare {
+        good: Input<'a>,
+        bad: Input<'a>,
+        stage: Option<&'a str>,
     },
     /// To write a picture of a recording.
     Draw {

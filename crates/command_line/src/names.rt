@@ -2,6 +2,10 @@
 
 pub(crate) const FILE: &str = "FILE";
 
+pub(crate) const GOOD: &str = "GOOD";
+
+pub(crate) const BAD: &str = "BAD";
+
 pub(crate) const STAGE: &str = "STAGE";
 
 pub(crate) const SCRIPT: &str = "SCRIPT";
@@ -14,8 +18,20 @@ pub(crate) const FORMAT: &str = "format";
 
 pub(crate) const TOP: &str = "top";
 
+/// How the stage is to end in the trials that are printed.
+pub(crate) const WANT: &str = "want";
+
+/// Whether actions are queued for less time in trials and run as long as they do.
+pub(crate) const QUEUED: &str = "queued";
+
 /// The most ticks longer of what is printed.
 pub(crate) const WITHIN: &str = "within";
+
+/// By which tick there is to be a value; how many hundredths are left of the times of actions in trials.
+pub(crate) const BY: &str = "by";
+
+/// The value in place of an exception.
+pub(crate) const AS: &str = "as";
 
 pub(crate) const WORKERS: &str = "workers";
 

@@ -1,7 +1,9 @@
 //! From the words of the command line to what they ask for.
-ghost use Rattle.std.specs.Prelude.{◌≡◌, codes, None, Some, false, true, option_map};
+ghost use Rattle.std.specs.Prelude.{◌≡◌, codes, None, Some, false, true, option_map, IfOk};
 ghost use Rattle.clap.specs.Matches.{first_value, found_of, one_text};
-ghost use Rattle.command_line.specs.Words.{drawn_of, format_of, path_of, picture_format_of, reading_of, rows_of, told_of, unit_of, wanted_path};
+ghost use Rattle.command_line.specs.Percents.{percent_asked, percent_in};
+ghost use Rattle.command_line.specs.Words.{drawn_of, ending_of, format_of, path_of, picture_format_of, reading_of, rows_of, told_of, unit_of, wanted_path};
+ghost use Rattle.command_line.specs.declared.sweep.Part.TheVariants.{Both, Queue};
 ghost use Rattle.command_line.specs.declared.traces.Wanted.TheVariants.{List, Each};
 ghost use Rattle.command_line.specs.declared.trial.Asked.TheVariants.{Recording};
 
@@ -9,13 +11,17 @@ use crate::command::{Command, CommandLine};
 use crate::input::Input;
 use crate::manner::{Format, Manner};
 use crate::names;
+use crate::percent::percent_in;
 use crate::picture::{Picture, PictureFormat, Rows};
 use crate::scripts::Scripts;
-use crate::subcommand::{Subcommand, command};
+use crate::subcommand::Subcommand;
+use crate::subcommand_words::{command, described};
+use crate::sweep::{Ending, Part, Sweep};
 use crate::traces::{Mapping, Reading, Unit, Wanted};
 use crate::trial::{Asked, Trial};
 use crate::words::MOST_WORKERS;
 use clap::ArgMatches;
+use clap::error::ErrorKind;
 use level_pool::Workers;
 use std::alloc::{AllocError, Global};
 
@@ -81,17 +87,24 @@ fn command_of<'a>(
         },
         Subcommand::Explain => Command::Explain {
             recording: input_of(matches),
-            stage: stage_of(matches)?,
+            stage: stage_of(matches),
         },
         Subcommand::Sweep => Command::Sweep {
             recording: input_of(matches),
-            stage: stage_of(matches)?,
-            most: matches.get_one::<usize>(names::TOP),
+            stage: stage_of(matches),
+            sweep: sweep_of(alloc, matches)?,
         },
         Subcommand::Slack => Command::Slack {
             recording: input_of(matches),
-            stage: stage_of(matches)?,
+            stage: stage_of(matches),
             within: matches.get_one::<u64>(names::WITHIN),
+        },
+        Subcommand::Rescue => Command::Rescue {
+            recording: input_of(matches),
+            stage: stage_of(matches),
+            by: matches.get_one::<u64>(names::BY),
+            value: matches.get_str(names::AS),
+            most: matches.get_one::<usize>(names::TOP),
         },
         Subcommand::Ends => Command::Ends {
             recording: input_of(matches),
@@ -103,6 +116,11 @@ fn command_of<'a>(
         Subcommand::Try => Command::Try {
             recording: input_of(matches),
             trial: trial_of(alloc, matches)?,
+        },
+        Subcommand::Compare => Command::Compare {
+            good: good_of(matches),
+            bad: bad_of(matches),
+            stage: stage_of(matches),
         },
         Subcommand::Draw => Command::Draw {
             recording: input_of(matches),
@@ -152,12 +170,81 @@ fn input_of<'a>(matches: &ArgMatches<'a>) -> Input<'a>
     Input::of(matches.get_str(names::FILE))
 }
 
+fn good_of<'a>(matches: &ArgMatches<'a>) -> Input<'a>
+    ensures { path_of result ≡ wanted_path (first_value (found_of matches.now) (codes "GOOD")) }
+{
+    Input::of(matches.get_str(names::GOOD))
+}
+
+fn bad_of<'a>(matches: &ArgMatches<'a>) -> Input<'a>
+    ensures { path_of result ≡ wanted_path (first_value (found_of matches.now) (codes "BAD")) }
+{
+    Input::of(matches.get_str(names::BAD))
+}
+
 fn file_of<'a>(matches: &ArgMatches<'a>) -> Result<&'a str, WordsFault> {
     required(matches.get_str(names::FILE))
 }
 
-fn stage_of<'a>(matches: &ArgMatches<'a>) -> Result<&'a str, WordsFault> {
-    required(matches.get_str(names::STAGE))
+fn stage_of<'a>(matches: &ArgMatches<'a>) -> Option<&'a str>
+    ensures { option_map (λ stage. stage.now) result ≡ first_value (found_of matches.now) (codes "STAGE") }
+{
+    matches.get_str(names::STAGE)
+}
+
+fn sweep_of(alloc: Global, matches: &ArgMatches<'_>) -> Result<Sweep, WordsFault> {
+    Ok(Sweep {
+        part: part_of(matches),
+        percent: percent_of(alloc, matches)?,
+        ending: ending_of(matches),
+        most: matches.get_one::<usize>(names::TOP),
+    })
+}
+
+fn part_of(matches: &ArgMatches<'_>) -> Part
+    ensures queue { one_text (found_of matches.now) (codes "queued") ≡ Some (codes "true") → result ≡ Queue }
+    ensures both { one_text (found_of matches.now) (codes "queued") ≡ None → result ≡ Both }
+    ensures both_where_false { one_text (found_of matches.now) (codes "queued") ≡ Some (codes "false") → result ≡ Both }
+{
+    if matches.get_flag(names::QUEUED) {
+        Part::Queue
+    } else {
+        Part::Both
+    }
+}
+
+fn ending_of(matches: &ArgMatches<'_>) -> Ending
+    ensures { result ≡ ending_of (first_value (found_of matches.now) (codes "want")) }
+{
+    Ending::of(matches.get_str(names::WANT))
+}
+
+fn percent_of(alloc: Global, matches: &ArgMatches<'_>) -> Result<u8, WordsFault>
+    ensures { IfOk result (λ percent. Some percent ≡ percent_asked (first_value (found_of matches.now) (codes "by"))) }
+{
+    match matches.get_str(names::BY) {
+        Some(word) => percent_or_fault(alloc, word),
+        None => Ok(0),
+    }
+}
+
+fn percent_or_fault(alloc: Global, word: &str) -> Result<u8, WordsFault>
+    ensures { IfOk result (λ percent. Some percent ≡ percent_in word.now) }
+{
+    match percent_in(word) {
+        Some(percent) => Ok(percent),
+        None => Err(no_percentage(alloc, word)?),
+    }
+}
+
+/// That a word says no hundredths.
+fn no_percentage(alloc: Global, word: &str) -> Result<WordsFault, AllocError> {
+    let message = format!(in alloc;
+        "invalid value '{word}' for '--by <P%>': a whole number from 0 to 99 is wanted, with a % behind it"
+    )?;
+    let mut sweep = described(alloc, Subcommand::Sweep)?.bin_name("whatif sweep")?;
+    let error = sweep.error(ErrorKind::ValueValidation, message.as_str())?;
+    Ok(WordsFault::Told(error))
 }
 
 fn origin_of<'a>(matches: &ArgMatches<'a>) -> Option<&'a str>

@@ -79,10 +79,46 @@ pub(crate) const TOP: Argument = Argument {
     takes: Takes::Number("N", None),
 };
 
+pub(crate) const WANT: Argument = Argument {
+    name: names::WANT,
+    help: "print the stages alone by which the stage then completes with a value",
+    takes: Takes::MaybeWord("ENDING", &["value"]),
+};
+
+pub(crate) const QUEUED: Argument = Argument {
+    name: names::QUEUED,
+    help: "make the queues alone shorter: each action runs as long as it does",
+    takes: Takes::Nothing,
+};
+
+pub(crate) const BY_PERCENT: Argument = Argument {
+    name: names::BY,
+    help: "leave P percent of the times, rounded down, from 0% to 99%; where it is left out, none",
+    takes: Takes::Text("P%"),
+};
+
 pub(crate) const WITHIN: Argument = Argument {
     name: names::WITHIN,
     help: "print the stages alone that may run no more than D ticks longer, from 0 to 2^40",
     takes: Takes::Ticks("D"),
+};
+
+pub(crate) const TOP_CHANGES: Argument = Argument {
+    name: names::TOP,
+    help: "print the first N changes alone",
+    takes: Takes::Number("N", None),
+};
+
+pub(crate) const BY: Argument = Argument {
+    name: names::BY,
+    help: "the tick by which the stage is to have a value, from 0 to 2^40; where it is left out, any will do",
+    takes: Takes::Ticks("T"),
+};
+
+pub(crate) const AS: Argument = Argument {
+    name: names::AS,
+    help: "the value that stands in place of an exception, a whole number or null; where it is left out, null",
+    takes: Takes::Value("V"),
 };
 
 pub(crate) const WORKERS: Argument = Argument {
@@ -139,6 +175,18 @@ pub(crate) const RECORDING_OR_DASH: Argument = Argument {
     takes: Takes::One,
 };
 
+pub(crate) const GOOD: Argument = Argument {
+    name: names::GOOD,
+    help: "the recording of a run that went well; - is standard input",
+    takes: Takes::One,
+};
+
+pub(crate) const BAD: Argument = Argument {
+    name: names::BAD,
+    help: "the recording of one that was late, or failed; - is standard input, where GOOD is not",
+    takes: Takes::One,
+};
+
 pub(crate) const RECORDING_OR_INPUT: Argument = Argument {
     name: names::FILE,
     help: "the recording; standard input where it is left out, or -",
@@ -171,8 +219,14 @@ pub(crate) const TRACE: Argument = Argument {
 
 pub(crate) const STAGE: Argument = Argument {
     name: names::STAGE,
-    help: "the stage",
-    takes: Takes::One,
+    help: "the stage; where it is left out, the one that completes last of those on which no other waits",
+    takes: Takes::MaybeOne,
+};
+
+pub(crate) const STAGE_OF_BOTH: Argument = Argument {
+    name: names::STAGE,
+    help: "the stage, of this name in both; where it is left out, the one of BAD that completes last of those on which no other waits",
+    takes: Takes::MaybeOne,
 };
 
 pub(crate) const SCRIPT: Argument = Argument {

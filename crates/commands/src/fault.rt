@@ -1,6 +1,6 @@
 //! What an answer that ended early ends the program with.
 use console::Fault;
-use recording_reports::RecordingFault;
+use recording_reports::{PairFault, RecordingFault};
 use recording_text::TextFault;
 use report_rows::ReportFault;
 use serve_script::ServeFault;
@@ -13,6 +13,17 @@ pub(crate) fn reported(end: Result<(), RecordingFault>) -> Result<(), Fault> {
         Err(RecordingFault::NoStage) => Err(Fault::NoStage(None)),
         Err(RecordingFault::Write) => Err(Fault::Write(None)),
         Err(RecordingFault::Memory) => Err(Fault::Memory),
+    }
+}
+
+/// The end of the reports of two recordings.
+pub(crate) fn compared(end: Result<(), PairFault>) -> Result<(), Fault> {
+    match end {
+        Ok(()) => Ok(()),
+        Err(PairFault::Refused(_, fault)) => Err(Fault::Refused(fault, None)),
+        Err(PairFault::NoStage(_)) => Err(Fault::NoStage(None)),
+        Err(PairFault::Write) => Err(Fault::Write(None)),
+        Err(PairFault::Memory) => Err(Fault::Memory),
     }
 }
 

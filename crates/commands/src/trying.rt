@@ -3,16 +3,15 @@ use crate::drawing_trial::draw_changed;
 use crate::export::write_version;
 use crate::fault::told;
 use crate::format::format_of;
+use crate::place::{place_named, place_of};
 use change_words::MakingFault;
 use command_line::{Asked, Input, Manner, Trial};
-use console::{
-    Fault, Voice, changes_of, flushed, output, tell_last_stage, warn, why_no_last_stage,
-    why_no_stage, why_not_made, with_reason,
-};
+use console::{Fault, Voice, changes_of, flushed, output, warn, why_not_made, with_reason};
 use level_pool::Runner;
 use report_form::Form;
 use std::cell::Cell;
-use tried_changes::{last_stage, tell_trial, tried};
+use std::mem::forget;
+use tried_changes::{tell_trial, tried};
 use version_store::{StateRepresentation, Version};
 
 /// Prints what would come of changes of a recording, or writes the recording that they make, or a picture of it.
@@ -39,32 +38,22 @@ pub fn run_try<'a, K: StateRepresentation, W: Runner>(
             return Err(Fault::NotMade(fault, why));
         }
     };
-    match trial.asked {
+    let end = match trial.asked {
         Asked::Recording => write_version(rt, voice, &version),
         Asked::Picture(stage) => {
             let target = target_of(rt, voice, &recording, &before, stage)?;
             draw_changed(rt, voice, &version, changes.as_slice(), target)
         }
         Asked::Reports(stage) => {
-            let place = place_of(rt, voice, &recording, &before, stage)?;
+            let place = place_of(rt, voice, &recording, &before, stage, "--stage")?;
             let form = format_of(manner).form(None);
             tell(rt, voice, &version, &before, place, form)
         }
-    }
-}
-
-/// Where the stage of a name stands.
-fn place_named<K: StateRepresentation>(
-    rt: &HostRuntime,
-    voice: Voice<'_>,
-    recording: &[u8],
-    before: &Version<K>,
-    name: &str,
-) -> Result<u32, Fault> {
-    match before.id_of(name) {
-        Ok(place) => Ok(place),
-        Err(_) => Err(Fault::NoStage(why_no_stage(rt.alloc(), voice, recording, name))),
-    }
+    };
+    // The program ends with its answer.
+    forget(version);
+    forget(before);
+    end
 }
 
 /// Where the stage of a name stands, if one is named.
@@ -79,42 +68,6 @@ fn target_of<K: StateRepresentation>(
         Some(name) => Ok(Some(place_named(rt, voice, recording, before, name)?)),
         None => Ok(None),
     }
-}
-
-/// Where the stage stands that is reported on: the one of the name, or the one that completes last, which people are told
-/// then.
-fn place_of<K: StateRepresentation>(
-    rt: &HostRuntime,
-    voice: Voice<'_>,
-    recording: &[u8],
-    before: &Version<K>,
-    stage: Option<&str>,
-) -> Result<u32, Fault> {
-    if let Some(name) = stage {
-        return place_named(rt, voice, recording, before, name);
-    }
-    match last_stage(before) {
-        Some(place) => {
-            tell_last_stage(voice, before.graph().name_of(place));
-            Ok(place)
-        }
-        None => {
-            let why = why_no_last_stage(rt.alloc(), voice, some_complete(before))?;
-            Err(Fault::Word(why))
-        }
-    }
-}
-
-/// Whether a stage completes on which no other waits.
-fn some_complete<K: StateRepresentation>(version: &Version<K>) -> bool {
-    for place in 0..version.graph().len() as u32 {
-        if let Some(stage) = version.stage(place) {
-            if stage.dependents().is_empty() && stage.moment().is_some() {
-                return true;
-            }
-        }
-    }
-    false
 }
 
 /// Prints what came of the changes.

@@ -51,11 +51,11 @@ fn warnings_told(alloc: Global, voice: Voice<'_>, recording: &[u8]) -> Result<us
     let findings = examine_recording(alloc, recording, &value)?;
     let warnings = findings.warnings();
     for warning in warnings.iter().take(MOST_WARNINGS) {
-        voice.say(*warning);
+        voice.say_of_file(*warning);
     }
     let more = warnings.len().saturating_sub(MOST_WARNINGS);
     if more > 0 {
-        voice.say(format_args!("warning: and {more} more, which whatif check tells"));
+        voice.say_of_file(format_args!("warning: and {more} more, which whatif check tells"));
     }
     Ok(warnings.len())
 }

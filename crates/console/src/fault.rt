@@ -18,7 +18,7 @@ pub enum Fault {
     NoStage(Option<String>),
     /// Changes are no list of edits of the recording.
     NotMade(MakingFault, Option<String>),
-    /// A word of the command line is no change, or one more is wanted for this recording. Only people are told of it.
+    /// A word of the command line is no change or no value, or one more is wanted for this recording. Only people are told of it.
     Word(String),
     /// A file or standard input can't be opened or read.
     Read(Option<String>),

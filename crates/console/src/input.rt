@@ -8,7 +8,7 @@ use crate::voice::Voice;
 use command_line::Input;
 use recording::read_recording;
 use stage_graph::{Graph, Representation};
-use std::alloc::Global;
+use std::alloc::{AllocError, Global};
 use std::fmt;
 use std::fs::File;
 use std::io::{self, Read};
@@ -39,6 +39,13 @@ impl fmt::Display for Named {
             Named::Script => "standard input is not read here, so SCRIPT has to be a file",
         })
     }
+}
+
+/// That two recordings are named as standard input, which is read once.
+pub fn why_read_twice(alloc: Global) -> Result<String, AllocError> {
+    format!(in alloc;
+        "standard input is read once, so one of the recordings at least has to be a file"
+    )
 }
 
 /// The graph of a recording, or why it is refused.

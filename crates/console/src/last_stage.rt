@@ -3,27 +3,28 @@ use crate::voice::Voice;
 use diagnosis::Quoted;
 use std::alloc::{AllocError, Global};
 
-/// Tells which stage that is.
-pub fn tell_last_stage(voice: Voice<'_>, name: &str) {
+/// Tells which stage that is; `word` is what would have named one.
+pub fn tell_last_stage(voice: Voice<'_>, word: &str, name: &str) {
     let name = Quoted(name);
-    voice.say(format_args!(
-        "no --stage is given, so this is about stage {name}: of the stages on which no other waits it completes last"
+    voice.say_of_file(format_args!(
+        "no {word} is given, so this is about stage {name}: of the stages on which no other waits it completes last"
     ));
 }
 
-/// That there is no such stage, so that one has to be named: several complete last, or none completes.
+/// That there is no such stage, so that one has to be named, by `word`: several complete last, or none completes.
 pub fn why_no_last_stage(
     alloc: Global,
     voice: Voice<'_>,
+    word: &str,
     some_complete: bool,
 ) -> Result<String, AllocError> {
     let file = voice.file();
     if some_complete {
         return format!(in alloc;
-            "{file}: --stage is wanted: of the stages on which no other waits several complete last"
+            "{file}: {word} is wanted: of the stages on which no other waits several complete last"
         );
     }
     format!(in alloc;
-        "{file}: --stage is wanted: none of the stages on which no other waits completes"
+        "{file}: {word} is wanted: none of the stages on which no other waits completes"
     )
 }

@@ -15,6 +15,8 @@ pub struct Voice<'a> {
     script: Option<&'a str>,
     /// The trace that is told of, where there are several.
     trace: Option<&'a str>,
+    /// Whether other files are told of beside it.
+    is_of_several: bool,
     is_quiet: bool,
     is_strict: bool,
 }
@@ -36,6 +38,7 @@ impl<'a> Voice<'a> {
             file,
             script: None,
             trace: None,
+            is_of_several: false,
             is_quiet: manner.is_quiet,
             is_strict: manner.is_strict,
         }
@@ -48,6 +51,7 @@ impl<'a> Voice<'a> {
             file: self.file,
             script: Some(script),
             trace: self.trace,
+            is_of_several: self.is_of_several,
             is_quiet: self.is_quiet,
             is_strict: self.is_strict,
         }
@@ -60,6 +64,20 @@ impl<'a> Voice<'a> {
             file: self.file,
             script: self.script,
             trace: Some(trace),
+            is_of_several: self.is_of_several,
+            is_quiet: self.is_quiet,
+            is_strict: self.is_strict,
+        }
+    }
+
+    /// The same, where other files are told of beside it.
+    pub fn of_several(self) -> Voice<'a> {
+        Voice {
+            rt: self.rt,
+            file: self.file,
+            script: self.script,
+            trace: self.trace,
+            is_of_several: true,
             is_quiet: self.is_quiet,
             is_strict: self.is_strict,
         }
@@ -82,6 +100,16 @@ impl<'a> Voice<'a> {
     pub fn say<D: Display + Drop>(self, what: D) {
         if !self.is_quiet {
             self.tell(what);
+        }
+    }
+
+    /// Says something of the file, by its name where other files are told of beside it, unless nothing is to be said.
+    pub fn say_of_file<D: Display + Drop>(self, what: D) {
+        if self.is_of_several {
+            let file = self.file();
+            self.say(format_args!("{file}: {what}"));
+        } else {
+            self.say(what);
         }
     }
 

@@ -7,7 +7,8 @@
 //! - `step JSON` edits the last version: its refusal, or the graph that it makes (each place with the places of its feeds),
 //!   the order of that graph (each place with its rank and its dependents), and the touched places;
 //! - `report WORDS` is told of the last version: `all`, `changes`, `drift`, `times`, `one`, `blame`, `path` or `sweep` with a
-//!   stage, or `changes` and `drift` with `against`, which compares it with the recording.
+//!   stage, `queues` and `halves` of it, which are sweeps of these, or `changes` and `drift` with `against`, which compares it
+//!   with the recording.
 //!
 //! Each representation of graphs and each runner of levels has to tell the same.
 #![tactic(auto)]

@@ -2,20 +2,41 @@
 use crate::scene::Scene;
 use anyhow::Result;
 use level_pool::Runner;
-use report_rows::{Comparison, What};
+use report_rows::{Comparison, Ending, SweepAsked, What};
 use report_text::{compare, report, report_sweep};
 use std::alloc::Global;
 use text_io::CountedWriter;
+use time_sweep::{Haste, Part};
 use version_store::{NoStage, StateRepresentation, Version};
 
 /// What is asked of a version by its words.
 #[derive(Clone, Copy)]
 enum Asked {
     Report(What),
-    Sweep(u32),
+    Sweep(u32, SweepAsked),
     Against(Comparison),
     Nothing,
 }
+
+/// Trials of actions that are not queued and run as long as they do.
+const QUEUES: SweepAsked = SweepAsked {
+    haste: Haste {
+        part: Part::Queue,
+        percent: 0,
+    },
+    ending: Ending::Any,
+    most: None,
+};
+
+/// The first two trials of half the times that end with a value.
+const HALVES: SweepAsked = SweepAsked {
+    haste: Haste {
+        part: Part::Both,
+        percent: 50,
+    },
+    ending: Ending::Value,
+    most: Some(2),
+};
 
 /// What words with a stage ask.
 fn asked_of_stage<R: StateRepresentation>(
@@ -28,7 +49,9 @@ fn asked_of_stage<R: StateRepresentation>(
         "one" => Asked::Report(What::One(place)),
         "blame" => Asked::Report(What::Blame(place)),
         "path" => Asked::Report(What::Path(place)),
-        "sweep" => Asked::Sweep(place),
+        "sweep" => Asked::Sweep(place, SweepAsked::PLAIN),
+        "queues" => Asked::Sweep(place, QUEUES),
+        "halves" => Asked::Sweep(place, HALVES),
         _ => Asked::Nothing,
     })
 }
@@ -66,9 +89,10 @@ fn swept<R: StateRepresentation, W: Runner>(
     runner: &W,
     version: &Version<R>,
     place: u32,
+    asked: SweepAsked,
 ) -> Result<Vec<u8>> {
     let mut sink = CountedWriter::new(Vec::new(alloc));
-    report_sweep(alloc, version, place, None, runner, &mut sink)?;
+    report_sweep(alloc, version, place, asked, runner, &mut sink)?;
     Ok(sink.into_inner())
 }
 
@@ -97,7 +121,7 @@ pub(crate) fn push_report<R: StateRepresentation, W: Runner>(
     };
     let bytes = match asked {
         Asked::Report(what) => reported(alloc, &scene.last, what)?,
-        Asked::Sweep(place) => swept(alloc, runner, &scene.last, place)?,
+        Asked::Sweep(place, asked) => swept(alloc, runner, &scene.last, place, asked)?,
         Asked::Against(comparison) => compared(alloc, scene, comparison)?,
         Asked::Nothing => Vec::new(alloc),
     };

@@ -10,11 +10,14 @@ use crate::names::name;
 use crate::recordings::{Plan, Shape, recording};
 use crate::scripts::{Steps, great_edits, small_edits};
 use crate::traces::{Form as TraceForm, trace};
+use act_expr::Value;
 use anyhow::{Result, bail};
 use level_pool::Runner;
 use recording::read_recording;
-use report_form::{Form, Format, tell_report, tell_slack, tell_sweep};
-use report_rows::{Arisen, What};
+use report_form::{
+    Form, Format, tell_differences, tell_report, tell_rescue, tell_slack, tell_sweep,
+};
+use report_rows::{Arisen, RescueTerms, SweepAsked, What};
 use serve_script::serve;
 use stage_graph::Graph;
 use std::alloc::Global;
@@ -37,6 +40,10 @@ pub(crate) enum Job {
     Sweep,
     /// How much longer stages may run; for each some of the trials that find it.
     Slack,
+    /// Which single changes would have saved a reply; some for each stage.
+    Rescue,
+    /// In which stages two runs differ.
+    Compare,
     /// Traces are imported.
     Import,
     /// Scripts of small edits alone.
@@ -59,6 +66,8 @@ impl Job {
             "spread" => Some(Job::Spread),
             "sweep" => Some(Job::Sweep),
             "slack" => Some(Job::Slack),
+            "rescue" => Some(Job::Rescue),
+            "compare" => Some(Job::Compare),
             "import" => Some(Job::Import),
             "small" => Some(Job::Small),
             "hubs" => Some(Job::Hubs),
@@ -199,7 +208,16 @@ fn swept<R: StateRepresentation, W: Runner>(
     let version = loaded::<R>(alloc, text.as_str())?;
     let target = last_of(alloc, plan, &version)?;
     let mut sink = unwritten(alloc);
-    tell_sweep(alloc, &version, target, None, runner, Form::Text, &mut sink)?;
+    let asked = SweepAsked::PLAIN;
+    tell_sweep(
+        alloc,
+        &version,
+        target,
+        asked,
+        runner,
+        Form::Text,
+        &mut sink,
+    )?;
     taken(digest, sink);
     Ok(())
 }
@@ -216,6 +234,59 @@ fn slacks_in<R: StateRepresentation, W: Runner>(
     let target = last_of(alloc, plan, &version)?;
     let mut sink = unwritten(alloc);
     tell_slack(alloc, &version, target, None, runner, Form::Text, &mut sink)?;
+    taken(digest, sink);
+    Ok(())
+}
+
+/// Takes in which single changes would make the last stage of a recording complete with a value at the first tick, which
+/// none does, so that all are tried.
+fn rescues_in<R: StateRepresentation, W: Runner>(
+    alloc: Global,
+    runner: &W,
+    plan: &Plan,
+    digest: &mut Digest,
+) -> Result<()> {
+    let text = recording(alloc, plan)?;
+    let version = loaded::<R>(alloc, text.as_str())?;
+    let target = last_of(alloc, plan, &version)?;
+    let terms = RescueTerms {
+        by: Some(0),
+        value: Value::Num(1),
+        most: None,
+    };
+    let mut sink = unwritten(alloc);
+    tell_rescue(
+        alloc,
+        &version,
+        target,
+        terms,
+        runner,
+        Form::Text,
+        &mut sink,
+    )?;
+    taken(digest, sink);
+    Ok(())
+}
+
+/// Takes in in which stages two recordings differ, where they are compared for the last one.
+fn compared<R: StateRepresentation>(
+    alloc: Global,
+    good: &Plan,
+    bad: &Plan,
+    digest: &mut Digest,
+) -> Result<()> {
+    let text = recording(alloc, good)?;
+    let good_version = loaded::<R>(alloc, text.as_str())?;
+    let text = recording(alloc, bad)?;
+    let bad_version = loaded::<R>(alloc, text.as_str())?;
+    let Some(in_good) = good_version.stage(last_of(alloc, good, &good_version)?) else {
+        bail!("no last stage");
+    };
+    let Some(in_bad) = bad_version.stage(last_of(alloc, bad, &bad_version)?) else {
+        bail!("no last stage");
+    };
+    let mut sink = unwritten(alloc);
+    tell_differences(alloc, &in_good, &in_bad, Form::Text, &mut sink)?;
     taken(digest, sink);
     Ok(())
 }
@@ -361,6 +432,35 @@ fn run_slack<R: StateRepresentation, W: Runner>(
     Ok(())
 }
 
+/// Runs the job `rescue`.
+fn run_rescue<R: StateRepresentation, W: Runner>(
+    alloc: Global,
+    runner: &W,
+    scale: Scale,
+    seed: u32,
+    digest: &mut Digest,
+) -> Result<()> {
+    for shape in [Shape::Chain, Shape::Layers, Shape::Mixed] {
+        rescues_in::<R, W>(alloc, runner, &plan(shape, scale.of(2_048), seed), digest)?;
+    }
+    Ok(())
+}
+
+/// Runs the job `compare`: the names of stages go by the seed, so that layers and mixed stages have the same ones.
+fn run_compare<R: StateRepresentation>(
+    alloc: Global,
+    scale: Scale,
+    seed: u32,
+    digest: &mut Digest,
+) -> Result<()> {
+    let stages = scale.of(32_768);
+    let layers = plan(Shape::Layers, stages, seed);
+    let mixed = plan(Shape::Mixed, stages, seed);
+    compared::<R>(alloc, &layers, &mixed, digest)?;
+    compared::<R>(alloc, &mixed, &mixed, digest)?;
+    Ok(())
+}
+
 /// Runs the job `import`.
 fn run_import(alloc: Global, scale: Scale, seed: u32, digest: &mut Digest) -> Result<()> {
     imported(alloc, TraceForm::Otlp, scale.of(22_000), seed, digest)?;
@@ -470,6 +570,8 @@ pub(crate) fn run<R: StateRepresentation, W: Runner>(
         Job::Spread => run_spread::<R, W>(alloc, runner, scale, seed, &mut digest)?,
         Job::Sweep => run_sweep::<R, W>(alloc, runner, scale, seed, &mut digest)?,
         Job::Slack => run_slack::<R, W>(alloc, runner, scale, seed, &mut digest)?,
+        Job::Rescue => run_rescue::<R, W>(alloc, runner, scale, seed, &mut digest)?,
+        Job::Compare => run_compare::<R>(alloc, scale, seed, &mut digest)?,
         Job::Import => run_import(alloc, scale, seed, &mut digest)?,
         Job::Small => run_small::<R, W>(alloc, runner, scale, seed, &mut digest)?,
         Job::Hubs => run_hubs::<R, W>(alloc, runner, scale, seed, &mut digest)?,

@@ -8,7 +8,7 @@ use crate::versions::Asked;
 use crate::written::{push_written, room};
 use level_pool::Runner;
 use report_form::{Form, tell_comparison, tell_report, tell_sweep};
-use report_rows::{Comparison, ReportFault, What};
+use report_rows::{Comparison, ReportFault, SweepAsked, What};
 use std::alloc::Global;
 use text_io::CountedWriter;
 use version_store::StateRepresentation;
@@ -64,7 +64,15 @@ fn write<R: StateRepresentation, W: Runner>(
     let (scene, last, form) = (asked.scene, asked.last, form_named(asked.scene.group));
     match report_named(scene.call, scene.number) {
         Report::Of(what) => tell_report(alloc, last, what, form, sink),
-        Report::Sweep(place) => tell_sweep(alloc, last, place, None, asked.runner, form, sink),
+        Report::Sweep(place) => tell_sweep(
+            alloc,
+            last,
+            place,
+            SweepAsked::PLAIN,
+            asked.runner,
+            form,
+            sink,
+        ),
         Report::Against(comparison) => {
             tell_comparison(alloc, last, asked.first, comparison, form, sink)
         }

@@ -9,10 +9,12 @@ use crate::sources::graph_of;
 use crate::told::Told;
 use crate::turn::{Turn, shown};
 use crate::written::{push_written, room};
+use act_expr::Value;
 use anyhow::Result;
 use level_pool::Runner;
 use recording_reports::{RecordingFault, StageReport, WholeReport, report_all, report_stage};
 use report_form::{Form, Format};
+use report_rows::{RescueTerms, SweepAsked};
 use serve_script::{ServeFault, serve};
 use stage_graph::Graph;
 use std::alloc::Global;
@@ -62,7 +64,15 @@ fn stage_report_named(word: &str) -> StageReport {
     match word {
         "explain" => StageReport::Explanation,
         "slack" => StageReport::Slack { within: Some(9) },
-        _ => StageReport::Sweep { most: Some(2) },
+        "rescue" => StageReport::Rescue(RescueTerms {
+            by: Some(9),
+            value: Value::Null,
+            most: Some(2),
+        }),
+        _ => StageReport::Sweep(SweepAsked {
+            most: Some(2),
+            ..SweepAsked::PLAIN
+        }),
     }
 }
 

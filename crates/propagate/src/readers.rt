@@ -85,7 +85,6 @@ pub(crate) fn first_marks<R: OrderRepresentation>(
 }
 
 /// Whether the stage at a place has read one of its feeds.
-#[inline(always)]
 fn is_reader<R: StateRepresentation>(
     graph: &Graph<R>,
     states: &States<R>,
@@ -131,7 +130,6 @@ fn mark_reader<R: StateRepresentation>(
 }
 
 /// Marks the stages that have read a feed, which are among its dependents.
-#[inline(always)]
 fn mark_readers<R: StateRepresentation>(
     marks: &mut Marks,
     graph: &Graph<R>,
@@ -156,7 +154,6 @@ fn mark_readers<R: StateRepresentation>(
 }
 
 /// Marks the stages that have read a place of the level whose state has changed.
-#[inline(always)]
 pub(crate) fn mark_level<'a, R: StateRepresentation>(
     marks: &mut Marks,
     telling: &mut Telling<'a>,

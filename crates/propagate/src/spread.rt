@@ -35,7 +35,6 @@ fn laws<N, O: StageOps<N>>(_ops: &O)
 
 /// The states of a graph from those of the graph before, which differs from it only at the edited places. Each touched stage is
 /// computed once, and no other: level by level, one rank after the other.
-#[inline(never)]
 pub(crate) fn propagate_change<R: StateRepresentation, N: Sync, O: StageOps<N> + Sync, W: Runner>(
     alloc: Global,
     old: &Graph<R>,

@@ -50,7 +50,6 @@ fn is_another<R: StateRepresentation>(
 }
 
 /// Whether the state of each place of a level has changed.
-#[inline(always)]
 fn compare_each<R: StateRepresentation>(
     states: &States<R>,
     level: &[u32],
@@ -70,7 +69,6 @@ fn compare_each<R: StateRepresentation>(
 }
 
 /// The dependents of each place of a level whose state has changed.
-#[inline(always)]
 fn list_each<'a, R: StateRepresentation>(
     order: &'a Order<R>,
     level: &[u32],
@@ -103,7 +101,6 @@ impl<'a> Telling<'a> {
     }
 
     /// Finds who is told of the changes of a level.
-    #[inline(always)]
     pub(crate) fn find<R: StateRepresentation>(
         &mut self,
         order: &'a Order<R>,

@@ -11,7 +11,7 @@ use text_io::Sink;
 use version_store::StateRepresentation;
 
 /// Writes the picture of version 0 of a recording: a row for each stage that is asked for, 2,000 at most, and over them the
-/// path of the stage, where one is named.
+/// path of the stage, where one is named. The version is left to the system, as by `report_all` of `recording_reports`.
 pub fn draw_recording<R: StateRepresentation, S: Sink>(
     alloc: Global,
     recording: &[u8],

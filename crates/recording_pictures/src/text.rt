@@ -8,6 +8,7 @@ use recording::{Fault, read_recording};
 use recording_reports::RecordingFault;
 use stage_graph::{Graph, Representation};
 use std::alloc::{AllocError, Global};
+use std::mem::forget;
 use timeline_svg::timeline_svg;
 use timeline_trace::timeline_trace;
 use version_rows::{Drawing, Scope, drawing_of};
@@ -76,7 +77,9 @@ pub(crate) fn recording_text<R: StateRepresentation>(
         return Err(RecordingFault::Refused(Fault::Memory));
     };
     let target = target_of(version.graph(), asked.stage)?;
-    match version_text(alloc, &version, asked.form, asked.scope, target) {
+    let text = version_text(alloc, &version, asked.form, asked.scope, target);
+    forget(version);
+    match text {
         Ok(text) => Ok(text),
         Err(_) => Err(RecordingFault::Memory),
     }

@@ -1,1 +1,3 @@
-pub mod InTurn
+pub mod InThree
+pub mod Pairing
+pub mod Reporting

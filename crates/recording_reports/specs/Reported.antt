@@ -14,12 +14,12 @@ use Rattle.report_rows.specs.declared.arisen.Arisen.TheVariants as arisen
 use Rattle.report_rows.specs.declared.what.What.{What}
 use Rattle.report_rows.specs.declared.what.What.TheVariants.{All, One, Blame, Path, Ends, Failures}
 use Rattle.report_rows.specs.Said.{has_rows}
-use Rattle.report_form.specs.Told.{report_told, slack_told, sweep_told}
+use Rattle.report_form.specs.Told.{report_told, rescue_told, slack_told, sweep_told}
 use Rattle.report_form.specs.declared.form.Form.{Form}
 use Rattle.recording_reports.specs.declared.fault.RecordingFault.{RecordingFault}
 use Rattle.recording_reports.specs.declared.fault.RecordingFault.TheVariants.{Refused, NoStage, Write, Memory}
 use Rattle.recording_reports.specs.declared.stage.StageReport.{StageReport}
-use Rattle.recording_reports.specs.declared.stage.StageReport.TheVariants.{Explanation, Sweep, Slack, Failure}
+use Rattle.recording_reports.specs.declared.stage.StageReport.TheVariants.{Explanation, Sweep, Slack, Rescue, Failure}
 use Rattle.recording_reports.specs.declared.all.WholeReport.{WholeReport}
 use Rattle.recording_reports.specs.declared.all.WholeReport.TheVariants as whole
 
@@ -54,11 +54,13 @@ handled_text form version place =
     if not (is_failed version.graph place) && unwrap_or (has_rows version (beside place)) false then told form version (beside place) else []
 
 -- the reports `one`, `blame` and `path` of the stage at a place, one after the other, and then the failures that its path has to do with, where
--- it does not fail itself; or its sweep; or how much longer stages may run before it completes otherwise; or the failure that arose in it
+-- it does not fail itself; or its sweep; or how much longer stages may run before it completes otherwise;
+-- or which changes would have made it complete with a value; or the failure that arose in it
 abbrev pub stage_text : Form → StageReport → PlainVersion → ℕ → List ℕ
 stage_text form Explanation version place = told form version (One place) ++ told form version (Blame place) ++ told form version (Path place) ++ handled_text form version place
-stage_text form (Sweep most) version place = unwrap_or (sweep_told form version place most) []
+stage_text form (Sweep asked) version place = unwrap_or (sweep_told form version place asked) []
 stage_text form (Slack within) version place = unwrap_or (slack_told form version place within) []
+stage_text form (Rescue terms) version place = unwrap_or (rescue_told form version place terms) []
 stage_text form Failure version place = told form version (Failures (arisen.In place))
 
 -- the same of the stage of a name; none where the graph has no such stage

@@ -12,6 +12,7 @@ use report_form::{Form, tell_report};
 use report_rows::{Arisen, ReportFault, What};
 use stage_graph::Graph;
 use std::alloc::Global;
+use std::mem::forget;
 use text_io::Sink;
 use version_store::{StateRepresentation, Version};
 
@@ -53,7 +54,8 @@ fn write_all<R: StateRepresentation, S: Sink>(
     }
 }
 
-/// Writes what is asked of all stages, in version 0 of a recording, in the form that is asked for.
+/// Writes what is asked of all stages, in version 0 of a recording, in the form that is asked for. The version is not dropped, but
+/// left to the system, which takes back the memory of a program that ends with its report.
 pub fn report_all<R: StateRepresentation, S: Sink>(
     alloc: Global,
     recording: &[u8],
@@ -72,7 +74,9 @@ pub fn report_all<R: StateRepresentation, S: Sink>(
     let Ok(version) = Version::load(alloc, graph) else {
         return Err(RecordingFault::Refused(Fault::Memory));
     };
-    match write_all(alloc, &version, asked, form, sink) {
+    let end = write_all(alloc, &version, asked, form, sink);
+    forget(version);
+    match end {
         Ok(()) => Ok(()),
         Err(ReportFault::Write) => Err(RecordingFault::Write),
         Err(ReportFault::Memory) => Err(RecordingFault::Memory),

@@ -13,10 +13,11 @@ use crate::fault::RecordingFault;
 use act_expr::Outcome;
 use level_pool::Runner;
 use recording::{Fault, read_recording};
-use report_form::{Form, tell_report, tell_slack, tell_sweep};
-use report_rows::{Arisen, ReportFault, What, has_rows};
+use report_form::{Form, tell_report, tell_rescue, tell_slack, tell_sweep};
+use report_rows::{Arisen, ReportFault, RescueTerms, SweepAsked, What, has_rows};
 use stage_graph::Graph;
 use std::alloc::{AllocError, Global};
+use std::mem::forget;
 use text_io::Sink;
 use version_store::{NoStage, QueryFault, StateRepresentation, Version};
 
@@ -26,11 +27,13 @@ pub enum StageReport {
     /// The reports `one`, `blame` and `path`, one after the other; and then, where it doesn't fail, which failures the stages
     /// on its path have to do with.
     Explanation,
-    /// Which stages are worth making faster, with no more lines of them than `most`.
-    Sweep { most: Option<usize> },
+    /// Which stages are worth making faster, as far as that is asked for.
+    Sweep(SweepAsked),
     /// How many ticks longer the action of each stage may run before it completes otherwise, where `within` names ticks of those
     /// alone that may run no more than these longer.
     Slack { within: Option<u64> },
+    /// Which single changes would have made it complete with a value.
+    Rescue(RescueTerms),
     /// Which stages the failure that arose in it reached, and which read it and don't hold it.
     Failure,
 }
@@ -116,8 +119,10 @@ fn explain<R: StateRepresentation, S: Sink>(
     tell_handled(alloc, version, place, form, sink)
 }
 
-/// Writes what is asked of the stage at a place.
-fn write_stage<R: StateRepresentation, W: Runner, S: Sink>(
+/// Writes what is asked of the stage at a place, in the form that is asked for.
+///
+/// Errors: `Write` where a write failed or took nothing; `Memory`. Then a prefix was written.
+pub fn tell_stage<R: StateRepresentation, W: Runner, S: Sink>(
     alloc: Global,
     version: &Version<R>,
     place: u32,
@@ -135,11 +140,14 @@ fn write_stage<R: StateRepresentation, W: Runner, S: Sink>(
 {
     match asked {
         StageReport::Explanation => explain(alloc, version, place, form, sink),
-        StageReport::Sweep { most } => {
-            tell_sweep(alloc, version, place, most, runner, form, sink)
+        StageReport::Sweep(swept) => {
+            tell_sweep(alloc, version, place, swept, runner, form, sink)
         }
         StageReport::Slack { within } => {
             tell_slack(alloc, version, place, within, runner, form, sink)
+        }
+        StageReport::Rescue(terms) => {
+            tell_rescue(alloc, version, place, terms, runner, form, sink)
         }
         StageReport::Failure => {
             tell_report(
@@ -153,7 +161,8 @@ fn write_stage<R: StateRepresentation, W: Runner, S: Sink>(
     }
 }
 
-/// Writes what is asked of the stage of a name, in version 0 of a recording, in the form that is asked for.
+/// Writes what is asked of the stage of a name, in version 0 of a recording, in the form that is asked for. The version is left to
+/// the system, as by [`crate::report_all`].
 pub fn report_stage<R: StateRepresentation, W: Runner, S: Sink>(
     alloc: Global,
     recording: &[u8],
@@ -177,7 +186,9 @@ pub fn report_stage<R: StateRepresentation, W: Runner, S: Sink>(
     let Ok(place) = version.id_of(name) else {
         return Err(RecordingFault::NoStage);
     };
-    match write_stage(alloc, &version, place, asked, runner, form, sink) {
+    let end = tell_stage(alloc, &version, place, asked, runner, form, sink);
+    forget(version);
+    match end {
         Ok(()) => Ok(()),
         Err(ReportFault::Write) => Err(RecordingFault::Write),
         Err(ReportFault::Memory) => Err(RecordingFault::Memory),

@@ -1,5 +1,5 @@
 //! The single changes of a stage that are tried, in order.
-ghost use Rattle.std.specs.Prelude.{◌≡◌, ◌++◌, ◌≤◌, IfOk, OnOk, length};
+ghost use Rattle.std.specs.Prelude.{◌≡◌, ◌++◌, IfOk, OnOk};
 ghost use Rattle.std.specs.Option.{option_to_list};
 ghost use Rattle.reply_rescue.specs.Changes.{action_changes, at_ends, changes_with, longer_at, only_if, takes_away, without_at};
 

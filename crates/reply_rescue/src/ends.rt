@@ -10,7 +10,7 @@ use std::alloc::{AllocError, Global};
 const LAST_TICK: u64 = 1 << 40;
 
 /// Twice as many ticks, but no more than a recording may say.
-fn twice(delay: u64) -> u64
+pub fn twice(delay: u64) -> u64
     ensures { result ≡ twice delay }
 {
     if delay < LAST_TICK / 2 {

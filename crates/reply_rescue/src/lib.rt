@@ -14,6 +14,7 @@ mod rescues;
 mod trials;
 
 pub use change::Change;
+pub use ends::twice;
 pub use laws::each_keeps_its_moment;
 pub use rescue::{Rescue, Rescues};
 pub use rescues::rescues_of;

@@ -3,7 +3,7 @@ ghost use Rattle.std.specs.Prelude.{◌≡◌, ◌↔◌, ◌≤◌, All, IfOk, 
 ghost use Rattle.std.specs.List.{flat_map};
 ghost use Rattle.std.specs.List.Sorted.{IsNonDecreasingBy, IsStableByKey};
 ghost use Rattle.std.specs.Ordering.{nat_cmp};
-ghost use Rattle.stage_graph.specs.Plain.{IsLive, stage_at};
+ghost use Rattle.stage_graph.specs.Plain.{stage_at};
 ghost use Rattle.level_pool.specs.Runs.{IsPlainMap};
 ghost use Rattle.time_sweep.specs.Starts.{IsStart};
 ghost use Rattle.time_sweep.specs.Sweep.{completion_of};
@@ -17,25 +17,12 @@ use crate::trials::{Sought, rescues_at};
 use act_expr::Value;
 use level_pool::Runner;
 use propagate::StateRepresentation;
-use stage_ops::Done;
 use std::alloc::{AllocError, Global};
-use time_sweep::{TrialStart, waited_for};
-use version_store::{NoStage, QueryFault, Version};
-
-/// How a stage completes in the version; none while it is pending.
-fn completion_of<R: StateRepresentation>(version: &Version<R>, target: u32) -> Option<Done>
-    requires { IsLive version.now.graph.places target }
-    ensures { result ≡ completion_of version.now.graph target }
-{
-    match version.state(target) {
-        Ok(state) => state.done,
-        Err(NoStage) => unreachable!(),
-    }
-}
+use time_sweep::{TrialStart, completion_of, waited_for};
+use version_store::{QueryFault, Version};
 
 /// Whether a stage has a value, by the tick if one is given.
 fn has_reply<R: StateRepresentation>(version: &Version<R>, target: u32, by: Option<u64>) -> bool
-    requires { IsLive version.now.graph.places target }
     ensures { result ≡ is_some (reply_of by (completion_of version.now.graph target)) }
 {
     let done = completion_of(version, target);

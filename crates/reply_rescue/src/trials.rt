@@ -1,5 +1,5 @@
 //! The trials of one stage.
-ghost use Rattle.std.specs.Prelude.{◌≡◌, ◌≤◌, IfOk, OnOk, Some, filter_map, length};
+ghost use Rattle.std.specs.Prelude.{◌≡◌, IfOk, OnOk, Some, filter_map, length};
 ghost use Rattle.std.specs.Option.{option_map};
 ghost use Rattle.stage_graph.specs.Plain.{stage_at};
 ghost use Rattle.stage_graph.specs.Sound.{IsSoundStage};

@@ -5,4 +5,6 @@ mod form;
 mod telling;
 
 pub use form::{Form, Format};
-pub use telling::{tell_comparison, tell_report, tell_slack, tell_sweep};
+pub use telling::{
+    tell_comparison, tell_differences, tell_report, tell_rescue, tell_slack, tell_sweep,
+};

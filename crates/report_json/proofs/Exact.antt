@@ -12,6 +12,7 @@ use Rattle.serde_json.specs.Data as tree
 use Rattle.serde_json.specs.Data.{Data, null, boolean, number, string, array, Items, item, Members, no_members, member, put, depth, items_depth, members_depth}
 use Rattle.serde_json.specs.View.{items_of}
 use Rattle.serde_json.specs.Written.{has_float, items_have_float, members_have_float}
+use Rattle.report_json.specs.Changes.{flag}
 use Rattle.report_json.specs.Json.{NamedValues, at_line, count, list, object, optional, outcome_json, text, value_json, with}
 
 pub record IsExact (n : ℕ) (d : Data) : Type 0 where
@@ -88,6 +89,9 @@ text_exact n content = record { no_float = refl; shallow = omega arith }
 
 pub count_exact : (n : ℕ) (amount : ℕ) → IsExact n (count amount)
 count_exact n amount = record { no_float = refl; shallow = omega arith }
+
+pub flag_exact : (n : ℕ) (holds : Bool) → IsExact n (flag holds)
+flag_exact n holds = record { no_float = refl; shallow = omega arith }
 
 pub null_exact : (n : ℕ) → IsExact n null
 null_exact n = record { no_float = refl; shallow = omega arith }

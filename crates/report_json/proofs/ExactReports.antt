@@ -1,6 +1,7 @@
 -- Reports have no float and do not nest deep, so what is written of them reads back.
 use Rattle.std.proofs.Common.{ℕ, ◌≤◌, List, [], ◌∷◌, Option, arith, suc}
 use Rattle.std.specs.List.{AllByRecursion}
+use Rattle.std.specs.Option.{option_map}
 use Rattle.act_expr.specs.declared.outcome.Outcome.{Outcome}
 use Rattle.act_expr.specs.declared.outcome.Outcome.TheVariants as came_to
 use Rattle.stage_ends.specs.declared.fate.Fate.{Fate}
@@ -11,18 +12,26 @@ use Rattle.serde_json.specs.Data.{depth}
 use Rattle.serde_json.specs.Read.{max_depth}
 use Rattle.report_rows.specs.declared.because.Because.{Because}
 use Rattle.report_rows.specs.declared.because.Because.TheVariants.{Created, After, Inner, Pinned, Ended, Waiting, Open}
+use Rattle.report_rows.specs.declared.in_run.InRun.{InRun}
 use Rattle.report_rows.specs.declared.row.Row.{Row}
 use Rattle.report_rows.specs.declared.row.Row.TheVariants as a_row
 use Rattle.report_rows.specs.declared.shift.Shift.{Shift}
 use Rattle.report_rows.specs.declared.shift.Shift.TheVariants.{Later, Earlier}
 use Rattle.report_rows.specs.declared.standing.Standing.{Standing}
 use Rattle.report_rows.specs.declared.standing.Standing.TheVariants.{Absent, Pending, Completed}
+use Rattle.report_rows.specs.declared.tried_change.TriedChange.{TriedChange}
+use Rattle.report_rows.specs.declared.tried_change.TriedChange.TheVariants.{NoTime, NotQueued, NoFailure, WithoutEnd, TwiceTheDelay}
+use Rattle.report_rows.specs.Ends.{delay_in}
 use Rattle.report_rows.specs.Report.{Report}
 use Rattle.report_rows.specs.Rows.{latest_start}
-use Rattle.report_json.specs.Heads.{Fact, a_text, a_count, maybe_count, maybe_outcome, a_standing, some_names, an_answer, some_rows, Facts, fact_json, facts, facts_json, join_members, object_of}
+use Rattle.reply_rescue.specs.Ends.{twice}
+use Rattle.report_json.specs.Changes.{tried_members}
+use Rattle.time_sweep.specs.declared.haste.Part.{Part}
+use Rattle.time_sweep.specs.declared.haste.Part.TheVariants.{Both, Queue}
+use Rattle.report_json.specs.Heads.{Fact, a_text, a_count, maybe_count, maybe_outcome, a_standing, some_names, an_answer, some_hundredths, some_rows, Facts, fact_json, facts, facts_json, join_members, left_members, object_of}
 use Rattle.report_json.specs.Json.{at_line, count, object, outcome_json, text}
-use Rattle.report_json.specs.Rows.{because_members, exception_json, fate_members, kind_of_stage, moment_in, names_json, outcome_in, row_json, row_members, rows_json, shift_members, standing_json, standing_members}
-use Rattle.report_json.proofs.Exact.{IsExact, at_line_exact, count_exact, deeper, list_exact, null_exact, object_exact, optional_exact, outcome_exact, text_exact, value_exact}
+use Rattle.report_json.specs.Rows.{because_members, exception_json, fate_members, in_run_json, kind_of_stage, moment_in, names_json, outcome_in, own_members, row_json, row_members, rows_json, shift_members, standing_json, standing_members}
+use Rattle.report_json.proofs.Exact.{IsExact, at_line_exact, count_exact, deeper, flag_exact, list_exact, null_exact, object_exact, optional_exact, outcome_exact, text_exact, value_exact}
 
 -- ---- rows
 
@@ -65,6 +74,24 @@ exception_exact n (came_to.Wrapped name) = text_exact n name
 names_exact : (n : ℕ) (names : List (List ℕ)) → IsExact (suc n) (names_json names)
 names_exact n names = list_exact n text names (text_exact n)
 
+change_exact : (change : TriedChange) → IsExact 1 (object (tried_members change))
+change_exact NoTime = object_exact 0 (tried_members NoTime) (text_exact 0 _, tt)
+change_exact NotQueued = object_exact 0 (tried_members NotQueued) (text_exact 0 _, tt)
+change_exact (NoFailure value) = object_exact 0 (tried_members (NoFailure value)) (text_exact 0 _, (value_exact 0 value, tt))
+change_exact (WithoutEnd index end is_only) = object_exact 0 (tried_members (WithoutEnd index end is_only))
+    (text_exact 0 _, (count_exact 0 _, (text_exact 0 _, (count_exact 0 _, (optional_exact 0 count (delay_in end) (count_exact 0), (flag_exact 0 is_only, tt))))))
+change_exact (TwiceTheDelay index end is_only) = object_exact 0 (tried_members (TwiceTheDelay index end is_only)) (
+  text_exact 0 _,
+  (
+    optional_exact 0 count (option_map twice (delay_in end)) (count_exact 0),
+    (count_exact 0 _, (text_exact 0 _, (count_exact 0 _, (optional_exact 0 count (delay_in end) (count_exact 0), (flag_exact 0 is_only, tt))))),
+  ),
+)
+
+in_run_exact : (run : InRun) → IsExact 2 (in_run_json run)
+in_run_exact run = object_exact 1 (own_members run.queued run.ran run.standing)
+    (count_exact 1 _, (count_exact 1 _, (optional_exact 1 outcome_json (outcome_in run.standing) (outcome_exact 0), (optional_exact 1 count (moment_in run.standing) (count_exact 1), tt))))
+
 row_exact : (row : Row) → IsExact 3 (row_json row)
 row_exact (a_row.State name op rank standing) = object_exact 2 (row_members (a_row.State name op rank standing))
     (text_exact 2 _, (text_exact 2 _, (count_exact 2 _, (optional_exact 2 outcome_json (outcome_in standing) (outcome_exact 1), (optional_exact 2 count (moment_in standing) (count_exact 2), tt)))))
@@ -82,6 +109,11 @@ row_exact (a_row.Trial name sooner outcome moment) = object_exact 2 (row_members
     (text_exact 2 _, (count_exact 2 _, (outcome_exact 1 outcome, (count_exact 2 _, tt))))
 row_exact (a_row.Slack name slack start) = object_exact 2 (row_members (a_row.Slack name slack start))
     (text_exact 2 _, (optional_exact 2 count slack (count_exact 2), (count_exact 2 _, (optional_exact 2 count (latest_start start slack) (count_exact 2), tt))))
+row_exact (a_row.Rescue name change value moment) = object_exact 2 (row_members (a_row.Rescue name change value moment))
+    (text_exact 2 _, (deeper 1 2 _ (omega arith) (change_exact change), (value_exact 2 value, (count_exact 2 _, tt))))
+row_exact (a_row.Differs name good bad) = object_exact 2 (row_members (a_row.Differs name good bad)) (text_exact 2 _, (in_run_exact good, (in_run_exact bad, tt)))
+row_exact (a_row.OnlyInGood name good) = object_exact 2 (row_members (a_row.OnlyInGood name good)) (text_exact 2 _, (in_run_exact good, (null_exact 2, tt)))
+row_exact (a_row.OnlyInBad name bad) = object_exact 2 (row_members (a_row.OnlyInBad name bad)) (text_exact 2 _, (null_exact 2, (in_run_exact bad, tt)))
 
 rows_exact : (rows : List Row) → IsExact 4 (rows_json rows)
 rows_exact rows = list_exact 3 row_json rows row_exact
@@ -94,6 +126,10 @@ join_exact (Returns value) = object_exact 3 (join_members (Returns value)) (text
 join_exact Cancelled = object_exact 3 (join_members Cancelled) (text_exact 3 _, (text_exact 3 _, (null_exact 3, tt)))
 join_exact (Throws name) = object_exact 3 (join_members (Throws name)) (text_exact 3 _, (text_exact 3 _, (text_exact 3 _, tt)))
 
+left_exact : (part : Part) (percent : ℕ) → IsExact 4 (object (left_members part percent))
+left_exact Both percent = object_exact 3 (left_members Both percent) (count_exact 3 _, (count_exact 3 _, tt))
+left_exact Queue percent = object_exact 3 (left_members Queue percent) (count_exact 3 _, tt)
+
 fact_exact : (fact : Fact) → IsExact 4 (fact_json fact)
 fact_exact (a_text content) = text_exact 4 content
 fact_exact (a_count amount) = count_exact 4 amount
@@ -102,6 +138,7 @@ fact_exact (maybe_outcome outcome) = optional_exact 4 outcome_json outcome (outc
 fact_exact (a_standing standing) = deeper 2 4 _ (omega arith) (standing_exact standing)
 fact_exact (some_names listed) = names_exact 3 listed
 fact_exact (an_answer join) = join_exact join
+fact_exact (some_hundredths part percent) = left_exact part percent
 fact_exact (some_rows listed) = rows_exact listed
 
 facts_exact : (facts : Facts) → AllByRecursion (λ member. IsExact 4 member.1) (facts_json facts)

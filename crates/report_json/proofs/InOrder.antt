@@ -1,9 +1,9 @@
 -- The members of a report stand in the order of their names, also with the number of the line that is answered.
-use Rattle.std.proofs.Common.{◌≡◌, ℕ, List, [], ◌∷◌, ◌++◌, Option, Result, OnOk, codes, refl, ap, sym, ◌∙◌, subst}
+use Rattle.std.proofs.Common.{◌≡◌, ℕ, List, [], ◌∷◌, ◌++◌, Option, None, Some, Result, OnOk, codes, refl, ap, sym, ◌∙◌, subst}
 use Rattle.json.specs.Token.{Token, begin_object, end_object}
 use Rattle.serde_json.specs.Data.{no_members, put}
 use Rattle.report_rows.specs.declared.head.Head.{Head}
-use Rattle.report_rows.specs.declared.head.Head.TheVariants.{Times}
+use Rattle.report_rows.specs.declared.head.Head.TheVariants.{Times, Sweep}
 use Rattle.report_rows.specs.declared.row.Row.{Row}
 use Rattle.report_rows.specs.Report.{Report}
 use Rattle.report_json.specs.Heads.{facts, facts_after, facts_before, facts_json, object_of}
@@ -27,6 +27,8 @@ pub record InOrder (head : Head) (rows : List Row) : Type 0 where
 -- each head is looked at by itself
 pub in_order : (head : Head) (rows : List Row) → InOrder head rows
 in_order (Times version) rows = record { same = refl; sorted = refl; numbered = λ line. refl; stays = λ line. refl }
+in_order (Sweep version name moment None all) rows = record { same = refl; sorted = refl; numbered = λ line. refl; stays = λ line. refl }
+in_order (Sweep version name moment (Some haste) all) rows = record { same = refl; sorted = refl; numbered = λ line. refl; stays = λ line. refl }
 in_order _ rows = record { same = refl; sorted = refl; numbered = λ line. refl; stays = λ line. refl }
 
 -- what a report says, told in these parts

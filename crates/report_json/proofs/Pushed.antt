@@ -83,6 +83,12 @@ pub last_row : {E : Type 0} (r : Result (Unit {0}) E) (rows : NamedValues) (name
 last_row (Ok done) rows name d e old so_far new is first then = next_row rows name e old so_far new first (member_is name d e so_far new is then)
 last_row (Err fault) rows name d e old so_far new is first then = tt
 
+-- the same where the data of the last one are added by the call that is returned
+pub then_row : {E : Type 0} (r : Result (Unit {0}) E) (rows : NamedValues) (name : List ℕ) (d : Data) (old so_far named new : List Token) → TellsRows rows old so_far → named ≡ so_far ++ key name ∷ []
+    → OnOk r (Tells d named new) → OnOk r (TellsRows (rows ++ (name, d) ∷ []) old new)
+then_row (Ok done) rows name d old so_far named new first is told = next_row rows name d old so_far new first (named_told name d so_far named new is told)
+then_row (Err fault) rows name d old so_far named new first is told = tt
+
 pub both_rows : (xs ys : NamedValues) (old so_far new : List Token) → TellsRows xs old so_far → TellsRows ys so_far new → TellsRows (xs ++ ys) old new
 both_rows xs ys old so_far new first then = record {
   tokens =

@@ -1,5 +1,5 @@
 -- What a report says, as a JSON object. Its members stand in the order of their names, in two parts: `line`, where it answers one, stands between them.
-use Rattle.std.specs.Prelude.{ℕ, List, [], ◌∷◌, ◌++◌, Option, codes, map}
+use Rattle.std.specs.Prelude.{ℕ, List, [], ◌∷◌, ◌++◌, Option, None, Some, codes, map}
 use Rattle.act_expr.specs.declared.outcome.Outcome.{Outcome}
 use Rattle.stage_graph.specs.declared.op.Op.{Op}
 use Rattle.stage_graph.specs.Texts.{op_text}
@@ -7,11 +7,14 @@ use Rattle.stage_ops.specs.declared.state.Join.{Join}
 use Rattle.stage_ops.specs.declared.state.Join.TheVariants.{Waits, Returns, Cancelled, Throws}
 use Rattle.serde_json.specs.Data.{Data, null}
 use Rattle.report_rows.specs.declared.head.Head.{Head}
-use Rattle.report_rows.specs.declared.head.Head.TheVariants.{All, Times, One, Blame, Path, Change, Changes, Drift, ChangesAgainst, DriftAgainst, Ends, Failures, Sweep, Slack}
+use Rattle.report_rows.specs.declared.head.Head.TheVariants.{All, Times, One, Blame, Path, Change, Changes, Drift, ChangesAgainst, DriftAgainst, Ends, Failures, Sweep, Slack, Rescue, Differences}
 use Rattle.report_rows.specs.declared.row.Row.{Row}
 use Rattle.report_rows.specs.declared.standing.Standing.{Standing}
 use Rattle.report_rows.specs.Modes.{mode_text}
 use Rattle.report_rows.specs.Report.{Report}
+use Rattle.time_sweep.specs.declared.haste.Haste.{Haste}
+use Rattle.time_sweep.specs.declared.haste.Part.{Part}
+use Rattle.time_sweep.specs.declared.haste.Part.TheVariants.{Both, Queue}
 use Rattle.report_json.specs.Json.{NamedValues, text, count, optional, object, outcome_json, value_json}
 use Rattle.report_json.specs.Rows.{moment_in, names_json, outcome_in, rows_json, standing_json}
 
@@ -28,6 +31,11 @@ join_members (Throws name) =
     (codes "exception", text (codes "java.util.concurrent.CompletionException")) ∷
     (codes "cause", text name) ∷ []
 
+-- what is left of the times of actions, in hundredths: of both, or of how long they are queued
+abbrev pub left_members : Part → ℕ → NamedValues
+left_members Both percent = (codes "queued", count percent) ∷ (codes "runs", count percent) ∷ []
+left_members Queue percent = (codes "queued", count percent) ∷ []
+
 -- ---- what a report says under a name
 
 pub data Fact : Type 0 where
@@ -39,6 +47,8 @@ pub data Fact : Type 0 where
   a_standing : Standing → Fact
   some_names : List (List ℕ) → Fact
   an_answer : Join → Fact
+  -- what is left of the times of actions
+  some_hundredths : Part → ℕ → Fact
   some_rows : List Row → Fact
 
 abbrev pub fact_json : Fact → Data
@@ -49,6 +59,7 @@ fact_json (maybe_outcome outcome) = optional outcome_json outcome
 fact_json (a_standing standing) = standing_json standing
 fact_json (some_names listed) = names_json listed
 fact_json (an_answer join) = object (join_members join)
+fact_json (some_hundredths part percent) = object (left_members part percent)
 fact_json (some_rows listed) = rows_json listed
 
 abbrev pub Facts : Type 0
@@ -58,6 +69,15 @@ abbrev pub facts_json : Facts → NamedValues
 facts_json facts = map (λ fact. (fact.0, fact_json fact.1)) facts
 
 -- ---- the facts of each report
+
+-- how much faster the actions of trials are, where that is told
+abbrev pub haste_facts : Option Haste → Facts
+haste_facts None = []
+haste_facts (Some haste) = (codes "hundredths", some_hundredths haste.part haste.percent) ∷ []
+
+-- all trials are counted, of which not all may have a row
+abbrev pub first_of_sweep : Option Haste → ℕ → Facts
+first_of_sweep haste all = (codes "count", a_count all) ∷ haste_facts haste
 
 -- those whose names are before `line`
 abbrev pub facts_before : Head → Facts
@@ -74,9 +94,11 @@ facts_before (Ends version) = []
 facts_before (Failures version) = []
 facts_before (ChangesAgainst version against) = (codes "against", a_count against) ∷ []
 facts_before (DriftAgainst version against) = (codes "against", a_count against) ∷ []
--- all trials are counted, of which not all may have a row
-facts_before (Sweep version name moment all) = (codes "count", a_count all) ∷ []
+facts_before (Sweep version name moment haste all) = first_of_sweep haste all
 facts_before (Slack version name moment all) = (codes "count", a_count all) ∷ []
+facts_before (Rescue version name standing by tried all) = (codes "by", maybe_count by) ∷ (codes "count", a_count all) ∷ []
+-- what the stage is in both runs
+facts_before (Differences name good bad) = (codes "bad", a_standing bad) ∷ (codes "good", a_standing good) ∷ []
 
 -- of a list of stages
 abbrev pub listed : List ℕ → List Row → ℕ → Facts
@@ -112,6 +134,17 @@ last_of_change version name old new =
     (codes "stage", a_text name) ∷
     (codes "version", a_count version) ∷ []
 
+-- what the stage is now, and the changes by which it would have a value
+abbrev pub last_of_rescue : ℕ → List ℕ → Standing → ℕ → List Row → Facts
+last_of_rescue version name standing tried rescues =
+    (codes "moment", maybe_count (moment_in standing)) ∷
+    (codes "outcome", maybe_outcome (outcome_in standing)) ∷
+    (codes "report", a_text (codes "rescue")) ∷
+    (codes "rescues", some_rows rescues) ∷
+    (codes "stage", a_text name) ∷
+    (codes "tried", a_count tried) ∷
+    (codes "version", a_count version) ∷ []
+
 -- those whose names are after `line`
 abbrev pub facts_after : Head → List Row → Facts
 facts_after (All version parent mode) stages = (codes "mode", a_text (mode_text mode)) ∷ listed_since (codes "all") parent stages version
@@ -126,8 +159,10 @@ facts_after (ChangesAgainst version against) stages = listed (codes "changes") s
 facts_after (DriftAgainst version against) stages = listed (codes "drift") stages version
 facts_after (Ends version) ends = listed (codes "ends") ends version
 facts_after (Failures version) failures = listed (codes "failures") failures version
-facts_after (Sweep version name moment all) trials = moment_of (codes "sweep") moment ++ listed_of (codes "target") name (codes "trials") trials version
+facts_after (Sweep version name moment haste all) trials = moment_of (codes "sweep") moment ++ listed_of (codes "target") name (codes "trials") trials version
 facts_after (Slack version name moment all) stages = moment_of (codes "slack") moment ++ listed_of (codes "stage") name (codes "stages") stages version
+facts_after (Rescue version name standing by tried all) rescues = last_of_rescue version name standing tried rescues
+facts_after (Differences name good bad) stages = (codes "report", a_text (codes "differences")) ∷ (codes "stage", a_text name) ∷ (codes "stages", some_rows stages) ∷ []
 
 -- ---- the report
 

@@ -8,6 +8,7 @@ use Rattle.stage_graph.specs.Texts.{op_text}
 use Rattle.serde_json.specs.Data.{Data, null}
 use Rattle.report_rows.specs.declared.because.Because.{Because}
 use Rattle.report_rows.specs.declared.because.Because.TheVariants.{Created, After, Inner, Pinned, Ended, Waiting, Open}
+use Rattle.report_rows.specs.declared.in_run.InRun.{InRun}
 use Rattle.report_rows.specs.declared.row.Row.{Row}
 use Rattle.report_rows.specs.declared.row.Row.TheVariants as a_row
 use Rattle.report_rows.specs.declared.shift.Shift.{Shift}
@@ -15,7 +16,8 @@ use Rattle.report_rows.specs.declared.shift.Shift.TheVariants.{Later, Earlier}
 use Rattle.report_rows.specs.declared.standing.Standing.{Standing}
 use Rattle.report_rows.specs.declared.standing.Standing.TheVariants.{Absent, Pending, Completed}
 use Rattle.report_rows.specs.Rows.{latest_start}
-use Rattle.report_json.specs.Json.{NamedValues, text, count, optional, list, object, outcome_json}
+use Rattle.report_json.specs.Changes.{tried_members}
+use Rattle.report_json.specs.Json.{NamedValues, text, count, optional, list, object, outcome_json, value_json}
 
 -- ---- what a stage is
 
@@ -80,6 +82,14 @@ exception_json (came_to.Value value) = null
 exception_json (came_to.Bare name) = text name
 exception_json (came_to.Wrapped name) = text name
 
+-- ---- what a stage is in one of two runs
+
+abbrev pub own_members : ℕ → ℕ → Standing → NamedValues
+own_members queued ran standing = (codes "queued", count queued) ∷ (codes "ran", count ran) ∷ standing_members standing
+
+abbrev pub in_run_json : InRun → Data
+in_run_json run = object (own_members run.queued run.ran run.standing)
+
 -- ---- rows
 
 abbrev pub row_members : Row → NamedValues
@@ -126,6 +136,23 @@ row_members (a_row.Slack name slack start) =
     (codes "slack", optional count slack) ∷
     (codes "start", count start) ∷
     (codes "latest", optional count (latest_start start slack)) ∷ []
+row_members (a_row.Rescue name change value moment) =
+    (codes "name", text name) ∷
+    (codes "change", object (tried_members change)) ∷
+    (codes "value", value_json value) ∷
+    (codes "moment", count moment) ∷ []
+row_members (a_row.Differs name good bad) =
+    (codes "name", text name) ∷
+    (codes "good", in_run_json good) ∷
+    (codes "bad", in_run_json bad) ∷ []
+row_members (a_row.OnlyInGood name good) =
+    (codes "name", text name) ∷
+    (codes "good", in_run_json good) ∷
+    (codes "bad", null) ∷ []
+row_members (a_row.OnlyInBad name bad) =
+    (codes "name", text name) ∷
+    (codes "good", null) ∷
+    (codes "bad", in_run_json bad) ∷ []
 
 abbrev pub row_json : Row → Data
 row_json row = object (row_members row)

@@ -1,11 +1,12 @@
 //! What a report says, in a line: its members in the order of their names.
 ghost use Rattle.std.specs.Prelude.{◌∷◌, ◌++◌, [], OnOk, codes};
 ghost use Rattle.report_rows.specs.declared.head.Head.TheVariants as a_head;
-ghost use Rattle.report_json.specs.Heads.{facts_after, facts_before, facts_json, join_members, last_of_change, last_of_one, listed, listed_of, listed_since, moment_of, object_of};
+ghost use Rattle.report_json.specs.Heads.{facts_after, facts_before, facts_json, first_of_sweep, join_members, last_of_change, last_of_one, last_of_rescue, listed, listed_of, listed_since, moment_of, object_of};
 ghost use Rattle.report_json.specs.Json.{at_line, count, object, optional, text};
-ghost use Rattle.report_json.specs.Rows.{names_json, rows_json};
+ghost use Rattle.report_json.specs.Rows.{names_json, rows_json, standing_json};
 ghost use Rattle.report_json.specs.Tokens.{Tells, TellsMember, TellsRows, line_rows};
 
+use crate::haste::push_haste;
 use crate::line::Line;
 use crate::names::{push_join_member, push_names_member};
 use crate::rows::push_rows;
@@ -16,6 +17,7 @@ use report_rows::{Head, Names, Rows, Said, Standing, Text, mode_text};
 use stage_graph::Op;
 use stage_ops::Join;
 use std::alloc::AllocError;
+use time_sweep::Haste;
 
 /// Adds the number of the line that is answered, where there is one.
 pub(crate) fn push_number(line: &mut Line, number: Option<u64>) -> Result<(), AllocError>
@@ -57,8 +59,12 @@ fn push_first(line: &mut Line, head: &Head<'_>) -> Result<(), AllocError>
         Head::Blame { chain, .. } => push_names_member(line, "chain", chain.as_slice()),
         Head::ChangesAgainst { against, .. } => line.count("against", u64::from(*against)),
         Head::DriftAgainst { against, .. } => line.count("against", u64::from(*against)),
-        Head::Sweep { count, .. } => line.count("count", *count as u64),
+        Head::Sweep { haste, count, .. } => push_first_of_sweep(line, *haste, *count),
         Head::Slack { count, .. } => line.count("count", *count as u64),
+        Head::Rescue { by, count, .. } => push_first_of_rescue(line, *by, *count),
+        Head::Differences { good, bad, .. } => {
+            push_first_of_differences(line, &good.standing(), &bad.standing())
+        }
         Head::All { .. } => Ok(()),
         Head::Times { .. } => Ok(()),
         Head::Path { .. } => Ok(()),
@@ -131,6 +137,17 @@ fn push_last<R: StateRepresentation>(
             moment,
             ..
         } => push_last_of_slack(line, *version, name, *moment, rows),
+        Head::Rescue {
+            version,
+            name,
+            standing,
+            tried,
+            ..
+        } => {
+            let standing = standing.standing();
+            push_last_of_rescue(line, *version, name, &standing, *tried, rows)
+        }
+        Head::Differences { name, .. } => push_last_of_differences(line, name, rows),
     }
 }
 
@@ -162,6 +179,18 @@ fn push_last_of_path<R: StateRepresentation>(
     push_listed_of(line, "stage", name, "steps", rows, version)
 }
 
+// The first members of `sweep`.
+fn push_first_of_sweep(
+    line: &mut Line,
+    haste: Option<Haste>,
+    count: usize,
+) -> Result<(), AllocError>
+    ensures { OnOk result (TellsRows (facts_json (first_of_sweep haste count)) line.old line.new) }
+{
+    line.count("count", count as u64)?;
+    push_haste(line, haste)
+}
+
 // The last members of `sweep`.
 fn push_last_of_sweep<R: StateRepresentation>(
     line: &mut Line,
@@ -188,6 +217,36 @@ fn push_last_of_slack<R: StateRepresentation>(
 {
     push_moment_of(line, "slack", moment)?;
     push_listed_of(line, "stage", name, "stages", rows, version)
+}
+
+// The first members of `rescue`.
+fn push_first_of_rescue(line: &mut Line, by: Option<u64>, all: usize) -> Result<(), AllocError>
+    ensures { OnOk result (TellsRows ((codes "by", optional count by) ∷ (codes "count", count all) ∷ []) line.old line.new) }
+{
+    line.optional_count("by", by)?;
+    line.count("count", all as u64)
+}
+
+// The last members of `rescue`.
+fn push_last_of_rescue<R: StateRepresentation>(
+    line: &mut Line,
+    version: u32,
+    name: &Text<'_>,
+    standing: &Standing,
+    tried: usize,
+    rows: &mut Rows<'_, R>,
+) -> Result<(), AllocError>
+    ensures { OnOk result (TellsRows (facts_json (last_of_rescue version name.now standing.now tried rows.old)) line.old line.new) }
+{
+    let name = name.as_str();
+    push_moment(line, standing)?;
+    push_outcome(line, standing)?;
+    line.text("report", "rescue")?;
+    line.name("rescues")?;
+    push_rows(line, rows)?;
+    line.text("stage", name)?;
+    line.count("tried", tried as u64)?;
+    line.count("version", u64::from(version))
 }
 
 // The moment of a stage, and the name of a report that lists what leads to it.
@@ -327,4 +386,33 @@ fn push_last_of_change(
     line.text("report", "change")?;
     line.text("stage", name)?;
     line.count("version", u64::from(version))
+}
+
+// What the stage is in both runs.
+fn push_first_of_differences(
+    line: &mut Line,
+    good: &Standing,
+    bad: &Standing,
+) -> Result<(), AllocError>
+    ensures { OnOk result (TellsRows ((codes "bad", standing_json bad.now) ∷ (codes "good", standing_json good.now) ∷ []) line.old line.new) }
+{
+    line.name("bad")?;
+    push_standing(line, bad)?;
+    line.name("good")?;
+    push_standing(line, good)
+}
+
+// The stage's name, and the rows.
+fn push_last_of_differences<R: StateRepresentation>(
+    line: &mut Line,
+    name: &Text<'_>,
+    rows: &mut Rows<'_, R>,
+) -> Result<(), AllocError>
+    ensures { OnOk result (TellsRows ((codes "report", text (codes "differences")) ∷ (codes "stage", text name.now) ∷ (codes "stages", rows_json rows.old) ∷ []) line.old line.new) }
+{
+    let name = name.as_str();
+    line.text("report", "differences")?;
+    line.text("stage", name)?;
+    line.name("stages")?;
+    push_rows(line, rows)
 }

@@ -2,6 +2,8 @@
 //! `report_text`.
 #![tactic(auto)]
 
+mod changes;
+mod haste;
 mod heads;
 mod line;
 mod line_answers;
@@ -17,4 +19,6 @@ mod writing;
 pub use line_answers::write_at_version;
 pub use lines::write_answer;
 pub use object::Object;
-pub use reporting::{write_comparison, write_report, write_slack, write_sweep};
+pub use reporting::{
+    write_comparison, write_differences, write_report, write_rescue, write_slack, write_sweep,
+};

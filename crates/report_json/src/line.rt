@@ -4,6 +4,7 @@ ghost use Rattle.json.specs.Lex.{tokens};
 ghost use Rattle.json.specs.Print.{print};
 ghost use Rattle.json.specs.Token.{begin_array, begin_object, end_array, end_object, key};
 ghost use Rattle.serde_json.specs.Data.{null, number as number_of};
+ghost use Rattle.report_json.specs.Changes.{flag};
 ghost use Rattle.serde_json.specs.Find.{of_integer};
 ghost use Rattle.report_json.specs.Json.{count, optional, text, value_json};
 ghost use Rattle.report_json.specs.Tokens.{Tells, TellsMember};
@@ -118,6 +119,13 @@ impl Line {
         self.writer.null()
     }
 
+    // Adds whether something holds.
+    fn boolean(&mut self, holds: bool) -> Result<(), AllocError>
+        ensures { OnOk result (Tells (flag holds) self.old self.new) }
+    {
+        self.writer.boolean(holds)
+    }
+
     /// Adds the name of a member, before the member itself.
     pub(crate) fn name(&mut self, name: &str) -> Result<(), AllocError>
         ensures { OnOk result (self.new ≡ self.old ++ key name.now ∷ []) }
@@ -139,6 +147,14 @@ impl Line {
     {
         self.name(name)?;
         self.number_or_null(value)
+    }
+
+    /// Adds a member that says whether something holds.
+    pub(crate) fn flag(&mut self, name: &str, holds: bool) -> Result<(), AllocError>
+        ensures { OnOk result (TellsMember name.now (flag holds) self.old self.new) }
+    {
+        self.name(name)?;
+        self.boolean(holds)
     }
 
     /// Adds a member that is a text.

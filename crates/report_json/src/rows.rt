@@ -3,18 +3,21 @@ ghost use Rattle.std.specs.Prelude.{OnOk};
 ghost use Rattle.report_rows.specs.declared.row.Row.TheVariants as a_row;
 ghost use Rattle.report_rows.specs.declared.shift.Shift.TheVariants.{Earlier, Later};
 ghost use Rattle.report_json.specs.Json.{object};
-ghost use Rattle.report_json.specs.Rows.{row_json, rows_json, shift_members};
+ghost use Rattle.report_json.specs.Rows.{in_run_json, own_members, row_json, rows_json, shift_members};
 ghost use Rattle.report_json.specs.Tokens.{Tells};
 
+use crate::changes::push_tried;
 use crate::line::Line;
 use crate::line_values::push_outcome_member;
 use crate::names::push_names_member;
 use crate::stages::{
     push_because, push_exception, push_fate, push_moment, push_outcome, push_standing,
 };
-use act_expr::Outcome;
+use act_expr::{Outcome, Value};
 use propagate::StateRepresentation;
-use report_rows::{Because, LentNames, Row, Rows, Shift, Standing, latest_start};
+use report_rows::{
+    Because, InRun, LentNames, Row, Rows, Shift, Standing, TriedChange, latest_start,
+};
 use stage_ends::Fate;
 use stage_graph::Op;
 use std::alloc::AllocError;
@@ -81,6 +84,15 @@ fn push_row(line: &mut Line, row: &Row<'_>) -> Result<(), AllocError>
             moment,
         } => push_trial(line, name.as_str(), *sooner, outcome.as_outcome(), *moment),
         Row::Slack { name, slack, start } => push_slack(line, name.as_str(), *slack, *start),
+        Row::Rescue {
+            name,
+            change,
+            value,
+            moment,
+        } => push_rescue(line, name.as_str(), change, *value, *moment),
+        Row::Differs { name, good, bad } => push_differs(line, name.as_str(), good, bad),
+        Row::OnlyInGood { name, good } => push_only_in_good(line, name.as_str(), good),
+        Row::OnlyInBad { name, bad } => push_only_in_bad(line, name.as_str(), bad),
     }
 }
 
@@ -258,5 +270,85 @@ fn push_slack(line: &mut Line, name: &str, slack: Option<u64>, start: u64) -> Re
     line.text("name", name)?;
     line.optional_count("slack", slack)?;
     line.count("start", start)?;
+    line.end_object()
+}
+
+// A change of the stage by which another one would have a value, which, and when.
+fn push_rescue(
+    line: &mut Line,
+    name: &str,
+    change: &TriedChange<'_>,
+    value: Value,
+    moment: u64,
+) -> Result<(), AllocError>
+    ensures { OnOk result (Tells (row_json (a_row.Rescue name.now change.now value moment)) line.old line.new) }
+{
+    line.begin_object()?;
+    line.name("change")?;
+    push_tried(line, change)?;
+    line.count("moment", moment)?;
+    line.text("name", name)?;
+    line.stage_value("value", value)?;
+    line.end_object()
+}
+
+// How long the stage's own action was queued and ran, its outcome and its moment.
+fn push_own(line: &mut Line, queued: u64, ran: u64, standing: &Standing) -> Result<(), AllocError>
+    ensures { OnOk result (Tells (object (own_members queued ran standing.now)) line.old line.new) }
+{
+    line.begin_object()?;
+    push_moment(line, standing)?;
+    push_outcome(line, standing)?;
+    line.count("queued", queued)?;
+    line.count("ran", ran)?;
+    line.end_object()
+}
+
+// What the stage is in a run.
+fn push_in_run(line: &mut Line, run: &InRun<'_>) -> Result<(), AllocError>
+    ensures { OnOk result (Tells (in_run_json run.now) line.old line.new) }
+{
+    push_own(line, run.queued, run.ran, &run.standing.standing())
+}
+
+// What the stage is in the good run and in the bad one.
+fn push_differs(
+    line: &mut Line,
+    name: &str,
+    good: &InRun<'_>,
+    bad: &InRun<'_>,
+) -> Result<(), AllocError>
+    ensures { OnOk result (Tells (row_json (a_row.Differs name.now good.now bad.now)) line.old line.new) }
+{
+    line.begin_object()?;
+    line.name("bad")?;
+    push_in_run(line, bad)?;
+    line.name("good")?;
+    push_in_run(line, good)?;
+    line.text("name", name)?;
+    line.end_object()
+}
+
+// The same, where the bad run has no such stage.
+fn push_only_in_good(line: &mut Line, name: &str, good: &InRun<'_>) -> Result<(), AllocError>
+    ensures { OnOk result (Tells (row_json (a_row.OnlyInGood name.now good.now)) line.old line.new) }
+{
+    line.begin_object()?;
+    line.none("bad")?;
+    line.name("good")?;
+    push_in_run(line, good)?;
+    line.text("name", name)?;
+    line.end_object()
+}
+
+// The same, where the good run has no such stage.
+fn push_only_in_bad(line: &mut Line, name: &str, bad: &InRun<'_>) -> Result<(), AllocError>
+    ensures { OnOk result (Tells (row_json (a_row.OnlyInBad name.now bad.now)) line.old line.new) }
+{
+    line.begin_object()?;
+    line.name("bad")?;
+    push_in_run(line, bad)?;
+    line.none("good")?;
+    line.text("name", name)?;
     line.end_object()
 }

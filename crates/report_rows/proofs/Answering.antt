@@ -1,5 +1,5 @@
 -- What a report is answered by: that it is not made, not written to its end, or written.
-use Rattle.std.proofs.Common.{◌≡◌, ◌↔◌, Option, None, Some, Result, Ok, Err, refl, ap, ◌∙◌}
+use Rattle.std.proofs.Common.{◌≡◌, ◌≢◌, ◌↔◌, Option, None, Some, Result, Ok, Err, refl, ap, ◌∙◌}
 use Rattle.std.specs.Option.{option_map}
 use Rattle.scratch_eval.specs.declared.fault.QueryFault.{QueryFault}
 use Rattle.scratch_eval.specs.declared.fault.QueryFault.TheVariants as query
@@ -75,3 +75,8 @@ stage_was_there done form report found is = (λ same. absurd (other same), λ no
 pub same_failures : (r : Answered) (fault : Stopped) → r ≡ Err (report_fault fault) → failures_in (Err fault) ≡ failed_writes r
 same_failures r stopped.Write is = rw is refl
 same_failures r stopped.Memory is = rw is refl
+
+-- what stops the writing is no want of a stage
+pub is_there : (r : Answered) (fault : Stopped) → r ≡ Err (report_fault fault) → r ≢ Err NoStage
+is_there r stopped.Write is same = cc
+is_there r stopped.Memory is same = cc

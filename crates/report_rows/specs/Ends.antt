@@ -1,5 +1,5 @@
 -- The ends of stages, as reports name them.
-use Rattle.std.specs.Prelude.{ℕ, List, [], Option, None, Some, codes, slice_get}
+use Rattle.std.specs.Prelude.{ℕ, ◌==◌, ◌&&◌, Bool, false, List, [], Option, None, Some, codes, count_by, is_some, slice_get}
 use Rattle.std.specs.Option.{option_and_then}
 use Rattle.stage_graph.specs.declared.end.Act.{Act}
 use Rattle.stage_graph.specs.declared.end.Act.TheVariants.{Complete, CompleteExceptionally, Cancel, OrTimeout, CompleteOnTimeout}
@@ -37,3 +37,23 @@ end_of index stage = slice_get stage.ends index
 
 abbrev pub end_at : PlainGraph → ℕ → ℕ → Option End
 end_at graph place index = option_and_then (end_of index) (stage_at graph.places place)
+
+-- the tick at which it is set
+abbrev pub set_at : Option End → ℕ
+set_at None = 0
+set_at (Some end) = end.at
+
+abbrev pub is_timeout : End → Bool
+is_timeout end = is_some (delay_by end.act)
+
+-- the end of an index is the one timeout of a stage
+abbrev pub is_only_in : ℕ → Stage → Bool
+is_only_in index stage = is_some (delay_in (end_of index stage)) && (count_by is_timeout stage.ends == 1)
+
+abbrev pub only_where : ℕ → Option Stage → Bool
+only_where index None = false
+only_where index (Some stage) = is_only_in index stage
+
+-- of the stage at a place
+abbrev pub is_only_timeout : PlainGraph → ℕ → ℕ → Bool
+is_only_timeout graph place index = only_where index (stage_at graph.places place)

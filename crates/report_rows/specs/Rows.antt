@@ -1,21 +1,29 @@
 -- What the reports say of a stage.
 use Rattle.std.specs.Prelude.{ℕ, ◌+◌, ◌-◌, ◌^◌, Option, None, Some, min, if◌then◌else◌}
-use Rattle.std.specs.Option.{option_map}
+use Rattle.std.specs.Option.{option_map, option_map_or}
 use Rattle.stage_graph.specs.declared.stage.Stage.{Stage}
-use Rattle.stage_graph.specs.Plain.{PlainGraph}
+use Rattle.stage_graph.specs.Plain.{PlainGraph, stage_at}
 use Rattle.stage_graph.specs.Walk.{rank}
 use Rattle.scratch_eval.specs.Path.{reason_at}
 use Rattle.version_store.specs.Plain.{PlainVersion}
 use Rattle.version_store.specs.Queries.{state_of, moment_in, start_in, before}
 use Rattle.failure_origins.specs.declared.failure.Failure.{Failure}
 use Rattle.stage_ends.specs.declared.fate.EndFate.{EndFate}
+use Rattle.reply_rescue.specs.declared.rescue.Rescue.{Rescue}
+use Rattle.run_comparison.specs.Differences.{share_of}
+use Rattle.run_comparison.specs.declared.difference.Difference.{Difference}
+use Rattle.run_comparison.specs.declared.difference.Stands.{Stands}
+use Rattle.run_comparison.specs.declared.difference.Stands.TheVariants.{Both, OnlyBad, OnlyGood}
 use Rattle.stage_slack.specs.declared.slack.Slack.{Slack}
 use Rattle.time_sweep.specs.declared.trial.Trial.{Trial}
+use Rattle.report_rows.specs.declared.in_run.InRun.{InRun}
 use Rattle.report_rows.specs.declared.row.Row.{Row}
 use Rattle.report_rows.specs.declared.row.Row.TheVariants as a_row
 use Rattle.report_rows.specs.declared.shift.Shift.{Shift}
+use Rattle.report_rows.specs.declared.standing.Standing.TheVariants.{Absent}
 use Rattle.report_rows.specs.Against.{is_changed}
 use Rattle.report_rows.specs.Causes.{because_of}
+use Rattle.report_rows.specs.Changes.{tried_change}
 use Rattle.report_rows.specs.Ends.{delay_in, end_at, end_text}
 use Rattle.report_rows.specs.Names.{name_at, names_at}
 use Rattle.report_rows.specs.Standings.{standing_at, standing_before, standing_there}
@@ -58,7 +66,7 @@ abbrev pub failure_row : PlainGraph → Failure → Stage → Row
 failure_row graph failure stage =
     a_row.Failure stage.name (standing_at graph failure.origin) (names_at graph failure.reaches) (names_at graph failure.handled)
 
--- what a target that completes at this tick would come to if the action of the stage took no time
+-- what a target that completes at this tick would come to if the action of the stage were faster
 abbrev pub trial_row : PlainGraph → ℕ → Trial → Row
 trial_row graph tick trial = a_row.Trial (name_at graph trial.place) (tick - trial.moment) trial.outcome trial.moment
 
@@ -70,3 +78,29 @@ slack_row graph slack = a_row.Slack (name_at graph slack.place) slack.ticks slac
 abbrev pub latest_start : ℕ → Option ℕ → Option ℕ
 latest_start start None = None
 latest_start start (Some ticks) = Some (min (start + ticks) (2 ^ 64 - 1))
+
+-- a change of a stage by which another one would have had a value, which, and when
+abbrev pub rescue_row : PlainGraph → Rescue → Row
+rescue_row graph rescue = a_row.Rescue (name_at graph rescue.place) (tried_change graph rescue.place rescue.change) rescue.value rescue.moment
+
+-- ---- a stage of a good run and of a bad one
+
+-- how long its own action was queued and ran, and what it came to
+abbrev pub in_run_of : PlainGraph → ℕ → InRun
+in_run_of graph place = record { queued = (share_of graph place).queued; ran = (share_of graph place).ran; standing = standing_at graph place }
+
+-- where none stands
+abbrev pub not_in_run : InRun
+not_in_run = record { queued = 0; ran = 0; standing = Absent }
+
+abbrev pub in_run : PlainGraph → ℕ → InRun
+in_run graph place = option_map_or (λ stage. in_run_of graph place) (stage_at graph.places place) not_in_run
+
+-- what it is in both, or in the one that has it
+abbrev pub stands_row : PlainGraph → PlainGraph → Stands → Row
+stands_row good bad (Both there here) = a_row.Differs (name_at bad here) (in_run good there) (in_run bad here)
+stands_row good bad (OnlyBad here) = a_row.OnlyInBad (name_at bad here) (in_run bad here)
+stands_row good bad (OnlyGood there) = a_row.OnlyInGood (name_at good there) (in_run good there)
+
+abbrev pub difference_row : PlainGraph → PlainGraph → Difference → Row
+difference_row good bad one = stands_row good bad one.stands

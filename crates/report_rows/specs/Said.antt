@@ -1,8 +1,8 @@
 -- What each report says.
-use Rattle.std.specs.Prelude.{ℕ, Bool, List, [], Option, None, Some, length, map, nat_lt, take}
+use Rattle.std.specs.Prelude.{ℕ, Bool, List, [], Option, Some, length, map, nat_lt}
 use Rattle.std.specs.Option.{option_map}
 use Rattle.stage_graph.specs.declared.stage.Stage.{Stage}
-use Rattle.stage_graph.specs.Plain.{stage_at, all_places, dependents}
+use Rattle.stage_graph.specs.Plain.{PlainGraph, stage_at, all_places, dependents}
 use Rattle.stage_graph.specs.Walk.{rank}
 use Rattle.stage_ops.specs.Java.{java_step}
 use Rattle.stage_ops.specs.Joins.{joined}
@@ -10,7 +10,10 @@ use Rattle.scratch_eval.specs.Blame.{chain}
 use Rattle.scratch_eval.specs.Path.{path}
 use Rattle.version_store.specs.Plain.{PlainVersion, parent_of}
 use Rattle.version_store.specs.Queries.{before, state_of, moment_in, touched_of}
+use Rattle.run_comparison.specs.Differences.{differences}
 use Rattle.stage_ends.specs.Ends.{ends}
+use Rattle.reply_rescue.specs.declared.rescue.Rescue.{Rescue}
+use Rattle.reply_rescue.specs.Rescues.{rescues, trials}
 use Rattle.stage_slack.specs.declared.slack.Slack.{Slack}
 use Rattle.stage_slack.specs.Slacks.{slacks}
 use Rattle.time_sweep.specs.declared.trial.Trial.{Trial}
@@ -21,14 +24,18 @@ use Rattle.report_rows.specs.declared.comparison.Comparison.{Comparison}
 use Rattle.report_rows.specs.declared.comparison.Comparison.TheVariants as compared
 use Rattle.report_rows.specs.declared.head.Head.TheVariants as a_head
 use Rattle.report_rows.specs.declared.listing.Listing.TheVariants as listing
+use Rattle.report_rows.specs.declared.rescue_terms.RescueTerms.{RescueTerms}
+use Rattle.report_rows.specs.declared.sweep_asked.SweepAsked.{SweepAsked}
 use Rattle.report_rows.specs.declared.what.What.{What}
 use Rattle.report_rows.specs.declared.what.What.TheVariants.{All, One, Blame, Path, Change, Changes, Drift, Times, Ends, Failures}
 use Rattle.report_rows.specs.Failures.{failure_rows}
+use Rattle.report_rows.specs.First.{first_of}
 use Rattle.report_rows.specs.Listings.{rows_at}
-use Rattle.report_rows.specs.Names.{names_at}
+use Rattle.report_rows.specs.Names.{name_at, names_at}
 use Rattle.report_rows.specs.Report.{Report}
-use Rattle.report_rows.specs.Rows.{end_row, slack_row, trial_row}
+use Rattle.report_rows.specs.Rows.{difference_row, end_row, rescue_row, slack_row, trial_row}
 use Rattle.report_rows.specs.Standings.{standing_at, standing_before}
+use Rattle.report_rows.specs.Swept.{ending_so, told_haste}
 
 -- ---- a version
 
@@ -139,20 +146,19 @@ comparison_said compared.Drift version against = record {
 
 -- ---- which stages are worth making faster
 
--- the first trials, up to this many, or all
-abbrev pub first_of : Option ℕ → List Trial → List Trial
-first_of None trials = trials
-first_of (Some most) trials = take most trials
-
-abbrev pub sweep_of_stage : PlainVersion → ℕ → Option ℕ → Stage → Report
-sweep_of_stage version target most stage = record {
-  head = a_head.Sweep version.number stage.name (moment_in (state_of version.graph target)) (length (sweep version.graph target));
-  rows = map (trial_row version.graph (ticks_of (completion_of version.graph target))) (first_of most (sweep version.graph target));
+-- the stage, and these trials, of which all are counted
+abbrev pub trials_listed : PlainVersion → ℕ → SweepAsked → List Trial → Stage → Report
+trials_listed version target asked trials stage = record {
+  head = a_head.Sweep version.number stage.name (moment_in (state_of version.graph target)) (told_haste asked.haste) (length trials);
+  rows = map (trial_row version.graph (ticks_of (completion_of version.graph target))) (first_of asked.most trials);
 }
 
+abbrev pub sweep_of_stage : PlainVersion → ℕ → SweepAsked → Stage → Report
+sweep_of_stage version target asked stage = trials_listed version target asked (ending_so asked.ending (sweep version.graph asked.haste target)) stage
+
 -- what a sweep says of a target; none where it is not live
-abbrev pub sweep_said : PlainVersion → ℕ → Option ℕ → Option Report
-sweep_said version target most = option_map (sweep_of_stage version target most) (stage_at version.graph.places target)
+abbrev pub sweep_said : PlainVersion → ℕ → SweepAsked → Option Report
+sweep_said version target asked = option_map (sweep_of_stage version target asked) (stage_at version.graph.places target)
 
 -- ---- how much longer stages may run
 
@@ -169,3 +175,29 @@ slack_of_stage version target within stage = slacks_listed version target (slack
 -- what the slacks of a target say; none where it is not live
 abbrev pub slack_said : PlainVersion → ℕ → Option ℕ → Option Report
 slack_said version target within = option_map (slack_of_stage version target within) (stage_at version.graph.places target)
+
+-- ---- which changes would have saved a reply
+
+-- the stage, how many changes were tried, and these rescues
+abbrev pub rescues_listed : PlainVersion → ℕ → RescueTerms → ℕ → List Rescue → Stage → Report
+rescues_listed version target terms tried saved stage = record {
+  head = a_head.Rescue version.number stage.name (standing_at version.graph target) terms.by tried (length saved);
+  rows = map (rescue_row version.graph) (first_of terms.most saved);
+}
+
+abbrev pub rescue_of_stage : PlainVersion → ℕ → RescueTerms → Stage → Report
+rescue_of_stage version target terms stage =
+    rescues_listed version target terms (length (trials version.graph target terms.by terms.value)) (rescues version.graph target terms.by terms.value) stage
+
+-- what the rescues of a target say; none where it is not live
+abbrev pub rescue_said : PlainVersion → ℕ → RescueTerms → Option Report
+rescue_said version target terms = option_map (rescue_of_stage version target terms) (stage_at version.graph.places target)
+
+-- ---- in which stages two runs differ
+
+-- of a good run and a bad one, where they are compared for the stage that stands at these places
+abbrev pub differences_said : PlainGraph → ℕ → PlainGraph → ℕ → Report
+differences_said good at_good bad at_bad = record {
+  head = a_head.Differences (name_at bad at_bad) (standing_at good at_good) (standing_at bad at_bad);
+  rows = map (difference_row good bad) (differences good at_good bad at_bad);
+}

@@ -5,6 +5,7 @@ use crate::text::Text;
 use act_expr::Mode;
 use stage_graph::Op;
 use stage_ops::Join;
+use time_sweep::Haste;
 
 /// What a report says before its rows: which report it is, and of which version.
 #[derive(Drop)]
@@ -78,12 +79,13 @@ pub enum Head<'a> {
     Failures {
         version: u32,
     },
-    /// The stages that, if their action took no time, would make a stage complete sooner; how many they are, whether or not
-    /// all have a row.
+    /// The stages that, if their action were faster, would make a stage complete sooner: if it were not queued and took no time,
+    /// where no haste is told; and how many they are, whether or not all have a row.
     Sweep {
         version: u32,
         name: Text<'a>,
         moment: Option<u64>,
+        haste: Option<Haste>,
         count: usize,
     },
     /// How much longer the actions of stages may run before a stage completes otherwise; how many have a row.
@@ -92,5 +94,22 @@ pub enum Head<'a> {
         name: Text<'a>,
         moment: Option<u64>,
         count: usize,
+    },
+    /// The changes by which a stage would have had a value: what it is, the tick by which the value was to come, if one is
+    /// given, how many changes were tried, and how many of them are rescues, whether or not all have a row.
+    Rescue {
+        version: u32,
+        name: Text<'a>,
+        standing: KeptStanding<'a>,
+        by: Option<u64>,
+        tried: usize,
+        count: usize,
+    },
+    /// The stages in which a good run and a bad one differ, where they are compared for one stage: its name, and what it is in
+    /// both.
+    Differences {
+        name: Text<'a>,
+        good: KeptStanding<'a>,
+        bad: KeptStanding<'a>,
     },
 }

@@ -1,5 +1,5 @@
 //! Places to look in.
-ghost use Rattle.std.specs.Prelude.{◌≡◌, ℕ, List, [], ◌∷◌, ◌++◌, IfOk, OnOk};
+ghost use Rattle.std.specs.Prelude.{ℕ, List, [], ◌∷◌, ◌++◌, IfOk, OnOk};
 ghost use Rattle.report_rows.specs.Known.{Knows};
 
 use std::alloc::{AllocError, Global};

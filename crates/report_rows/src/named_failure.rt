@@ -15,7 +15,8 @@ use failure_origins::{Failure, failures_of};
 use propagate::StateRepresentation;
 use std::alloc::{AllocError, Global};
 use std::collections::HashSet;
-use version_store::{NoStage, StageView, Version};
+use time_sweep::completion_of;
+use version_store::{StageView, Version};
 
 /// An exception that arose in a stage: the stage's name and what it came to, whom the exception reaches, and who handles it.
 #[derive(Drop)]
@@ -86,12 +87,9 @@ fn meets(path: &HashSet<u32>, failure: &Failure) -> bool
 fn moment_of<R: StateRepresentation>(version: &Version<R>, place: u32) -> Option<u64>
     ensures { result ≡ moment_in (state_of version.now.graph place) }
 {
-    match version.state(place) {
-        Ok(state) => match state.done {
-            Some(done) => Some(done.moment),
-            None => None,
-        },
-        Err(NoStage) => None,
+    match completion_of(version, place) {
+        Some(done) => Some(done.moment),
+        None => None,
     }
 }
 

@@ -1,18 +1,24 @@
 //! What a report says of a stage.
 ghost use Rattle.std.specs.Prelude.{◌≡◌};
 ghost use Rattle.report_rows.specs.declared.row.Row.TheVariants as a_row;
+ghost use Rattle.report_rows.specs.Names.{name_at};
 ghost use Rattle.report_rows.specs.Standings.{standing_at, standing_there};
-ghost use Rattle.report_rows.specs.Rows.{change_against_row, change_row, end_row, shift_row, slack_row, state_row, step_row, times_row, trial_row};
+ghost use Rattle.report_rows.specs.Rows.{change_against_row, change_row, difference_row, end_row, rescue_row, shift_row, slack_row, state_row, step_row, times_row, trial_row};
 
 use crate::against::is_changed;
 use crate::because::Because;
 use crate::end::{delay_in, end_at, end_text};
+use crate::in_run::InRun;
 use crate::names::LentNames;
 use crate::shift::Shift;
 use crate::standing::KeptStanding;
 use crate::text::Text;
 use crate::trial_outcome::TrialOutcome;
+use crate::tried_change::{TriedChange, tried_change};
+use act_expr::Value;
 use propagate::StateRepresentation;
+use reply_rescue::Rescue;
+use run_comparison::{Difference, Stands};
 use stage_ends::{EndFate, Fate};
 use stage_graph::{Graph, Op, Representation, Stage};
 use stage_slack::Slack;
@@ -84,6 +90,29 @@ pub enum Row<'a> {
         name: Text<'a>,
         slack: Option<u64>,
         start: u64,
+    },
+    /// A change of it by which another stage would have had a value, which value, and when.
+    Rescue {
+        name: Text<'a>,
+        change: TriedChange<'a>,
+        value: Value,
+        moment: u64,
+    },
+    /// What it is in a good run and in a bad one.
+    Differs {
+        name: Text<'a>,
+        good: InRun<'a>,
+        bad: InRun<'a>,
+    },
+    /// What it is in the good run, while the bad one has no such stage.
+    OnlyInGood {
+        name: Text<'a>,
+        good: InRun<'a>,
+    },
+    /// What it is in the bad run, while the good one has no such stage.
+    OnlyInBad {
+        name: Text<'a>,
+        bad: InRun<'a>,
     },
 }
 
@@ -226,5 +255,55 @@ pub(crate) fn slack_row<'a, R: Representation>(graph: &'a Graph<R>, slack: &Slac
         name: Text::new(graph.name_of(slack.place)),
         slack: slack.ticks,
         start: slack.start,
+    }
+}
+
+/// A change of a stage by which another one would have had a value.
+#[inline(always)]
+pub(crate) fn rescue_row<'a, R: Representation>(graph: &'a Graph<R>, rescue: &Rescue) -> Row<'a>
+    ensures { result ≡ rescue_row graph.now rescue.now }
+{
+    Row::Rescue {
+        name: Text::new(graph.name_of(rescue.place)),
+        change: tried_change(graph, rescue.place, rescue.change),
+        value: rescue.value,
+        moment: rescue.moment,
+    }
+}
+
+/// The name of the stage at a place of a version.
+#[inline(always)]
+pub(crate) fn name_in<'a, R: StateRepresentation>(version: &'a Version<R>, place: u32) -> Text<'a>
+    ensures { result ≡ name_at version.now.graph place }
+{
+    Text::new(version.graph().name_of(place))
+}
+
+/// A stage in which a good run and a bad one differ, or on which one of them has waited.
+#[inline(always)]
+pub(crate) fn difference_row<'a, R: StateRepresentation>(
+    good: &'a Version<R>,
+    bad: &'a Version<R>,
+    one: &Difference,
+) -> Row<'a>
+    ensures { result ≡ difference_row good.now.graph bad.now.graph one.now }
+{
+    match one.stands {
+        Stands::Both {
+            good: there,
+            bad: here,
+        } => Row::Differs {
+            name: name_in(bad, here),
+            good: InRun::at(good, there),
+            bad: InRun::at(bad, here),
+        },
+        Stands::OnlyBad(here) => Row::OnlyInBad {
+            name: name_in(bad, here),
+            bad: InRun::at(bad, here),
+        },
+        Stands::OnlyGood(there) => Row::OnlyInGood {
+            name: name_in(good, there),
+            good: InRun::at(good, there),
+        },
     }
 }

@@ -15,8 +15,8 @@ pub enum Shift {
 }
 
 impl Shift {
-    /// The shift between two moments, if they differ.
-    pub(crate) fn between(old: u64, new: u64) -> Option<Shift>
+    /// The shift between two numbers of ticks, as moments are, if they differ.
+    pub fn between(old: u64, new: u64) -> Option<Shift>
         ensures { result ≡ shift_between old new }
     {
         if old < new {

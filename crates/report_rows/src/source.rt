@@ -3,13 +3,15 @@ ghost use Rattle.std.specs.Prelude.{◌≡◌, [], drop, length, map};
 ghost use Rattle.report_rows.specs.Listings.{rows_at};
 ghost use Rattle.report_rows.specs.Failures.{named_row};
 ghost use Rattle.report_rows.specs.Next.{IsNext};
-ghost use Rattle.report_rows.specs.Rows.{end_row, slack_row, trial_row};
+ghost use Rattle.report_rows.specs.Rows.{difference_row, end_row, rescue_row, slack_row, trial_row};
 ghost use Rattle.report_rows.specs.Sources.{rows_left};
 
 use crate::listing::{Listing, has_row, row_at};
 use crate::named_failure::NamedFailure;
-use crate::row::{Row, end_row, slack_row, trial_row};
+use crate::row::{Row, difference_row, end_row, rescue_row, slack_row, trial_row};
 use propagate::StateRepresentation;
+use reply_rescue::Rescue;
+use run_comparison::Difference;
 use stage_ends::EndFate;
 use stage_graph::{Graph, Representation};
 use stage_slack::Slack;
@@ -37,6 +39,17 @@ pub(crate) enum Source<'a, R: StateRepresentation> {
     Slacks {
         version: &'a Version<R>,
         slacks: Vec<Slack>,
+    },
+    /// Changes of stages of a version by which a stage would have had a value.
+    Rescues {
+        version: &'a Version<R>,
+        rescues: Vec<Rescue>,
+    },
+    /// In which stages two versions differ.
+    Differences {
+        good: &'a Version<R>,
+        bad: &'a Version<R>,
+        differences: Vec<Difference>,
     },
     /// What became of ends of a version's stages.
     Ends {
@@ -92,6 +105,28 @@ impl<'a, R: StateRepresentation> Source<'a, R> {
         Source::Slacks { version, slacks }
     }
 
+    /// These rescues.
+    pub(crate) fn of_rescues(version: &'a Version<R>, rescues: Vec<Rescue>) -> Source<'a, R>
+        ensures { rows_left result 0 ≡ map (rescue_row version.now.graph) rescues.items }
+    {
+        Source::Rescues { version, rescues }
+    }
+
+    /// These stages in which two versions differ.
+    pub(crate) fn of_differences(
+        good: &'a Version<R>,
+        bad: &'a Version<R>,
+        differences: Vec<Difference>,
+    ) -> Source<'a, R>
+        ensures { rows_left result 0 ≡ map (difference_row good.now.graph bad.now.graph) differences.items }
+    {
+        Source::Differences {
+            good,
+            bad,
+            differences,
+        }
+    }
+
     /// What became of these ends.
     pub(crate) fn of_ends(version: &'a Version<R>, ends: Vec<EndFate>) -> Source<'a, R>
         ensures { rows_left result 0 ≡ map (end_row version.now.graph) ends.items }
@@ -124,6 +159,12 @@ impl<'a, R: StateRepresentation> Source<'a, R> {
                 trials,
             } => next_trial(version.graph(), *tick, trials, at),
             Source::Slacks { version, slacks } => next_slack(version.graph(), slacks, at),
+            Source::Rescues { version, rescues } => next_rescue(version.graph(), rescues, at),
+            Source::Differences {
+                good,
+                bad,
+                differences,
+            } => next_difference(good, bad, differences, at),
             Source::Ends { version, ends } => next_end(version.graph(), ends, at),
             Source::Failures { failures } => next_failure(failures, at),
         }
@@ -142,6 +183,8 @@ impl<'a, R: StateRepresentation> Source<'a, R> {
             } => count_stages(*listing, version, against, places, at),
             Source::Trials { trials, .. } => trials.len().saturating_sub(at),
             Source::Slacks { slacks, .. } => slacks.len().saturating_sub(at),
+            Source::Rescues { rescues, .. } => rescues.len().saturating_sub(at),
+            Source::Differences { differences, .. } => differences.len().saturating_sub(at),
             Source::Ends { ends, .. } => ends.len().saturating_sub(at),
             Source::Failures { failures } => failures.len().saturating_sub(at),
         }
@@ -200,6 +243,35 @@ fn next_slack<'a, R: Representation>(
     let slack = slacks.get(*at)?;
     *at += 1;
     Some(slack_row(graph, slack))
+}
+
+// The row of the rescue of this index; `at` is how many rescues are done with then.
+#[inline(always)]
+fn next_rescue<'a, R: Representation>(
+    graph: &'a Graph<R>,
+    rescues: &[Rescue],
+    at: &mut usize,
+) -> Option<Row<'a>>
+    ensures { IsNext (λ at. map (rescue_row graph.now) (drop at rescues.now)) at.old at.new result }
+{
+    let rescue = rescues.get(*at)?;
+    *at += 1;
+    Some(rescue_row(graph, rescue))
+}
+
+// The row of the difference of this index; `at` is how many are done with then.
+#[inline(always)]
+fn next_difference<'a, R: StateRepresentation>(
+    good: &'a Version<R>,
+    bad: &'a Version<R>,
+    differences: &[Difference],
+    at: &mut usize,
+) -> Option<Row<'a>>
+    ensures { IsNext (λ at. map (difference_row good.now.graph bad.now.graph) (drop at differences.now)) at.old at.new result }
+{
+    let one = differences.get(*at)?;
+    *at += 1;
+    Some(difference_row(good, bad, one))
 }
 
 // The row of the end of this index; `at` is how many ends are done with then.

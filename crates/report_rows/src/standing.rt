@@ -72,6 +72,14 @@ impl<'a> KeptStanding<'a> {
         }
     }
 
+    /// A version has no such stage.
+    #[inline(always)]
+    pub(crate) fn absent() -> KeptStanding<'a>
+        ensures { result ≡ Standing.Absent }
+    {
+        KeptStanding { kept: None }
+    }
+
     /// The same, once more.
     #[inline(always)]
     pub(crate) fn again(&self) -> KeptStanding<'a>

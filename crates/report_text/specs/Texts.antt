@@ -1,12 +1,15 @@
 -- What a report says, as text: a head, and a line for each row.
-use Rattle.std.specs.Prelude.{ℕ, List, [], ◌∷◌, ◌++◌, Option, None, Some, codes, length}
+use Rattle.std.specs.Prelude.{ℕ, Bool, if◌then◌else◌, List, [], ◌∷◌, ◌++◌, Option, None, Some, codes, length}
+use Rattle.std.specs.Option.{option_map}
 use Rattle.std.specs.List.{flat_map}
 use Rattle.std.specs.Fmt.{decimal}
 use Rattle.act_expr.specs.declared.outcome.Outcome.{Outcome}
 use Rattle.act_expr.specs.declared.outcome.Outcome.TheVariants as came_to
-use Rattle.act_expr.specs.OutcomeText.{outcome_text}
+use Rattle.act_expr.specs.OutcomeText.{outcome_text, value_text}
+use Rattle.reply_rescue.specs.Ends.{twice}
 use Rattle.stage_ends.specs.declared.fate.Fate.{Fate}
 use Rattle.stage_ends.specs.declared.fate.Fate.TheVariants.{Struck, CutOff, NotReached, TooLate}
+use Rattle.stage_graph.specs.declared.end.End.{End}
 use Rattle.stage_graph.specs.Texts.{op_text}
 use Rattle.stage_ops.specs.declared.state.Join.{Join}
 use Rattle.stage_ops.specs.Texts.{join_text}
@@ -14,16 +17,25 @@ use Rattle.report_rows.specs.declared.because.Because.{Because}
 use Rattle.report_rows.specs.declared.because.Because.TheVariants.{Created, After, Inner, Pinned, Ended, Waiting, Open}
 use Rattle.report_rows.specs.declared.head.Head.{Head}
 use Rattle.report_rows.specs.declared.head.Head.TheVariants as a_head
+use Rattle.report_rows.specs.declared.in_run.InRun.{InRun}
 use Rattle.report_rows.specs.declared.row.Row.{Row}
 use Rattle.report_rows.specs.declared.row.Row.TheVariants as a_row
 use Rattle.report_rows.specs.declared.shift.Shift.{Shift}
 use Rattle.report_rows.specs.declared.shift.Shift.TheVariants.{Later, Earlier}
 use Rattle.report_rows.specs.declared.standing.Standing.{Standing}
 use Rattle.report_rows.specs.declared.standing.Standing.TheVariants.{Absent, Pending, Completed}
+use Rattle.report_rows.specs.declared.tried_change.TriedChange.{TriedChange}
+use Rattle.report_rows.specs.declared.tried_change.TriedChange.TheVariants.{NoTime, NotQueued, NoFailure, WithoutEnd, TwiceTheDelay}
+use Rattle.report_rows.specs.Ends.{delay_in, end_text as end_kind, set_at}
 use Rattle.report_rows.specs.Modes.{mode_text}
+use Rattle.report_rows.specs.Replies.{has_replied}
 use Rattle.report_rows.specs.Report.{Report}
 use Rattle.report_rows.specs.Rows.{latest_start}
+use Rattle.report_rows.specs.Shifts.{shift_between}
 use Rattle.text_io.specs.Writes.{line_end}
+use Rattle.time_sweep.specs.declared.haste.Haste.{Haste}
+use Rattle.time_sweep.specs.declared.haste.Part.{Part}
+use Rattle.time_sweep.specs.declared.haste.Part.TheVariants.{Both, Queue}
 
 -- ---- words
 
@@ -45,6 +57,27 @@ standing_text (Completed outcome moment) = outcome_text outcome ++ codes " at " 
 abbrev pub shift_text : Shift → List ℕ
 shift_text (Later ticks) = codes "later " ++ decimal ticks
 shift_text (Earlier ticks) = codes "earlier " ++ decimal ticks
+
+-- +D, or -D
+abbrev pub signed_text : Option Shift → List ℕ
+signed_text None = codes "+0"
+signed_text (Some (Later ticks)) = codes "+" ++ decimal ticks
+signed_text (Some (Earlier ticks)) = codes "-" ++ decimal ticks
+
+-- how many ticks there are more than in another run
+abbrev pub more_text : ℕ → ℕ → List ℕ
+more_text good bad = signed_text (shift_between good bad)
+
+-- how many ticks later it completed than in another run; a dash where it did not in both
+abbrev pub later_text : Standing → Standing → List ℕ
+later_text (Completed outcome good) (Completed other bad) = more_text good bad
+later_text good bad = codes "-"
+
+-- the outcome alone
+abbrev pub end_result_text : Standing → List ℕ
+end_result_text Absent = codes "absent"
+end_result_text Pending = codes "pending"
+end_result_text (Completed outcome moment) = outcome_text outcome
 
 -- an exception; a dash for a value
 abbrev pub exception_text : Outcome → List ℕ
@@ -105,6 +138,30 @@ because_text queued ran (Ended kind) = codes " ended by " ++ kind
 because_text queued ran (Waiting name) = codes " waits for " ++ name
 because_text queued ran Open = codes " open"
 
+-- KIND DELAY set at T
+abbrev pub set_end_text : Option End → List ℕ
+set_end_text end = end_kind end ++ delay_text (delay_in end) ++ codes " set at " ++ decimal (set_at end)
+
+-- without an end; unlimited where that is the one timeout
+abbrev pub without_text : Option End → Bool → List ℕ
+without_text end is_only = if is_only then codes "unlimited" else codes "without " ++ set_end_text end
+
+-- what stands before another delay of a timeout; limit= where it is the one timeout
+abbrev pub limited_text : Option End → Bool → List ℕ
+limited_text end is_only = if is_only then codes "limit=" else set_end_text end ++ codes " -> "
+
+-- a timeout, and twice its delay; limit=N where it is the one timeout
+abbrev pub longer_text : Option End → Bool → List ℕ
+longer_text end is_only = limited_text end is_only ++ number_or_dash (option_map twice (delay_in end))
+
+-- a change of a stage, as an assignment of `try` where there is one that makes it
+abbrev pub tried_text : TriedChange → List ℕ
+tried_text NoTime = codes "runs=0"
+tried_text NotQueued = codes "queued=0"
+tried_text (NoFailure value) = codes "gives=" ++ value_text value
+tried_text (WithoutEnd index end is_only) = without_text end is_only
+tried_text (TwiceTheDelay index end is_only) = longer_text end is_only
+
 -- ---- rows
 
 -- NAME OP rank R STANDING
@@ -114,6 +171,18 @@ state_text name op rank standing = name ++ codes " " ++ op ++ codes " rank " ++ 
 -- NAME OLD -> NEW
 abbrev pub change_text : List ℕ → Standing → Standing → List ℕ
 change_text name old new = name ++ codes " " ++ standing_text old ++ codes " -> " ++ standing_text new ++ line_end
+
+-- queued +D ran +D, where it was queued and ran so long in the one run and in the other
+abbrev pub shares_text : InRun → InRun → List ℕ
+shares_text good bad = codes " queued " ++ more_text good.queued bad.queued ++ codes " ran " ++ more_text good.ran bad.ran
+
+-- at +D OUTCOME -> OUTCOME
+abbrev pub results_text : Standing → Standing → List ℕ
+results_text good bad = codes " at " ++ later_text good bad ++ codes " " ++ end_result_text good ++ codes " -> " ++ end_result_text bad
+
+-- NAME only in RUN
+abbrev pub only_text : List ℕ → List ℕ → List ℕ
+only_text name run = name ++ codes " only in " ++ run ++ line_end
 
 abbrev pub row_text : Row → List ℕ
 -- NAME OP rank R STANDING
@@ -137,6 +206,15 @@ row_text (a_row.Trial name sooner outcome moment) =
 -- NAME slack D start A latest L
 row_text (a_row.Slack name slack start) =
     name ++ codes " slack " ++ number_or_dash slack ++ codes " start " ++ decimal start ++ codes " latest " ++ number_or_dash (latest_start start slack) ++ line_end
+-- NAME CHANGE -> value:V at M
+row_text (a_row.Rescue name change value moment) =
+    name ++ codes " " ++ tried_text change ++ codes " -> value:" ++ value_text value ++ codes " at " ++ decimal moment ++ line_end
+-- NAME queued +D ran +D at +D OUTCOME -> OUTCOME
+row_text (a_row.Differs name good bad) = name ++ shares_text good bad ++ results_text good.standing bad.standing ++ line_end
+-- NAME only in GOOD
+row_text (a_row.OnlyInGood name good) = only_text name (codes "GOOD")
+-- NAME only in BAD
+row_text (a_row.OnlyInBad name bad) = only_text name (codes "BAD")
 
 -- ---- heads
 
@@ -148,14 +226,41 @@ of_version title version = title ++ codes " of version " ++ decimal version
 abbrev pub of_stage : List ℕ → List ℕ → Option ℕ → List ℕ
 of_stage title name moment = title ++ codes " of " ++ name ++ at_text (codes " pending") moment
 
+-- TITLE of NAME at +D
+abbrev pub of_stage_later : List ℕ → List ℕ → Standing → Standing → List ℕ
+of_stage_later title name good bad = title ++ codes " of " ++ name ++ codes " at " ++ later_text good bad
+
 -- the feeds, the dependents and `join` of a stage, each on a line
 abbrev pub around_text : List (List ℕ) → List (List ℕ) → List (List ℕ) → Join → List ℕ
 around_text sources inner dependents join =
     names_line (codes "sources") sources ++ names_line (codes "inner") inner ++ names_line (codes "dependents") dependents ++ codes "join " ++ join_text join ++ line_end
 
+-- KEY=P%
+abbrev pub share_text : List ℕ → ℕ → List ℕ
+share_text key percent = key ++ decimal percent ++ codes "%"
+
+-- with queued=P% runs=P%, or with queued=P%
+abbrev pub left_text : Part → ℕ → List ℕ
+left_text Both percent = share_text (codes " with queued=") percent ++ share_text (codes " runs=") percent
+left_text Queue percent = share_text (codes " with queued=") percent
+
+-- how much faster the actions of trials are, where that is told
+abbrev pub haste_text : Option Haste → List ℕ
+haste_text None = []
+haste_text (Some haste) = left_text haste.part haste.percent
+
 -- WORD K, the end of the first line of a report with so many rows
 abbrev pub counted : List ℕ → ℕ → List ℕ
 counted word count = codes " " ++ word ++ codes " " ++ decimal count ++ line_end
+
+-- how many changes are rescues, of so many; none is needed where there is a value in time
+abbrev pub rescued_text : Bool → ℕ → ℕ → List ℕ
+rescued_text replied all tried = if replied then codes "none needed" else decimal all ++ codes " of " ++ decimal tried ++ codes " changes"
+
+-- rescue of NAME STANDING: K of N changes
+abbrev pub rescue_text : List ℕ → Standing → Option ℕ → ℕ → ℕ → List ℕ
+rescue_text name standing by tried all =
+    codes "rescue of " ++ name ++ codes " " ++ standing_text standing ++ codes ": " ++ rescued_text (has_replied by standing) all tried ++ line_end
 
 -- what stands before the rows, of which there are so many
 abbrev pub head_text : Head → ℕ → List ℕ
@@ -185,10 +290,14 @@ head_text (a_head.DriftAgainst version against) count = of_version (codes "drift
 head_text (a_head.Ends version) count = of_version (codes "ends") version ++ counted (codes "ends") count
 -- failures of version N failures K
 head_text (a_head.Failures version) count = of_version (codes "failures") version ++ counted (codes "failures") count
--- sweep of NAME at M stages K, of which not all may have a row
-head_text (a_head.Sweep version name moment all) count = of_stage (codes "sweep") name moment ++ counted (codes "stages") all
+-- sweep of NAME at M with queued=P% runs=P% stages K, of which not all may have a row
+head_text (a_head.Sweep version name moment haste all) count = of_stage (codes "sweep") name moment ++ haste_text haste ++ counted (codes "stages") all
 -- slack of NAME at M stages K
 head_text (a_head.Slack version name moment all) count = of_stage (codes "slack") name moment ++ counted (codes "stages") all
+-- rescue of NAME STANDING: K of N changes; not all rescues may have a row
+head_text (a_head.Rescue version name standing by tried all) count = rescue_text name standing by tried all
+-- differences of NAME at +D stages K
+head_text (a_head.Differences name good bad) count = of_stage_later (codes "differences") name good bad ++ counted (codes "stages") count
 
 -- ---- a report
 

@@ -2,16 +2,18 @@
 ghost use Rattle.std.specs.Prelude.{◌≡◌, ◌++◌, OnOk, codes, string_bytes};
 ghost use Rattle.std.specs.Fmt.{decimal};
 ghost use Rattle.report_rows.specs.declared.head.Head.TheVariants as a_head;
-ghost use Rattle.report_text.specs.Texts.{around_text, counted, head_text, number_or_dash, of_stage, of_version};
+ghost use Rattle.report_text.specs.Texts.{around_text, counted, haste_text, head_text, number_or_dash, of_stage, of_stage_later, of_version, rescue_text, rescued_text};
 
 use crate::digits::push_number;
+use crate::haste::push_haste;
 use crate::names::push_names_line;
 use crate::rows::{push_change, push_state};
-use crate::words::{push_answer, push_at};
+use crate::words::{push_answer, push_at, push_later, push_standing};
 use act_expr::Mode;
-use report_rows::{Head, Names, mode_text};
+use report_rows::{Head, Names, Standing, has_replied, mode_text};
 use stage_ops::Join;
 use std::alloc::AllocError;
+use time_sweep::Haste;
 
 /// Appends what a report of so many rows begins with to a text.
 pub(crate) fn push_head(line: &mut String, head: &Head<'_>, count: usize) -> Result<(), AllocError>
@@ -58,15 +60,33 @@ pub(crate) fn push_head(line: &mut String, head: &Head<'_>, count: usize) -> Res
         Head::Sweep {
             name,
             moment,
+            haste,
             count: all,
             ..
-        } => push_of_stage(line, "sweep", name.as_str(), *moment, *all),
+        } => push_sweep(line, name.as_str(), *moment, *haste, *all),
         Head::Slack {
             name,
             moment,
             count: all,
             ..
         } => push_of_stage(line, "slack", name.as_str(), *moment, *all),
+        Head::Rescue {
+            name,
+            standing,
+            by,
+            tried,
+            count: all,
+            ..
+        } => push_rescue(line, name.as_str(), &standing.standing(), *by, *tried, *all),
+        Head::Differences { name, good, bad } => {
+            push_differences(
+                line,
+                name.as_str(),
+                &good.standing(),
+                &bad.standing(),
+                count,
+            )
+        }
     }
 }
 
@@ -182,6 +202,21 @@ fn push_against(
     push_counted(line, word, count)
 }
 
+// TITLE of NAME at M, or TITLE of NAME pending
+fn push_stage(
+    line: &mut String,
+    title: &str,
+    name: &str,
+    moment: Option<u64>,
+) -> Result<(), AllocError>
+    ensures { OnOk result (string_bytes line.new ≡ string_bytes line.old ++ of_stage title.now name.now moment) }
+{
+    line.push_str(title)?;
+    line.push_str(" of ")?;
+    line.push_str(name)?;
+    push_at(line, " pending", moment)
+}
+
 // TITLE of NAME at M stages K, or TITLE of NAME pending stages K
 fn push_of_stage(
     line: &mut String,
@@ -192,10 +227,53 @@ fn push_of_stage(
 ) -> Result<(), AllocError>
     ensures { OnOk result (string_bytes line.new ≡ string_bytes line.old ++ of_stage title.now name.now moment ++ counted (codes "stages") count) }
 {
+    push_stage(line, title, name, moment)?;
+    push_counted(line, "stages", count)
+}
+
+// sweep of NAME at M with HASTE stages K
+fn push_sweep(
+    line: &mut String,
+    name: &str,
+    moment: Option<u64>,
+    haste: Option<Haste>,
+    count: usize,
+) -> Result<(), AllocError>
+    ensures { OnOk result (string_bytes line.new ≡ string_bytes line.old ++ of_stage (codes "sweep") name.now moment ++ haste_text haste ++ counted (codes "stages") count) }
+{
+    push_stage(line, "sweep", name, moment)?;
+    push_haste(line, haste)?;
+    push_counted(line, "stages", count)
+}
+
+// TITLE of NAME at +D
+fn push_stage_later(
+    line: &mut String,
+    title: &str,
+    name: &str,
+    good: &Standing,
+    bad: &Standing,
+) -> Result<(), AllocError>
+    ensures { OnOk result (string_bytes line.new ≡ string_bytes line.old ++ of_stage_later title.now name.now good.now bad.now) }
+{
     line.push_str(title)?;
     line.push_str(" of ")?;
     line.push_str(name)?;
-    push_at(line, " pending", moment)?;
+    line.push_str(" at ")?;
+    push_later(line, good, bad)
+}
+
+// differences of NAME at +D stages K
+fn push_differences(
+    line: &mut String,
+    name: &str,
+    good: &Standing,
+    bad: &Standing,
+    count: usize,
+) -> Result<(), AllocError>
+    ensures { OnOk result (string_bytes line.new ≡ string_bytes line.old ++ of_stage_later (codes "differences") name.now good.now bad.now ++ counted (codes "stages") count) }
+{
+    push_stage_later(line, "differences", name, good, bad)?;
     push_counted(line, "stages", count)
 }
 
@@ -247,5 +325,43 @@ fn push_around(
     push_names_line(line, "dependents", dependents)?;
     line.push_str("join ")?;
     push_answer(line, join)?;
+    line.push_str("\n")
+}
+
+// How many changes are rescues, of so many.
+fn push_rescued(
+    line: &mut String,
+    has_replied: bool,
+    all: usize,
+    tried: usize,
+) -> Result<(), AllocError>
+    ensures { OnOk result (string_bytes line.new ≡ string_bytes line.old ++ rescued_text has_replied all tried) }
+{
+    if has_replied {
+        return line.push_str("none needed");
+    }
+    push_number(line, all as u64)?;
+    line.push_str(" of ")?;
+    push_number(line, tried as u64)?;
+    line.push_str(" changes")
+}
+
+// rescue of NAME STANDING: K of N changes
+fn push_rescue(
+    line: &mut String,
+    name: &str,
+    standing: &Standing,
+    by: Option<u64>,
+    tried: usize,
+    all: usize,
+) -> Result<(), AllocError>
+    ensures { OnOk result (string_bytes line.new ≡ string_bytes line.old ++ rescue_text name.now standing.now by tried all) }
+{
+    line.push_str("rescue of ")?;
+    line.push_str(name)?;
+    line.push_str(" ")?;
+    push_standing(line, standing)?;
+    line.push_str(": ")?;
+    push_rescued(line, has_replied(by, standing), all, tried)?;
     line.push_str("\n")
 }

@@ -3,17 +3,18 @@ ghost use Rattle.std.specs.Prelude.{◌≡◌, ◌++◌, OnOk, codes, string_byt
 ghost use Rattle.stage_graph.specs.Texts.{op_text};
 ghost use Rattle.report_rows.specs.Names.{bytes_of};
 ghost use Rattle.report_rows.specs.declared.row.Row.TheVariants as a_row;
-ghost use Rattle.report_text.specs.Texts.{change_text, concerned_text, end_text, fate_text, row_text, state_text};
+ghost use Rattle.report_text.specs.Texts.{change_text, concerned_text, end_text, fate_text, only_text, row_text, shares_text, state_text};
 ghost use Rattle.text_io.specs.Writes.{line_end};
 
+use crate::changes::push_tried;
 use crate::digits::push_number;
 use crate::names::push_titled_names;
 use crate::words::{
-    push_at, push_because, push_delay, push_failure, push_fate, push_number_or_dash, push_outcome,
-    push_shift, push_standing,
+    push_at, push_because, push_delay, push_failure, push_fate, push_more, push_number_or_dash,
+    push_outcome, push_results, push_shift, push_standing, push_value,
 };
-use act_expr::Outcome;
-use report_rows::{Because, LentNames, Row, Shift, Standing, latest_start};
+use act_expr::{Outcome, Value};
+use report_rows::{Because, InRun, LentNames, Row, Shift, Standing, TriedChange, latest_start};
 use stage_ends::Fate;
 use stage_graph::Op;
 use std::alloc::AllocError;
@@ -67,6 +68,15 @@ pub(crate) fn push_row(line: &mut String, row: &Row<'_>) -> Result<(), AllocErro
             moment,
         } => push_trial(line, name.as_str(), *sooner, outcome.as_outcome(), *moment),
         Row::Slack { name, slack, start } => push_slack(line, name.as_str(), *slack, *start),
+        Row::Rescue {
+            name,
+            change,
+            value,
+            moment,
+        } => push_rescue(line, name.as_str(), change, *value, *moment),
+        Row::Differs { name, good, bad } => push_differs(line, name.as_str(), good, bad),
+        Row::OnlyInGood { name, .. } => push_only(line, name.as_str(), "GOOD"),
+        Row::OnlyInBad { name, .. } => push_only(line, name.as_str(), "BAD"),
     }
 }
 
@@ -250,5 +260,58 @@ fn push_slack(
     push_number(line, start)?;
     line.push_str(" latest ")?;
     push_number_or_dash(line, latest_start(start, slack))?;
+    line.push_str("\n")
+}
+
+fn push_rescue(
+    line: &mut String,
+    name: &str,
+    change: &TriedChange<'_>,
+    value: Value,
+    moment: u64,
+) -> Result<(), AllocError>
+    ensures { OnOk result (string_bytes line.new ≡ string_bytes line.old ++ row_text (a_row.Rescue name.now change.now value moment)) }
+{
+    line.push_str(name)?;
+    line.push_str(" ")?;
+    push_tried(line, change)?;
+    line.push_str(" -> value:")?;
+    push_value(line, value)?;
+    line.push_str(" at ")?;
+    push_number(line, moment)?;
+    line.push_str("\n")
+}
+
+// How many ticks longer than in another run a stage's own action was queued and ran.
+fn push_shares(line: &mut String, good: &InRun<'_>, bad: &InRun<'_>) -> Result<(), AllocError>
+    ensures { OnOk result (string_bytes line.new ≡ string_bytes line.old ++ shares_text good.now bad.now) }
+{
+    line.push_str(" queued ")?;
+    push_more(line, good.queued, bad.queued)?;
+    line.push_str(" ran ")?;
+    push_more(line, good.ran, bad.ran)
+}
+
+fn push_differs(
+    line: &mut String,
+    name: &str,
+    good: &InRun<'_>,
+    bad: &InRun<'_>,
+) -> Result<(), AllocError>
+    ensures { OnOk result (string_bytes line.new ≡ string_bytes line.old ++ row_text (a_row.Differs name.now good.now bad.now)) }
+{
+    line.push_str(name)?;
+    push_shares(line, good, bad)?;
+    push_results(line, &good.standing.standing(), &bad.standing.standing())?;
+    line.push_str("\n")
+}
+
+// The stage is in one run alone.
+fn push_only(line: &mut String, name: &str, run: &str) -> Result<(), AllocError>
+    ensures { OnOk result (string_bytes line.new ≡ string_bytes line.old ++ only_text name.now run.now) }
+{
+    line.push_str(name)?;
+    line.push_str(" only in ")?;
+    line.push_str(run)?;
     line.push_str("\n")
 }

@@ -4,10 +4,10 @@
 //! a report's time.
 ghost use Rattle.std.specs.Prelude.{◌≡◌, ◌++◌, OnOk, codes, string_bytes};
 ghost use Rattle.std.specs.Fmt.{decimal};
-ghost use Rattle.act_expr.specs.OutcomeText.{outcome_text};
+ghost use Rattle.act_expr.specs.OutcomeText.{outcome_text, value_text};
 ghost use Rattle.stage_ends.specs.declared.fate.Fate.TheVariants.{CutOff};
 ghost use Rattle.stage_ops.specs.Texts.{join_text};
-ghost use Rattle.report_text.specs.Texts.{at_text, because_text, delay_text, exception_text, failure_text, fate_text, number_or_dash, own_text, shift_text, standing_text};
+ghost use Rattle.report_text.specs.Texts.{at_text, because_text, delay_text, end_result_text, exception_text, failure_text, fate_text, later_text, more_text, number_or_dash, own_text, results_text, shift_text, signed_text, standing_text};
 
 use crate::digits::{push_number, push_signed};
 use act_expr::{ExName, Outcome, Value};
@@ -49,6 +49,16 @@ fn push_named(line: &mut String, said: &str, name: &ExName) -> Result<(), AllocE
 {
     line.push_str(said)?;
     line.push_str(name.text())
+}
+
+/// A value of a stage: a number or null.
+pub(crate) fn push_value(line: &mut String, value: Value) -> Result<(), AllocError>
+    ensures { OnOk result (string_bytes line.new ≡ string_bytes line.old ++ value_text value) }
+{
+    match value {
+        Value::Null => line.push_str("null"),
+        Value::Num(number) => push_signed(line, number),
+    }
 }
 
 /// The outcome's kind, and its value or its exception's name.
@@ -175,6 +185,73 @@ pub(crate) fn push_shift(line: &mut String, shift: Shift) -> Result<(), AllocErr
             push_number(line, ticks)
         }
     }
+}
+
+// How many ticks more or fewer.
+fn push_shifted(line: &mut String, shift: Option<Shift>) -> Result<(), AllocError>
+    ensures { OnOk result (string_bytes line.new ≡ string_bytes line.old ++ signed_text shift) }
+{
+    match shift {
+        None => line.push_str("+0"),
+        Some(Shift::Later(ticks)) => {
+            line.push_str("+")?;
+            push_number(line, ticks)
+        }
+        Some(Shift::Earlier(ticks)) => {
+            line.push_str("-")?;
+            push_number(line, ticks)
+        }
+    }
+}
+
+/// How many ticks there are more than in another run.
+pub(crate) fn push_more(line: &mut String, good: u64, bad: u64) -> Result<(), AllocError>
+    ensures { OnOk result (string_bytes line.new ≡ string_bytes line.old ++ more_text good bad) }
+{
+    push_shifted(line, Shift::between(good, bad))
+}
+
+/// How many ticks later a stage completed than in another run.
+pub(crate) fn push_later(
+    line: &mut String,
+    good: &Standing,
+    bad: &Standing,
+) -> Result<(), AllocError>
+    ensures { OnOk result (string_bytes line.new ≡ string_bytes line.old ++ later_text good.now bad.now) }
+{
+    match (good, bad) {
+        (Standing::Completed(_, good), Standing::Completed(_, bad)) => {
+            push_more(line, *good, *bad)
+        }
+        _ => line.push_str("-"),
+    }
+}
+
+// The outcome alone.
+fn push_end_result(line: &mut String, standing: &Standing) -> Result<(), AllocError>
+    ensures { OnOk result (string_bytes line.new ≡ string_bytes line.old ++ end_result_text standing.now) }
+{
+    match standing {
+        Standing::Absent => line.push_str("absent"),
+        Standing::Pending => line.push_str("pending"),
+        Standing::Completed(outcome, _) => push_outcome(line, outcome),
+    }
+}
+
+/// How many ticks later a stage completed than in another run, and what it came to in both.
+pub(crate) fn push_results(
+    line: &mut String,
+    good: &Standing,
+    bad: &Standing,
+) -> Result<(), AllocError>
+    ensures { OnOk result (string_bytes line.new ≡ string_bytes line.old ++ results_text good.now bad.now) }
+{
+    line.push_str(" at ")?;
+    push_later(line, good, bad)?;
+    line.push_str(" ")?;
+    push_end_result(line, good)?;
+    line.push_str(" -> ")?;
+    push_end_result(line, bad)
 }
 
 // How long a stage's own action was queued and ran.

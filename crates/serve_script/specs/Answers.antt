@@ -10,6 +10,7 @@ use Rattle.report_rows.specs.declared.comparison.Comparison.{Comparison}
 use Rattle.report_rows.specs.declared.comparison.Comparison.TheVariants as comparison
 use Rattle.report_rows.specs.declared.what.What.{What}
 use Rattle.report_rows.specs.declared.what.What.TheVariants as what
+use Rattle.report_rows.specs.Swept.{plain_sweep}
 use Rattle.report_form.specs.Forms.{form_of}
 use Rattle.report_form.specs.Told.{comparison_told, report_told, sweep_told}
 use Rattle.report_form.specs.declared.form.Form.{Form}
@@ -97,7 +98,7 @@ told_asked form version asked = or_no_stage form (option_and_then (report_told f
 
 -- all trials of the stage of a name
 abbrev pub swept_asked : Form → PlainVersion → List ℕ → List ℕ
-swept_asked form version name = or_no_stage form (option_and_then (λ place. sweep_told form version place None) (place_named version.graph.places name))
+swept_asked form version name = or_no_stage form (option_and_then (λ place. sweep_told form version place plain_sweep) (place_named version.graph.places name))
 
 -- a comparison with another version, where that one is there
 abbrev pub compared_asked : Form → Comparison → PlainVersion → Option PlainVersion → List ℕ

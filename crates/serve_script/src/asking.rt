@@ -1,9 +1,10 @@
 //! Which report a step requests, and how it is written.
-ghost use Rattle.std.specs.Prelude.{◌≡◌, ◌+◌, ◌-◌, ◌^◌, ◌<◌, None, option_copied, slice_get, OnOk, OnErr};
+ghost use Rattle.std.specs.Prelude.{◌≡◌, ◌+◌, ◌-◌, ◌^◌, ◌<◌, option_copied, slice_get, OnOk, OnErr};
 ghost use Rattle.std.specs.Option.{option_and_then};
 ghost use Rattle.std.specs.Io.KnownBytes.{Appends};
 ghost use Rattle.text_io.specs.Sink.{AppendsPrefix};
 ghost use Rattle.stage_graph.specs.Plain.{place_named};
+ghost use Rattle.report_rows.specs.Swept.{plain_sweep};
 ghost use Rattle.report_form.specs.Told.{comparison_told, report_told, sweep_told};
 ghost use Rattle.recording_text.specs.Faults.{failed_writes as failed_writes_of_text};
 ghost use Rattle.serve_script.specs.Faults.{failed_writes};
@@ -16,7 +17,7 @@ use level_pool::Runner;
 use recording::Asked;
 use recording_text::{TextFault, write_report_lines, write_report_object};
 use report_form::{Form, tell_comparison, tell_report, tell_sweep};
-use report_rows::{Comparison, ReportFault, What};
+use report_rows::{Comparison, ReportFault, SweepAsked, What};
 use session_core::Table;
 use stage_graph::Name;
 use std::alloc::Global;
@@ -150,11 +151,11 @@ fn write_sweep_at<R: StateRepresentation, W: Runner, S: Sink>(
     sink: &mut S,
 ) -> Result<(), AnswerFault>
     requires { S.failures sink.old < 2 ^ 64 - 1 }
-    ensures ok { OnOk result (Appends (S.held sink.old) (S.held sink.new) (or_no_stage form (sweep_told form version.now place None))) }
-    ensures err { OnErr result (AppendsPrefix (S.held sink.old) (S.held sink.new) (or_no_stage form (sweep_told form version.now place None))) }
+    ensures ok { OnOk result (Appends (S.held sink.old) (S.held sink.new) (or_no_stage form (sweep_told form version.now place plain_sweep))) }
+    ensures err { OnErr result (AppendsPrefix (S.held sink.old) (S.held sink.new) (or_no_stage form (sweep_told form version.now place plain_sweep))) }
     ensures failures { S.failures sink.new ≡ S.failures sink.old + failed_writes result }
 {
-    match tell_sweep(alloc, version, place, None, runner, form, sink) {
+    match tell_sweep(alloc, version, place, SweepAsked::PLAIN, runner, form, sink) {
         Ok(()) => Ok(()),
         Err(ReportFault::NoStage) => tell_no_stage(alloc, form, sink),
         Err(ReportFault::Write) => Err(AnswerFault::Write),

@@ -15,13 +15,8 @@ use crate::table::Table;
 use level_pool::Runner;
 use share_tree::Held;
 use stage_graph::Edits;
-use stage_ops::Meter;
 use std::alloc::{AllocError, Global};
 use version_store::{Draft, StateRepresentation, Version};
-
-/// The marker of the meter of one commit.
-#[derive(Drop)]
-struct OneCommit;
 
 /// Processes the events one after the other, as client 0, and adds the replies to the list. A commit is drafted on its
 /// base first, so that 52 and the refusals of the edits come before 51, 53 and 55, and have no entry in the history. If
@@ -58,8 +53,7 @@ pub fn draft_of<R: StateRepresentation, W: Runner>(
 ) -> Result<Draft<R>, TableFault>
     ensures { DraftsOrRefuses version.now edit.now result }
 {
-    let mut meter = Meter::new(OneCommit);
-    match version.draft(alloc, edit, runner, &mut meter) {
+    match version.drafted(alloc, edit, runner) {
         Ok(draft) => Ok(draft),
         Err(fault) => Err(of_fault(&fault)),
     }

@@ -1,7 +1,7 @@
 -- A stage whose action runs longer.
 use Rattle.std.proofs.Common.{◌≡◌, ◌+◌, ◌^◌, ◌≤◌, ℕ, Bool, true, false, cond, List, Option, Some, None, is_some, refl, ap, sym, ◌∙◌, subst, arith}
-use Rattle.std.specs.Prelude.{IfSome, not, nat_eq, ◌==◌, ◌&&◌, ◌||◌}
-use Rattle.std.specs.Option.{option_eq, option_map}
+use Rattle.std.specs.Prelude.{IfSome, not, nat_eq, ◌==◌, ◌&&◌}
+use Rattle.std.specs.Option.{option_map}
 use Rattle.std.proofs.lemmas.Bool.{and_from, and_parts, eq-eqb, le-leb, or_left}
 use Rattle.act_expr.specs.Expression.{Expression}
 use Rattle.act_expr.specs.declared.outcome.Outcome.{Outcome}

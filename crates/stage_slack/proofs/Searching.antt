@@ -1,9 +1,9 @@
 -- What the search finds, and how it comes there.
 use Rattle.std.proofs.Common.{◌≡◌, ◌+◌, ◌-◌, ◌*◌, ◌/◌, ◌^◌, ◌<◌, ◌≤◌, ℕ, zero, suc, Bool, true, false, cond, max, refl, ap, sym, ◌∙◌, subst, inl, inr, arith, ⊎_elim}
-use Rattle.std.specs.Prelude.{nat_lt, ◌&&◌, ◌⊎◌, Option, Some, None}
+use Rattle.std.specs.Prelude.{nat_lt, ◌⊎◌, Some, None}
 use Rattle.std.proofs.Math.Nat.{max-eq_left, mul-div_left, pow-suc}
 use Rattle.std.proofs.Math.Numerals.{add-one}
-use Rattle.std.proofs.lemmas.Bool.{and_from, and_parts, cases_Bool, cases_lt, false≢true, lt-ltb, ltb-true}
+use Rattle.std.proofs.lemmas.Bool.{and_from, and_parts, cases_lt, false≢true, lt-ltb, ltb-true}
 use Rattle.std.proofs.lemmas.Nat.{pow_pos}
 use Rattle.propagate.proofs.Members.{false_unless}
 use Rattle.stage_slack.specs.Search.{below, doublings, from_power, halvings, most_ticks, searched, IsEdge}

@@ -1,6 +1,6 @@
 //! Whether a target completes as before where the action of a stage runs longer.
 ghost use Rattle.std.specs.Prelude.{◌≡◌, ◌+◌, ◌≤◌, ◌^◌, IfOk, IsSome, OnOk, Some, length};
-ghost use Rattle.stage_graph.specs.Plain.{stage_at, IsLive};
+ghost use Rattle.stage_graph.specs.Plain.{stage_at};
 ghost use Rattle.stage_graph.specs.Sound.{IsSoundStage};
 ghost use Rattle.time_sweep.specs.Starts.{IsStart};
 ghost use Rattle.time_sweep.specs.Sweep.{completion_of};
@@ -10,10 +10,9 @@ ghost use Rattle.stage_slack.specs.Slacks.{longer, stays};
 use crate::agreement::agree;
 use propagate::StateRepresentation;
 use stage_graph::Stage;
-use stage_ops::Done;
 use std::alloc::{AllocError, Global};
-use time_sweep::{Changes, TrialStart};
-use version_store::{NoStage, Version};
+use time_sweep::{Changes, TrialStart, completion_of};
+use version_store::Version;
 
 /// The stage, with an action that runs this many ticks longer.
 fn longer(stage: &Stage, ticks: u64) -> Result<Stage, AllocError>
@@ -23,17 +22,6 @@ fn longer(stage: &Stage, ticks: u64) -> Result<Stage, AllocError>
     let mut made = stage.again()?;
     made.runs = stage.runs + ticks;
     Ok(made)
-}
-
-/// How a stage completes in the version; none while it is pending.
-fn completion_of<R: StateRepresentation>(version: &Version<R>, target: u32) -> Option<Done>
-    requires { IsLive version.now.graph.places target }
-    ensures { result ≡ completion_of version.now.graph target }
-{
-    match version.state(target) {
-        Ok(state) => state.done,
-        Err(NoStage) => unreachable!(),
-    }
 }
 
 /// Whether the target's outcome and moment are the same where the action of a stage runs this many ticks longer.

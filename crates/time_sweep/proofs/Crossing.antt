@@ -28,7 +28,7 @@ pub start_sync : (ℓ : NamedLft) → IsSync (start.the_row ℓ)
 start_sync ℓ = search (sendable, crosses, standing_sync) depth 60 fits 100000
 
 pub parts_sync : (ℓ : NamedLft) → IsSync (parts.the_row ℓ)
-parts_sync ℓ = declared_sync (parts.the_type ℓ) (start_sync ℓ, (search (sendable, crosses) depth 60 fits 100000, (search sendable, tt)))
+parts_sync ℓ = declared_sync (parts.the_type ℓ) (start_sync ℓ, (search (sendable, crosses) depth 60 fits 100000, (search sendable, (search (sendable, crosses) depth 60 fits 100000, tt))))
 
 -- V: the version, W: what the trials start from
 pub captures_sync : (ν : Sym) (ℓ ℓ' ℓ'' : NamedLft) (V W : RattleType) (one : One V.mir) (two : One W.mir) → IsSync V → IsSync W

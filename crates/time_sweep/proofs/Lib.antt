@@ -6,6 +6,7 @@ pub mod Exchanging
 pub mod Hurrying
 pub mod Knowing
 pub mod Overlaid
+pub mod Shares
 pub mod Soonest
 pub mod TrialTurns
 pub mod Trying

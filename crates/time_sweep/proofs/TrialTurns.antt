@@ -1,5 +1,5 @@
 -- The turns of a trial.
-use Rattle.std.proofs.Common.{◌≡◌, ◌^◌, ◌<◌, ◌≤◌, ℕ, Bool, true, false, List, [], ◌∷◌, ◌++◌, Option, Some, length, refl, ap, sym, ◌∙◌, arith, subst, ⊎_elim, length-append}
+use Rattle.std.proofs.Common.{◌≡◌, ◌^◌, ◌<◌, ◌≤◌, ℕ, Bool, true, false, List, [], ◌∷◌, ◌++◌, Option, length, refl, ap, sym, ◌∙◌, arith, subst, ⊎_elim, length-append}
 use Rattle.std.specs.Prelude.{All, slice_set, is_some, ◌==◌, ◌&&◌, ◌||◌, if◌then◌else◌}
 use Rattle.std.proofs.lemmas.Bool.{cond-true, eqb-true, eq-eqb, true≢false}
 use Rattle.std.proofs.lemmas.Map.Steps.{length-le_from_distinct_below}

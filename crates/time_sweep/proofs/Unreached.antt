@@ -14,10 +14,12 @@ use Rattle.stage_ops.specs.Java.{java_step}
 use Rattle.stage_ops.specs.JavaLaws.{java_reads_decide}
 use Rattle.time_sweep.specs.declared.trial.Trial.{Trial}
 use Rattle.time_sweep.specs.Known.{AreRanksFor, rank_in}
-use Rattle.time_sweep.specs.Sweep.{completion_of, hurried, sooner_trial, trial_at, trial_of, trials}
+use Rattle.time_sweep.specs.declared.haste.Haste.{Haste}
+use Rattle.time_sweep.specs.Hastened.{hastened, hastened_stage}
+use Rattle.time_sweep.specs.Sweep.{completion_of, sooner_trial, trial_at, trial_of, trials}
 use Rattle.time_sweep.specs.WithStage.{with_stage, IsFitting}
 use Rattle.time_sweep.proofs.Exchanging.{exchange}
-use Rattle.time_sweep.proofs.Hurrying.{fast, fast_fits, none_sooner}
+use Rattle.time_sweep.proofs.Hurrying.{fast_fits, none_sooner}
 use Rattle.time_sweep.proofs.Settling.{IsSettling, begun, settled_whole}
 
 -- whether the rank of a place is known
@@ -39,23 +41,23 @@ module _ (graph : PlainGraph) (ranked : IsRanked graph.places) (target : ℕ) (r
       (settled_whole (java_reads_decide graph.mode) (exchange graph changed fits ranked) (is_known ranks) are.feeds unmarked (λ m. refl) target are.own)
 
 -- a place of no rank has no trial
-pub unreached_at : (graph : PlainGraph) → IsRanked graph.places → IsSound graph → (target : ℕ) (ranks : List (Option ℕ)) → AreRanksFor graph.places target ranks → (place : ℕ) → is_known ranks place ≡ false
-    → trial_at graph target place ≡ None
-unreached_at graph ranked sound target ranks are place unknown = of (stage_at graph.places place) refl where
-  of : (here : Option Stage) → stage_at graph.places place ≡ here → trial_of graph target place here ≡ None
+pub unreached_at : (graph : PlainGraph) → IsRanked graph.places → IsSound graph → (haste : Haste) (target : ℕ) (ranks : List (Option ℕ)) → AreRanksFor graph.places target ranks → (place : ℕ) → is_known ranks place ≡ false
+    → trial_at graph haste target place ≡ None
+unreached_at graph ranked sound haste target ranks are place unknown = of (stage_at graph.places place) refl where
+  of : (here : Option Stage) → stage_at graph.places place ≡ here → trial_of graph haste target place here ≡ None
   of None none = refl
   of (Some stage) here =
       let own : stage.place ≡ place = (sound.stages place stage here).own_place in
       let stands : stage_at graph.places stage.place ≡ Some stage = ap (stage_at graph.places) own ∙ here in
       ap (λ (new : Option Done). cond (is_some stage.action) (sooner_trial place (completion_of graph target) new) None)
-      (sym (same_completion graph ranked target ranks are (fast stage) (fast_fits graph.places stage stands (sound.stages stage.place stage stands)) (ap (is_known ranks) own ∙ unknown)))
+      (sym (same_completion graph ranked target ranks are (hastened_stage haste stage) (fast_fits graph.places haste stage stands (sound.stages stage.place stage stands)) (ap (is_known ranks) own ∙ unknown)))
       ∙ none_sooner (is_some stage.action) place (completion_of graph target)
 
 -- a target that is pending has no trials
-no_trial : (graph : PlainGraph) (target place : ℕ) (here : Option Stage) → completion_of graph target ≡ None → trial_of graph target place here ≡ None
-no_trial graph target place None pending = refl
-no_trial graph target place (Some stage) pending =
-    ap (λ (old : Option Done). cond (is_some stage.action) (sooner_trial place old (completion_of (hurried graph stage) target)) None) pending
+no_trial : (graph : PlainGraph) (haste : Haste) (target place : ℕ) (here : Option Stage) → completion_of graph target ≡ None → trial_of graph haste target place here ≡ None
+no_trial graph haste target place None pending = refl
+no_trial graph haste target place (Some stage) pending =
+    ap (λ (old : Option Done). cond (is_some stage.action) (sooner_trial place old (completion_of (hastened graph haste stage) target)) None) pending
     ∙ either (is_some stage.action) where
       either : (acts : Bool) → cond {A = Option Trial} acts None None ≡ None
       either true = refl
@@ -65,5 +67,5 @@ none_found : (trial : ℕ → Option Trial) → ((place : ℕ) → trial place �
 none_found trial none [] = refl
 none_found trial none (place ∷ places) = ap (λ (one : Option Trial). cons_option one (filter_map trial places)) (none place) ∙ none_found trial none places
 
-pub pending_trials : (graph : PlainGraph) (target : ℕ) → completion_of graph target ≡ None → trials graph target ≡ []
-pending_trials graph target pending = none_found (trial_at graph target) (λ place. no_trial graph target place (stage_at graph.places place) pending) (all_places graph.places)
+pub pending_trials : (graph : PlainGraph) (haste : Haste) (target : ℕ) → completion_of graph target ≡ None → trials graph haste target ≡ []
+pending_trials graph haste target pending = none_found (trial_at graph haste target) (λ place. no_trial graph haste target place (stage_at graph.places place) pending) (all_places graph.places)

@@ -1,5 +1,5 @@
 -- What a search from the target finds are the places that it can wait for.
-use Rattle.std.proofs.Common.{◌≡◌, ◌+◌, ◌<◌, ◌≤◌, ℕ, zero, suc, Bool, true, false, List, [], ◌∷◌, ◌++◌, Option, cond, length, is_some, refl, ap, sym, ◌∙◌, subst, inl, inr, arith, ⊎_elim}
+use Rattle.std.proofs.Common.{◌≡◌, ◌+◌, ◌<◌, ◌≤◌, ℕ, zero, suc, Bool, true, false, List, [], ◌∷◌, ◌++◌, Option, cond, length, refl, ap, sym, ◌∙◌, subst, inl, inr, arith, ⊎_elim}
 use Rattle.std.specs.Prelude.{Contains, filter, ◌==◌, ◌⊎◌}
 use Rattle.std.specs.List.{list_any, range_with_len}
 use Rattle.std.proofs.lemmas.Bool.{eq-eqb, eqb-true, or_cases, or_left, or_right}
@@ -8,9 +8,9 @@ use Rattle.stage_graph.specs.Plain.{feeds_at}
 use Rattle.stage_graph.specs.Walk.{rank, IsRanked}
 use Rattle.rank_order.specs.Lists.{is_among}
 use Rattle.propagate.specs.Reach.{Stages}
-use Rattle.propagate.proofs.Members.{among_append_cases, among_append_left, among_append_right, among_cases, among_contains, among_push_cases, passes, same_tests, some_passes}
+use Rattle.propagate.proofs.Members.{among_append_left, among_append_right, among_cases, among_contains, passes, same_tests, some_passes}
 use Rattle.propagate.proofs.Ranks.{rank_feed, rank_le}
-use Rattle.time_sweep.specs.Known.{AreRanksFor, IsKnown, rank_in}
+use Rattle.time_sweep.specs.Known.{AreRanksFor, IsKnown}
 use Rattle.time_sweep.specs.Waits.{can_wait_for, waits_within, AreWaitedFor, CanWaitFor, IsOnly}
 use Rattle.time_sweep.proofs.Hurrying.{range_more}
 use Rattle.time_sweep.proofs.Unreached.{is_known}

@@ -1,5 +1,6 @@
 pub mod ByKey
 pub mod Changed
+pub mod Hastened
 pub mod Known
 pub mod Standing
 pub mod Starts

@@ -1,6 +1,6 @@
 //! How a target completes in the graph in which another stage stands at a place: a changed one, which keeps its name and its
 //! feeds.
-ghost use Rattle.std.specs.Prelude.{◌≡◌, ◌+◌, ◌<◌, ◌≤◌, ◌||◌, ◌&&◌, ◌==◌, ◌^◌, ℕ, true, All, IfOk, OnOk, Some, IfSome, IsSome, is_some, length, option_copied, slice_set, ◌++◌, ◌∷◌, []};
+ghost use Rattle.std.specs.Prelude.{◌≡◌, ◌+◌, ◌<◌, ◌≤◌, ◌||◌, ◌&&◌, ◌==◌, ◌^◌, ℕ, true, All, IfOk, OnOk, Some, IfSome, is_some, length, option_copied, slice_set, ◌++◌, ◌∷◌, []};
 ghost use Rattle.stage_graph.specs.Plain.{stage_at, feeds_at, dependents, IsLive};
 ghost use Rattle.stage_graph.specs.Sound.{IsSoundStage};
 ghost use Rattle.stage_graph.specs.Walk.{rank};

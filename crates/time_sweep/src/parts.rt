@@ -2,6 +2,7 @@
 ghost use Rattle.std.specs.Prelude.{◌≡◌, ◌<◌, ◌≤◌};
 ghost use Rattle.time_sweep.specs.Tried.{part_of};
 
+use crate::haste::Haste;
 use crate::trial_start::TrialStart;
 
 /// What all parts of a sweep start from.
@@ -12,6 +13,8 @@ pub(crate) struct Parts<'a> {
     pub(crate) places: Vec<u32>,
     /// How many of them a part has.
     pub(crate) size: usize,
+    /// How much faster the action of each trial is.
+    pub(crate) haste: Haste,
 }
 
 /// The places whose trials are made at the trial of this number: at the first trial of a part those of the part, which are

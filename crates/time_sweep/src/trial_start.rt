@@ -7,6 +7,7 @@ ghost use Rattle.time_sweep.specs.Sweep.{completion_of};
 ghost use Rattle.time_sweep.specs.WithStage.{with_stage, IsFitting};
 
 use crate::ancestors::ranks_of;
+use crate::as_it_is::completion_of;
 use crate::changes::Changes;
 use crate::completion::{OneTrial, changed_completion};
 use crate::known::{known_rank, states_of};
@@ -15,7 +16,7 @@ use propagate::{KeptState, StateRepresentation};
 use stage_graph::Stage;
 use stage_ops::{Done, Meter};
 use std::alloc::{AllocError, Global};
-use version_store::{NoStage, QueryFault, Version};
+use version_store::{QueryFault, Version};
 
 /// What all trials of a target start from: the states of the version, and what stands at the places that the target can
 /// wait for.
@@ -28,20 +29,6 @@ pub struct TrialStart<'a> {
     pub(crate) ranks: Vec<Option<u32>>,
     /// What stands at these places.
     pub(crate) standing: Vec<Option<Standing<'a>>>,
-}
-
-/// How a stage completes in the version; none while it is pending.
-pub(crate) fn completion_of<R: StateRepresentation>(
-    version: &Version<R>,
-    target: u32,
-) -> Option<Done>
-    requires { IsLive version.now.graph.places target }
-    ensures { result ≡ completion_of version.now.graph target }
-{
-    match version.state(target) {
-        Ok(state) => state.done,
-        Err(NoStage) => unreachable!(),
-    }
 }
 
 impl<'a> TrialStart<'a> {

@@ -1,7 +1,7 @@
 //! All trials of a stage.
-ghost use Rattle.std.specs.Prelude.{◌≡◌, ◌↔◌, ◌≤◌, All, IfOk, IsOk, IsTrue, None, true, false, OnOk, filter_map, length};
+ghost use Rattle.std.specs.Prelude.{◌≡◌, ◌≤◌, All, IfOk, IsOk, None, true, false, OnOk, filter_map, length};
 ghost use Rattle.std.specs.List.{range_with_len, flat_map};
-ghost use Rattle.stage_graph.specs.Plain.{all_places, IsLive};
+ghost use Rattle.stage_graph.specs.Plain.{IsLive};
 ghost use Rattle.level_pool.specs.Runs.{IsPlainMap};
 ghost use Rattle.time_sweep.specs.Sweep.{completion_of, sooner_trial, trial_at, trials};
 ghost use Rattle.time_sweep.specs.Known.{AreRanksFor};
@@ -9,14 +9,15 @@ ghost use Rattle.time_sweep.specs.Starts.{IsStart};
 ghost use Rattle.time_sweep.specs.Tried.{part_of, trials_in, AreParts, GiveAll};
 
 use crate::ancestors::ranks_of;
+use crate::as_it_is::completion_of;
 use crate::changes::Changes;
+use crate::haste::Haste;
 use crate::known::known_rank;
 use crate::parts::{Parts, part_of, size_of_parts};
 use crate::trial::Trial;
-use crate::trial_start::{TrialStart, completion_of};
+use crate::trial_start::TrialStart;
 use level_pool::{OneThread, Plan, Runner};
 use propagate::StateRepresentation;
-use stage_graph::Stage;
 use stage_ops::Done;
 use std::alloc::{AllocError, Global};
 use version_store::Version;
@@ -47,35 +48,19 @@ fn is_pending<R: StateRepresentation>(version: &Version<R>, target: u32) -> bool
     completion_of(version, target).is_none()
 }
 
-/// Whether a stage's action takes no time in the version.
-fn takes_no_time(stage: &Stage) -> bool
-    ensures { IsTrue result ↔ ((stage.now.queued ≡ 0) × (stage.now.runs ≡ 0)) }
-{
-    stage.queued == 0 && stage.runs == 0
-}
-
-/// The stage, with an action that is not queued and takes no time.
-fn without_time(stage: &Stage) -> Result<Stage, AllocError>
-    ensures { IfOk result (λ made. made ≡ record stage.now { queued = 0; runs = 0 }) }
-{
-    let mut made = stage.again()?;
-    made.queued = 0;
-    made.runs = 0;
-    Ok(made)
-}
-
 /// The trial at a place, where a stage with an action stands there and the target would complete sooner.
 fn trial_at<R: StateRepresentation>(
     alloc: Global,
     version: &Version<R>,
     start: &TrialStart<'_>,
+    haste: Haste,
     place: u32,
     changes: &mut Changes,
 ) -> Result<Option<Trial>, AllocError>
     requires start { IsStart version.now.graph start.now }
     requires room { length changes.old.at.items ≡ length start.now.before.items }
     ensures room { OnOk result (length changes.new.at.items ≡ length start.now.before.items) }
-    ensures trial { IfOk result (λ trial. trial ≡ trial_at version.now.graph start.now.target place) }
+    ensures trial { IfOk result (λ trial. trial ≡ trial_at version.now.graph haste start.now.target place) }
 {
     let Some(stage) = version.graph().stage(place) else {
         return Ok(None);
@@ -83,22 +68,23 @@ fn trial_at<R: StateRepresentation>(
     if stage.action.is_none() {
         return Ok(None);
     }
-    let fast = without_time(stage)?;
+    let fast = haste.hastened(stage)?;
     let old = completion_of(version, start.target);
     let new = start.completion_with(alloc, version, &fast, changes)?;
     Ok(sooner_trial(place, &old, &new))
 }
 
-/// Whether a trial has to be made at a place: where a stage with an action stands that takes time, and whose rank is known,
-/// as it is wherever the target can wait for the stage.
+/// Whether a trial has to be made at a place: where a stage with an action stands that doesn't stay as it is, and whose rank is
+/// known, as it is wherever the target can wait for the stage.
 fn is_tried<R: StateRepresentation>(
     version: &Version<R>,
     ranks: &[Option<u32>],
     target: u32,
+    haste: Haste,
     place: u32,
 ) -> bool
     requires { AreRanksFor version.now.graph.places target ranks.now }
-    ensures { result ≡ false → trial_at version.now.graph target place ≡ None }
+    ensures { result ≡ false → trial_at version.now.graph haste target place ≡ None }
 {
     let graph = version.graph();
     // With its length a graph says that it is sound, as every graph is.
@@ -112,7 +98,7 @@ fn is_tried<R: StateRepresentation>(
     if stage.action.is_none() {
         return false;
     }
-    !takes_no_time(stage)
+    !haste.keeps(stage)
 }
 
 /// The places at which a trial has to be made, in order.
@@ -121,14 +107,15 @@ fn tried_places<R: StateRepresentation>(
     version: &Version<R>,
     ranks: &[Option<u32>],
     target: u32,
+    haste: Haste,
 ) -> Result<Vec<u32>, AllocError>
     requires { AreRanksFor version.now.graph.places target ranks.now }
-    ensures trials { IfOk result (λ places. filter_map (trial_at version.now.graph target) places.items ≡ trials version.now.graph target) }
+    ensures trials { IfOk result (λ places. filter_map (trial_at version.now.graph haste target) places.items ≡ trials version.now.graph haste target) }
     ensures few { IfOk result (λ places. length places.items ≤ 65536) }
 {
     let mut places = Vec::new(alloc);
     for place in 0..version.graph().len() as u32 {
-        if is_tried(version, ranks, target, place) {
+        if is_tried(version, ranks, target, haste, place) {
             places.push(place)?;
         }
     }
@@ -151,10 +138,11 @@ fn trials_among<R: StateRepresentation>(
     alloc: Global,
     version: &Version<R>,
     start: &TrialStart<'_>,
+    haste: Haste,
     places: &[u32],
 ) -> Result<Vec<Trial>, AllocError>
     requires { IsStart version.now.graph start.now }
-    ensures { IfOk result (λ found. found.items ≡ filter_map (trial_at version.now.graph start.now.target) places.now) }
+    ensures { IfOk result (λ found. found.items ≡ filter_map (trial_at version.now.graph haste start.now.target) places.now) }
 {
     // Where no part begins no trials are made, and no list of changes.
     if places.is_empty() {
@@ -163,7 +151,7 @@ fn trials_among<R: StateRepresentation>(
     let mut changes = start.room(alloc)?;
     let mut found = Vec::new(alloc);
     for place in places {
-        if let Some(trial) = trial_at(alloc, version, start, *place, &mut changes)? {
+        if let Some(trial) = trial_at(alloc, version, start, haste, *place, &mut changes)? {
             found.push(trial)?;
         }
     }
@@ -178,10 +166,10 @@ fn trials_of_part<R: StateRepresentation>(
     number: u32,
 ) -> Result<Vec<Trial>, AllocError>
     requires { AreParts version.now.graph parts.now }
-    ensures { GiveAll (λ number. filter_map (trial_at version.now.graph parts.now.start.target) (part_of parts.now.places.items parts.now.size number)) number result }
+    ensures { GiveAll (λ number. filter_map (trial_at version.now.graph parts.now.haste parts.now.start.target) (part_of parts.now.places.items parts.now.size number)) number result }
 {
     let places = part_of(parts.places.as_slice(), parts.size, number);
-    trials_among(alloc, version, &parts.start, places)
+    trials_among(alloc, version, &parts.start, parts.haste, places)
 }
 
 /// What is made at each of these numbers of trials, or that memory ran out for it. The runner makes them beside each other.
@@ -193,14 +181,14 @@ fn tried<R: StateRepresentation, W: Runner>(
     runner: &W,
 ) -> Result<Vec<Result<Vec<Trial>, AllocError>>, AllocError>
     requires { AreParts version.now.graph parts.now }
-    ensures { IfOk result (λ tried. IsPlainMap (GiveAll (λ number. filter_map (trial_at version.now.graph parts.now.start.target) (part_of parts.now.places.items parts.now.size number))) numbers.now tried.items) }
+    ensures { IfOk result (λ tried. IsPlainMap (GiveAll (λ number. filter_map (trial_at version.now.graph parts.now.haste parts.now.start.target) (part_of parts.now.places.items parts.now.size number))) numbers.now tried.items) }
 {
     let answer = runner.run(
         alloc,
         numbers,
         &|number: u32| -> Result<Vec<Trial>, AllocError>
             requires { AreParts version.now.graph parts.now }
-            ensures { GiveAll (λ number. filter_map (trial_at version.entry.now.graph parts.entry.now.start.target) (part_of parts.entry.now.places.items parts.entry.now.size number)) number result }
+            ensures { GiveAll (λ number. filter_map (trial_at version.entry.now.graph parts.entry.now.haste parts.entry.now.start.target) (part_of parts.entry.now.places.items parts.entry.now.size number)) number result }
         { trials_of_part(alloc, version, parts, number) },
     );
     match answer {
@@ -218,7 +206,7 @@ fn tried_by<R: StateRepresentation, W: Runner>(
     runner: &W,
 ) -> Result<Vec<Result<Vec<Trial>, AllocError>>, AllocError>
     requires { AreParts version.now.graph parts.now }
-    ensures { IfOk result (λ tried. IsPlainMap (GiveAll (λ number. filter_map (trial_at version.now.graph parts.now.start.target) (part_of parts.now.places.items parts.now.size number))) numbers.now tried.items) }
+    ensures { IfOk result (λ tried. IsPlainMap (GiveAll (λ number. filter_map (trial_at version.now.graph parts.now.haste parts.now.start.target) (part_of parts.now.places.items parts.now.size number))) numbers.now tried.items) }
 {
     match runner.plan() {
         Plan::Pooled { rt } => {
@@ -259,17 +247,18 @@ pub(crate) fn trials<R: StateRepresentation, W: Runner>(
     alloc: Global,
     version: &Version<R>,
     target: u32,
+    haste: Haste,
     runner: &W,
 ) -> Result<Vec<Trial>, AllocError>
     requires { IsLive version.now.graph.places target }
-    ensures { IfOk result (λ found. found.items ≡ trials version.now.graph target) }
+    ensures { IfOk result (λ found. found.items ≡ trials version.now.graph haste target) }
 {
     // A stage that is pending completes no sooner.
     if is_pending(version, target) {
         return Ok(Vec::new(alloc));
     }
     let ranks = ranks_of(alloc, version, target)?;
-    let places = tried_places(alloc, version, ranks.as_slice(), target)?;
+    let places = tried_places(alloc, version, ranks.as_slice(), target, haste)?;
     // Without trials no states are needed.
     if places.is_empty() {
         return Ok(Vec::new(alloc));
@@ -283,6 +272,7 @@ pub(crate) fn trials<R: StateRepresentation, W: Runner>(
         start,
         places,
         size,
+        haste,
     };
     let tried = tried_by(alloc, version, &parts, numbers.as_slice(), runner)?;
     found_among(alloc, tried.as_slice())

@@ -9,13 +9,8 @@ use level_pool::Runner;
 use propagate::StateRepresentation;
 use share_tree::Held;
 use stage_graph::{Edits, Fault};
-use stage_ops::Meter;
 use std::alloc::{AllocError, Global};
 use version_store::Version;
-
-/// The marker of the meter of a trial.
-#[derive(Drop)]
-struct OneTrial;
 
 /// The version of number 1 that edits make which the graph takes and which move no stage.
 fn drafted<R: StateRepresentation, W: Runner>(
@@ -28,8 +23,7 @@ fn drafted<R: StateRepresentation, W: Runner>(
     requires unmoved { (name : List ℕ) → list_any (moves name) edits.now ≡ false }
     ensures { IfOk result (IsDrafted version.now edits.now) }
 {
-    let mut meter = Meter::new(OneTrial);
-    match version.draft(alloc, edits, runner, &mut meter) {
+    match version.drafted(alloc, edits, runner) {
         Ok(draft) => draft.numbered(1),
         Err(Fault::Refused(_)) => unreachable!(),
         Err(Fault::Cycle(_)) => unreachable!(),

@@ -14,6 +14,10 @@ use stage_ops::Meter;
 use std::alloc::Global;
 use std::marker::Sync;
 
+/// The marker of the meter of a draft that nobody counts.
+#[derive(Drop)]
+struct OneDraft;
+
 impl<R: StateRepresentation> Version<R> {
     /// The draft that a list of edits makes of the version. Only the stages that the edits touch are computed, each
     /// once, and the meter rises by their number.
@@ -40,5 +44,21 @@ impl<R: StateRepresentation> Version<R> {
         let touched = Held::new(alloc, edited.touched)?;
         let origin = Origin::new(self.number(), self.evaluated().again()?, edits.again()?);
         Ok(Draft::new(origin, graph, touched))
+    }
+
+    /// The same draft, for which nobody asks how many stages are computed. All programs that go this way have one compiled form
+    /// of what computes a draft.
+    ///
+    /// Errors: as [`Version::draft`].
+    pub fn drafted<W: Runner>(
+        &self,
+        alloc: Global,
+        edits: &Held<Edits>,
+        runner: &W,
+    ) -> Result<Draft<R>, Fault>
+        ensures { Drafts self.now edits.now result }
+    {
+        let mut meter = Meter::new(OneDraft);
+        self.draft(alloc, edits, runner, &mut meter)
     }
 }

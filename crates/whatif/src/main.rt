@@ -8,7 +8,8 @@ use at_once::run_many;
 use command_help::told;
 use command_line::{Command, CommandLine, Manner, WordsFault, parsed, without_help_of_help};
 use commands::{
-    refuse, run_draw, run_export, run_import, run_report, run_report_stage, run_serve, run_try,
+    RescueWords, refuse, run_compare, run_draw, run_export, run_import, run_report,
+    run_report_stage, run_rescue, run_serve, run_try, swept_as,
 };
 use console::{Fault, run_check};
 use level_pool::{OneThread, Runner};
@@ -69,9 +70,9 @@ fn answer<'a, K: StateRepresentation, H: Threads + Wait + Copy + Drop + Send + S
         Command::Sweep {
             recording,
             stage,
-            most,
+            sweep,
         } => {
-            let asked = StageReport::Sweep { most };
+            let asked = StageReport::Sweep(swept_as(sweep));
             run_report_stage::<K, _>(rt, threads, manner, recording, stage, asked)?
         }
         Command::Slack {
@@ -82,19 +83,30 @@ fn answer<'a, K: StateRepresentation, H: Threads + Wait + Copy + Drop + Send + S
             let asked = StageReport::Slack { within };
             run_report_stage::<K, _>(rt, threads, manner, recording, stage, asked)?
         }
+        Command::Rescue {
+            recording,
+            stage,
+            by,
+            value,
+            most,
+        } => {
+            let words = RescueWords { by, value, most };
+            run_rescue::<K, _>(rt, threads, manner, recording, stage, words)?
+        }
         Command::Ends { recording } => {
             run_report::<K>(rt, manner, recording, WholeReport::Ends)?
         }
         Command::Failures { recording, origin } => match origin {
             None => run_report::<K>(rt, manner, recording, WholeReport::Failures)?,
-            Some(stage) => {
+            Some(_) => {
                 let asked = StageReport::Failure;
-                run_report_stage::<K, _>(rt, threads, manner, recording, stage, asked)?
+                run_report_stage::<K, _>(rt, threads, manner, recording, origin, asked)?
             }
         },
         Command::Try { recording, trial } => {
             run_try::<K, _>(rt, runner, manner, recording, &trial)?
         }
+        Command::Compare { good, bad, stage } => { run_compare::<K>(rt, manner, good, bad, stage)? }
         Command::Draw { recording, picture } => run_draw::<K>(rt, manner, recording, picture)?,
         Command::Check { recording } => return run_check(rt, manner, recording),
         Command::Serve { recording } => run_serve::<K, _>(rt, runner, manner, recording)?,

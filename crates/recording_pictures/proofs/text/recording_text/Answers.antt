@@ -4,13 +4,13 @@ use Rattle.recording_pictures.specs.Pictures.{target_of}
 use Rattle.recording_pictures.proofs.Pictured.{live_target, pictured}
 use Rattle.recording_pictures.proofs.text.recording_text.Goals as goal
 
-pub version_text-requires-after_bounds : goal.version_text-requires-after_bounds
-version_text-requires-after_bounds g c κs within =
+pub version_text-text-requires-after_bounds : goal.version_text-text-requires-after_bounds
+version_text-text-requires-after_bounds g c κs within =
     let P : PlainGraph → Type 0 = λ graph. target_of graph (option_copied c.args.asked.stage) ≡ Some c.in_ok-target.target in
     live_target c.in-Ok-load.version.graph (option_copied c.args.asked.stage) c.in_ok-target.target (subst P c.graph.ensures.graph c.in_ok-target.ensures)
 
-pub returns-in-Ok-version_text : goal.returns-in-Ok-version_text
-returns-in-Ok-version_text g c =
+pub returns-in-Ok-text : goal.returns-in-Ok-text
+returns-in-Ok-text g c =
     let P : PlainGraph → Type 0 = λ graph. target_of graph (option_copied c.args.asked.stage) ≡ Some c.in_ok-target.target in
     pictured c.args.recording.now c.args.asked.form c.args.asked.scope (option_copied c.args.asked.stage) _ c.in-Ok.graph c.in-Ok-load.version c.in_ok-target.target
-    c.in-Ok.ensures c.in-Ok-load.ensures (subst P c.graph.ensures.graph c.in_ok-target.ensures) c.in-Ok-version_text.ensures
+    c.in-Ok.ensures c.in-Ok-load.ensures (subst P c.graph.ensures.graph c.in_ok-target.ensures) c.in-Ok-text.ensures

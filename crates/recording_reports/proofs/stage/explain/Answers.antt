@@ -1,5 +1,5 @@
 use Rattle.text_io.proofs.Writing.{on_err}
-use Rattle.recording_reports.proofs.InTurn.{in_first, in_second, in_third, in_fourth}
+use Rattle.text_io.proofs.InTurn.{in_first, in_second, in_third, in_fourth}
 use Rattle.recording_reports.proofs.stage.explain.Goals as goal
 
 pub returns-in_err-tell_report-clause-err : goal.returns-in_err-tell_report-clause-err

@@ -1,4 +1,4 @@
-use Rattle.std.proofs.Common.{◌∙◌, Bool, List, ℕ, OnErr, [], cond, subst, sym}
+use Rattle.std.proofs.Common.{◌∙◌, Bool, OnErr, [], cond, subst, sym}
 use Rattle.text_io.specs.Sink.{AppendsPrefix}
 use Rattle.text_io.proofs.Writing.{on_err}
 use Rattle.text_io.proofs.Written.{AppendsPrefix-none}

@@ -1,4 +1,4 @@
-use Rattle.std.proofs.Common.{ap, refl}
+use Rattle.std.proofs.Common.{ap, refl, sym}
 use Rattle.report_json.specs.Json.{count}
 use Rattle.report_json.specs.Rows.{names_json}
 use Rattle.report_json.proofs.Pushed.{no_rows_told, only_row}
@@ -37,8 +37,14 @@ returns-in-ChangesAgainst c = rw c.in-ChangesAgainst.is (only_row c.count.result
 pub returns-in-DriftAgainst : goal.returns-in-DriftAgainst
 returns-in-DriftAgainst c = rw c.in-DriftAgainst.is (only_row c.count-in-DriftAgainst.result _ _ _ _ _ (ap count c.from-in-DriftAgainst.ensures) c.count-in-DriftAgainst.ensures)
 
-pub returns-in-Sweep : goal.returns-in-Sweep
-returns-in-Sweep c = rw c.in-Sweep.is (only_row c.count-in-Sweep.result _ _ _ _ _ refl c.count-in-Sweep.ensures)
-
 pub returns-in-Slack : goal.returns-in-Slack
 returns-in-Slack c = rw c.in-Slack.is (only_row c.count-in-Slack.result _ _ _ _ _ refl c.count-in-Slack.ensures)
+
+pub returns-in-Rescue : goal.returns-in-Rescue
+returns-in-Rescue c = rw c.in-Rescue.is c.push_first_of_rescue.ensures
+
+pub returns-in-Sweep : goal.returns-in-Sweep
+returns-in-Sweep c = rw c.in-Sweep.is c.push_first_of_sweep.ensures
+
+pub returns-in-Differences : goal.returns-in-Differences
+returns-in-Differences c = rw c.in-Differences.is (rw (sym c.standing.ensures, sym c.standing-in-Differences.ensures) c.push_first_of_differences.ensures)

@@ -1,26 +1,17 @@
-use Rattle.std.proofs.Common.{◌≡◌, ◌≢◌, ◌+◌, ◌∙◌, Some, Err, ap, subst}
+use Rattle.std.proofs.Common.{◌≡◌, ◌+◌, ◌∙◌, Some, Err, ap, subst}
 use Rattle.std.specs.Io.KnownBytes.{Appends}
 use Rattle.std.proofs.lemmas.Result.{err_from_is_err_and}
 use Rattle.serde_json.specs.Read.{read}
 use Rattle.serde_json.specs.Written.{compact_text}
-use Rattle.text_io.specs.declared.stopped.Stopped.{Stopped}
-use Rattle.text_io.specs.declared.stopped.Stopped.TheVariants as stopped
 use Rattle.text_io.specs.Sink.{AppendsPrefix}
 use Rattle.text_io.proofs.Writing.{on_err}
 use Rattle.text_io.proofs.Written.{AppendsPrefix-none}
 use Rattle.report_rows.specs.declared.fault.ReportFault.{ReportFault}
-use Rattle.report_rows.specs.declared.fault.ReportFault.TheVariants.{NoStage}
-use Rattle.report_rows.specs.Faults.{report_fault}
 use Rattle.report_rows.specs.Report.{Report}
-use Rattle.report_rows.proofs.Answering.{Answered, same_failures}
+use Rattle.report_rows.proofs.Answering.{is_there, same_failures}
 use Rattle.report_json.specs.Heads.{object_of}
 use Rattle.report_json.specs.Json.{answer_text, at_line}
 use Rattle.report_json.proofs.reporting.write_comparison.Goals as goal
-
--- what stops the writing is no want of a stage
-is_there : (r : Answered) (fault : Stopped) → r ≡ Err (report_fault fault) → r ≢ Err NoStage
-is_there r stopped.Write is same = cc
-is_there r stopped.Memory is same = cc
 
 pub returns-in_err-said-clause-err : goal.returns-in_err-said-clause-err
 returns-in_err-said-clause-err g c = on_err _ (AppendsPrefix-none _ _)

@@ -19,7 +19,7 @@ returns-in_err-said-clause-err g c = on_err _ (AppendsPrefix-none _ _)
 pub returns-in_err-said-clause-no_stage : goal.returns-in_err-said-clause-no_stage
 returns-in_err-said-clause-no_stage g c =
     let p = err_from_is_err_and c.from_residual.result c.from_residual.ensures.1 in
-    no_stage c.from_residual.result _ report_text (sweep_said c.args.version.now c.args.target c.args.most) (p.1 ∙ ap (λ (fault : ReportFault). Err fault) p.2) c.in_err-said.ensures.no_stage
+    no_stage c.from_residual.result _ report_text (sweep_said c.args.version.now c.args.target c.args.asked) (p.1 ∙ ap (λ (fault : ReportFault). Err fault) p.2) c.in_err-said.ensures.no_stage
 
 pub returns-in_err-said-clause-failures : goal.returns-in_err-said-clause-failures
 returns-in_err-said-clause-failures g c =
@@ -34,7 +34,7 @@ returns-in_err-write_said-clause-err g c =
 pub returns-in_err-write_said-clause-no_stage : goal.returns-in_err-write_said-clause-no_stage
 returns-in_err-write_said-clause-no_stage g c =
     let p = err_from_is_err_and c.from_residual-in_err-write_said.result c.from_residual-in_err-write_said.ensures.1 in
-    stage_is_there c.from_residual-in_err-write_said.result _ report_text _ (sweep_said c.args.version.now c.args.target c.args.most) (p.1 ∙ ap (λ (fault : ReportFault). Err fault) p.2) c.in_ok-said.ensures.value
+    stage_is_there c.from_residual-in_err-write_said.result _ report_text _ (sweep_said c.args.version.now c.args.target c.args.asked) (p.1 ∙ ap (λ (fault : ReportFault). Err fault) p.2) c.in_ok-said.ensures.value
 
 pub returns-in_err-write_said-clause-failures : goal.returns-in_err-write_said-clause-failures
 returns-in_err-write_said-clause-failures g c =
@@ -43,4 +43,4 @@ returns-in_err-write_said-clause-failures g c =
     c.in_err-write_said.ensures.counted ∙ ap (λ count. g.S.Sink.failures c.args.sink.now + count) same
 
 pub returns-clause-no_stage : goal.returns-clause-no_stage
-returns-clause-no_stage g c = stage_was_there _ report_text _ (sweep_said c.args.version.now c.args.target c.args.most) c.in_ok-said.ensures.value
+returns-clause-no_stage g c = stage_was_there _ report_text _ (sweep_said c.args.version.now c.args.target c.args.asked) c.in_ok-said.ensures.value

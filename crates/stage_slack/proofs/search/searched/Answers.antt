@@ -1,4 +1,4 @@
-use Rattle.std.proofs.Common.{◌≡◌, ◌+◌, ◌/◌, ◌^◌, ◌≤◌, ◌∙◌, ℕ, arith, max, subst, sym}
+use Rattle.std.proofs.Common.{◌+◌, ◌/◌, ◌^◌, ◌≤◌, ℕ, arith, subst, sym}
 use Rattle.stage_slack.specs.Search.{below, doublings, searched}
 use Rattle.stage_slack.specs.Slacks.{stays}
 use Rattle.stage_slack.proofs.Searching.{first_halved, halved_all, halved_more, raised_few, IsHalved}

@@ -1,6 +1,5 @@
-use Rattle.std.proofs.Common.{◌≡◌, ◌∙◌, ℕ, Some, ap, is_some, subst, sym}
+use Rattle.std.proofs.Common.{◌≡◌, ◌∙◌, ℕ, Some, ap, subst, sym}
 use Rattle.std.specs.Prelude.{not}
-use Rattle.stage_graph.specs.declared.stage.Stage.{Stage}
 use Rattle.stage_graph.specs.Plain.{PlainGraph, stage_at}
 use Rattle.stage_graph.specs.Sound.{IsSoundStage}
 use Rattle.stage_slack.proofs.Lengthening.{slack_found}

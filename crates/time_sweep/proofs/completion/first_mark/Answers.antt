@@ -1,4 +1,4 @@
-use Rattle.std.proofs.Common.{◌≡◌, ◌∙◌, ℕ, List, Some, [], refl, sym, ap, subst}
+use Rattle.std.proofs.Common.{◌≡◌, ◌∙◌, ℕ, List, Some, [], refl, sym, subst}
 use Rattle.rank_order.specs.Marks.{AreMarks}
 use Rattle.rank_order.proofs.Marking.{no_marks}
 use Rattle.time_sweep.proofs.completion.first_mark.Goals as goal

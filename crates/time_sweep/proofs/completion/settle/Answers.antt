@@ -1,7 +1,6 @@
 use Rattle.std.proofs.Common.{◌∙◌, sym, ap, subst, length, length-append, arith}
 use Rattle.std.proofs.Math.ListN.{length-set}
-use Rattle.stage_graph.specs.declared.stage.Stage.{Stage}
-use Rattle.stage_graph.specs.Sound.{IsSound, IsSoundStage}
+use Rattle.stage_graph.specs.Sound.{IsSound}
 use Rattle.stage_graph.specs.Walk.{rank}
 use Rattle.rank_order.specs.Marks.{is_marked}
 use Rattle.rank_order.proofs.Marking.{marks_left, none_marked}

@@ -1,5 +1,4 @@
 use Rattle.std.proofs.Common.{◌≡◌, ◌∙◌, ℕ, Some, ap, subst, sym}
-use Rattle.stage_graph.specs.declared.stage.Stage.{Stage}
 use Rattle.stage_graph.specs.Plain.{PlainGraph, stage_at}
 use Rattle.stage_graph.specs.Sound.{IsSoundStage}
 use Rattle.time_sweep.specs.WithStage.{IsFitting}
@@ -16,4 +15,4 @@ completion_with-requires-clause-fits g c κs inside =
     let sound : IsSoundStage places c.args.place stage =
     subst (λ (graph : PlainGraph). IsSoundStage graph.places c.args.place stage) c.graph.ensures.graph c.in-Some.ensures.sound in
     subst (IsFitting places) (sym c.in_ok-fast.ensures)
-    (fast_fits places stage (ap (stage_at places) own ∙ here) (subst (λ (place : ℕ). IsSoundStage places place stage) (sym own) sound))
+    (fast_fits places c.args.haste stage (ap (stage_at places) own ∙ here) (subst (λ (place : ℕ). IsSoundStage places place stage) (sym own) sound))

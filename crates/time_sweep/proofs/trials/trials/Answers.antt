@@ -9,12 +9,12 @@ use Rattle.time_sweep.proofs.trials.trials.Goals as goal
 
 pub returns-then-is_pending : goal.returns-then-is_pending
 returns-then-is_pending g c =
-    c.new.ensures.items ∙ sym (pending_trials c.args.version.now.graph c.args.target (c.is_pending.ensures c.if-is_pending.true))
+    c.new.ensures.items ∙ sym (pending_trials c.args.version.now.graph c.args.haste c.args.target (c.is_pending.ensures c.if-is_pending.true))
 
 pub returns : goal.returns
 returns g c =
     let graph = c.args.version.now.graph in
-    let trial = trial_at graph c.args.target in
+    let trial = trial_at graph c.args.haste c.args.target in
     let places = c.in_ok-places.places.items in
     let size = c.size_of_parts-size.result in
     let tried = c.in_ok-tried.tried.items in
@@ -22,7 +22,7 @@ returns g c =
     let count = c.len-2.ensures ∙ c.in_ok-places.places.ok.0 in
     let zip : AllZip (GiveAll each) (range_with_len 0 (length places)) tried =
     subst (λ (numbers : List ℕ). AllZip (GiveAll each) numbers tried) (c.as_slice-2.ensures.value ∙ c.in_ok-numbers.ensures ∙ ap (range_with_len 0) count)
-    (subst (λ (target : ℕ). AllZip (GiveAll (λ number. filter_map (trial_at graph target) (part_of places size number))) c.as_slice-2.result.now tried) c.in_ok-start.ensures.target c.in_ok-tried.ensures) in
+    (subst (λ (target : ℕ). AllZip (GiveAll (λ number. filter_map (trial_at graph c.args.haste target) (part_of places size number))) c.as_slice-2.result.now tried) c.in_ok-start.ensures.target c.in_ok-tried.ensures) in
     both_ok c.found_among.result _ _ _
     (λ found is all.
     is ∙ ap (flat_map trials_in) c.as_slice-3.ensures.value ∙ all_tried each (range_with_len 0 (length places)) tried zip (subst (All (λ one. IsOk one)) c.as_slice-3.ensures.value all)

@@ -9,7 +9,7 @@ use Rattle.time_sweep.proofs.trials.trials_among.Goals.{in-Some+in_ok-push, in_d
 
 pub loop-place-preserved : goal.loop-place-preserved
 loop-place-preserved g c =
-    let trial = trial_at c.args.version.now.graph c.args.start.now.target in
+    let trial = trial_at c.args.version.now.graph c.args.haste c.args.start.now.target in
     let places = c.args.places.now in
     let k = c.loop-place.place-index in
     let inv = c.loop-place.invariant in

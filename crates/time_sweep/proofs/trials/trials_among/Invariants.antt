@@ -5,6 +5,6 @@ use Rattle.time_sweep.proofs.trials.trials_among.Given as goal
 
 abbrev pub invariant-loop-place : goal.invariant-loop-place
 invariant-loop-place g l = record {
-  found : l.found.items ≡ filter_map (trial_at l.version.graph l.start.target) (take l.place-index l.places);
+  found : l.found.items ≡ filter_map (trial_at l.version.graph l.haste l.start.target) (take l.place-index l.places);
   room : length l.changes.at.items ≡ length l.start.before.items;
 }

@@ -6,7 +6,7 @@ use Rattle.time_sweep.proofs.trials.tried_places.Goals.{then-is_tried+in_ok-push
 
 pub loop-place-preserved : goal.loop-place-preserved
 loop-place-preserved g c =
-    let trial = trial_at c.args.version.now.graph c.args.target in
+    let trial = trial_at c.args.version.now.graph c.args.haste c.args.target in
     let inv = c.loop-place.invariant in
     elim c.if-is_tried.branch [
       | then-is_tried+in_ok-push w ↦

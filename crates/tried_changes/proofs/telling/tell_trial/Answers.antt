@@ -1,5 +1,5 @@
 use Rattle.text_io.proofs.Writing.{on_err}
-use Rattle.tried_changes.proofs.InTurn.{in_first, in_second, in_third, in_fourth}
+use Rattle.text_io.proofs.InTurn.{in_first, in_second, in_third, in_fourth}
 use Rattle.tried_changes.proofs.telling.tell_trial.Goals as goal
 
 pub returns-in_err-tell_report-clause-err : goal.returns-in_err-tell_report-clause-err

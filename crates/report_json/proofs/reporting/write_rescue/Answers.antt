@@ -1,0 +1,65 @@
+use Rattle.std.proofs.Common.{◌≡◌, ◌+◌, ◌∙◌, Some, Err, Option, ap, subst, arith}
+use Rattle.std.specs.Io.KnownBytes.{Appends}
+use Rattle.std.specs.Option.{option_map}
+use Rattle.std.specs.Prelude.{IfSome}
+use Rattle.std.proofs.lemmas.Result.{err_from_is_err_and}
+use Rattle.serde_json.specs.Read.{read}
+use Rattle.serde_json.specs.Written.{compact_text}
+use Rattle.text_io.specs.Sink.{AppendsPrefix}
+use Rattle.text_io.proofs.Writing.{on_err}
+use Rattle.text_io.proofs.Written.{AppendsPrefix-none}
+use Rattle.report_rows.specs.declared.fault.ReportFault.{ReportFault}
+use Rattle.report_rows.specs.Faults.{failed_writes}
+use Rattle.report_rows.specs.Report.{Report}
+use Rattle.report_rows.specs.Said.{rescue_said}
+use Rattle.report_rows.proofs.Answering.{no_stage, none_failed, same_failures, stage_is_there, stage_was_there}
+use Rattle.report_json.specs.Heads.{object_of}
+use Rattle.report_json.specs.Json.{at_line, told}
+use Rattle.report_json.proofs.reporting.write_rescue.Goals as goal
+
+pub returns-in_err-said-clause-err : goal.returns-in_err-said-clause-err
+returns-in_err-said-clause-err g c = on_err _ (AppendsPrefix-none _ _)
+
+pub returns-in_err-said-clause-no_stage : goal.returns-in_err-said-clause-no_stage
+returns-in_err-said-clause-no_stage g c =
+    let p = err_from_is_err_and c.from_residual.result c.from_residual.ensures.1 in
+    no_stage c.from_residual.result _ object_of (rescue_said c.args.version.now c.args.target c.args.terms) (p.1 ∙ ap (λ (fault : ReportFault). Err fault) p.2) c.in_err-said.ensures.no_stage
+
+pub returns-in_err-said-clause-failures : goal.returns-in_err-said-clause-failures
+returns-in_err-said-clause-failures g c =
+    let p = err_from_is_err_and c.from_residual.result c.from_residual.ensures.1 in
+    let none : failed_writes c.from_residual.result ≡ 0 = none_failed c.from_residual.result _ (p.1 ∙ ap (λ (fault : ReportFault). Err fault) p.2) in
+    omega (arith, none)
+
+pub returns-in_err-write_said-clause-err : goal.returns-in_err-write_said-clause-err
+returns-in_err-write_said-clause-err g c =
+    on_err _
+    (subst (λ (found : Option Report). AppendsPrefix (g.S.Sink.held c.args.sink.now) (g.S.Sink.held c.write_said.new.sink) (told c.args.line (option_map object_of found)))
+    c.in_ok-said.ensures.value c.in_err-write_said.ensures.written.err)
+
+pub returns-in_err-write_said-clause-no_stage : goal.returns-in_err-write_said-clause-no_stage
+returns-in_err-write_said-clause-no_stage g c =
+    let p = err_from_is_err_and c.from_residual-in_err-write_said.result c.from_residual-in_err-write_said.ensures.1 in
+    stage_is_there c.from_residual-in_err-write_said.result _ object_of _ (rescue_said c.args.version.now c.args.target c.args.terms) (p.1 ∙ ap (λ (fault : ReportFault). Err fault) p.2) c.in_ok-said.ensures.value
+
+pub returns-in_err-write_said-clause-failures : goal.returns-in_err-write_said-clause-failures
+returns-in_err-write_said-clause-failures g c =
+    let p = err_from_is_err_and c.from_residual-in_err-write_said.result c.from_residual-in_err-write_said.ensures.1 in
+    let same = same_failures c.from_residual-in_err-write_said.result _ (p.1 ∙ ap (λ (fault : ReportFault). Err fault) p.2) in
+    c.in_err-write_said.ensures.written.counted ∙ ap (λ count. g.S.Sink.failures c.args.sink.now + count) same
+
+pub returns-clause-ok : goal.returns-clause-ok
+returns-clause-ok g c =
+    subst (λ (found : Option Report). Appends (g.S.Sink.held c.args.sink.now) (g.S.Sink.held c.write_said.new.sink) (told c.args.line (option_map object_of found)))
+    c.in_ok-said.ensures.value c.in_ok-write_said.ensures.written.ok
+
+pub returns-clause-no_stage : goal.returns-clause-no_stage
+returns-clause-no_stage g c = stage_was_there _ object_of _ (rescue_said c.args.version.now c.args.target c.args.terms) c.in_ok-said.ensures.value
+
+pub returns-clause-failures : goal.returns-clause-failures
+returns-clause-failures g c = c.in_ok-write_said.ensures.written.counted
+
+pub returns-clause-reads_back : goal.returns-clause-reads_back
+returns-clause-reads_back g c =
+    subst (λ (found : Option Report). IfSome (option_map object_of found) (λ report. read (compact_text (at_line c.args.line report)) ≡ Some (at_line c.args.line report)))
+    c.in_ok-said.ensures.value c.in_ok-write_said.ensures.reads_back

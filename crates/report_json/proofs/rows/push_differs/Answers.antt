@@ -1,0 +1,18 @@
+use Rattle.std.proofs.Common.{◌∷◌, [], codes, refl}
+use Rattle.report_rows.specs.declared.row.Row.TheVariants as a_row
+use Rattle.report_json.specs.Json.{text}
+use Rattle.report_json.specs.Rows.{in_run_json, row_members}
+use Rattle.report_json.proofs.Pushed.{named_told, next_row, object_told, one_row}
+use Rattle.report_json.proofs.rows.push_differs.Goals as goal
+
+pub returns : goal.returns
+returns c =
+    object_told
+    ((codes "bad", in_run_json c.args.bad.now) ∷ (codes "good", in_run_json c.args.good.now) ∷ (codes "name", text c.args.name.now) ∷ [])
+    refl c.end_object.result (row_members (a_row.Differs c.args.name.now c.args.good.now c.args.bad.now)) _ _ _ _ refl c.in_ok-begin_object.ensures
+    (next_row _ _ _ _ _ _
+    (next_row _ _ _ _ _ _
+    (one_row _ _ _ _ (named_told _ _ _ _ _ c.in_ok-name.ensures c.in_ok-push_in_run.ensures))
+    (named_told _ _ _ _ _ c.in_ok-name-2.ensures c.in_ok-push_in_run-2.ensures))
+    c.in_ok-text.ensures)
+    c.end_object.ensures

@@ -1,0 +1,4 @@
+pub mod Collecting
+pub mod Counterparts
+pub mod Flagged
+pub mod Ordering
