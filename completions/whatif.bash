@@ -67,21 +67,24 @@ _whatif_words() {
       rescue) echo --by --as --top --quiet --strict --format -h --help ;;
       failures) echo --origin --quiet --strict --format -h --help ;;
       try) echo --stage --save --draw --quiet --strict --format -h --help ;;
-      draw) echo --stage --what --format --quiet --strict -h --help ;;
+      draw) echo --stage --what --from --to --min --format --quiet --strict -h --help ;;
+      page) echo --stage --quiet --strict -h --help ;;
       many) echo --workers --quiet --strict --format -h --help ;;
       check) echo --strict -h --help ;;
       import) echo --list --each --trace --unit --clocks --calls --format --quiet -h --help ;;
       export) echo --quiet --strict -h --help ;;
+      new) echo -h --help ;;
       help) echo - ;;
       *) echo --quiet --strict --format -h --help ;;
     esac
   elif [ -z "$command" ]; then
-    echo report explain sweep slack rescue ends failures try compare draw check serve export many import help
+    echo report explain sweep slack rescue ends failures try compare draw page check serve export many import new help
   else
     case $command:$places in
-      help:0) echo report explain sweep slack rescue ends failures try compare draw check serve export many import help ;;
+      help:0) echo report explain sweep slack rescue ends failures try compare draw page check serve export many import new help ;;
+      new:0) echo first timeout timer retry fallback breaker cache queue race batch ;;
       explain:1 | sweep:1 | slack:1 | rescue:1 | compare:2 | try:[1-9]*) _whatif_stages "$1" "$file" ;;
-      report:0 | explain:0 | sweep:0 | slack:0 | rescue:0 | ends:0 | failures:0 | try:0 | compare:0 | compare:1 | draw:0 | check:0 | serve:0 | export:0 | export:1 | many:* | import:0) ;;
+      report:0 | explain:0 | sweep:0 | slack:0 | rescue:0 | ends:0 | failures:0 | try:0 | compare:0 | compare:1 | draw:0 | page:0 | check:0 | serve:0 | export:0 | export:1 | many:* | import:0) ;;
       *) echo - ;;
     esac
   fi

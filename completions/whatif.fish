@@ -1,6 +1,6 @@
 # Completion of whatif for fish: put this file into ~/.config/fish/completions.
 
-set -l commands report explain sweep slack rescue ends failures try compare draw check serve export many import help
+set -l commands report explain sweep slack rescue ends failures try compare draw page check serve export many import new help
 
 # The words after the command that are no options and no option's value.
 function __whatif_places
@@ -49,16 +49,18 @@ complete -c whatif -n "not __fish_seen_subcommand_from $commands" -a failures -d
 complete -c whatif -n "not __fish_seen_subcommand_from $commands" -a try -d 'Print what would come of changes, made together'
 complete -c whatif -n "not __fish_seen_subcommand_from $commands" -a compare -d 'Print what made a stage late in one run that was not late in another'
 complete -c whatif -n "not __fish_seen_subcommand_from $commands" -a draw -d 'Write a picture of a recording'
+complete -c whatif -n "not __fish_seen_subcommand_from $commands" -a page -d 'Write a page that tells of a recording, for the ticket of an incident'
 complete -c whatif -n "not __fish_seen_subcommand_from $commands" -a check -d 'Print every fault of a recording'
 complete -c whatif -n "not __fish_seen_subcommand_from $commands" -a serve -d 'Answer the steps that come on standard input'
 complete -c whatif -n "not __fish_seen_subcommand_from $commands" -a export -d 'Write the version that a script made last, as a recording'
 complete -c whatif -n "not __fish_seen_subcommand_from $commands" -a many -d 'Answer several scripts at once'
 complete -c whatif -n "not __fish_seen_subcommand_from $commands" -a import -d 'Write the recording that a trace makes'
+complete -c whatif -n "not __fish_seen_subcommand_from $commands" -a new -d 'Print a recording to begin with'
 complete -c whatif -n "not __fish_seen_subcommand_from $commands" -a help -d 'Print help'
 complete -c whatif -n "not __fish_seen_subcommand_from help" -s h -l help -d 'Print help'
 complete -c whatif -n "not __fish_seen_subcommand_from $commands" -s V -l version -d 'Print the version'
 
-complete -c whatif -n "__fish_seen_subcommand_from report explain sweep slack rescue ends failures try compare draw check serve export import; and __whatif_has_places 0" -F
+complete -c whatif -n "__fish_seen_subcommand_from report explain sweep slack rescue ends failures try compare draw page check serve export import; and __whatif_has_places 0" -F
 complete -c whatif -n "__fish_seen_subcommand_from compare export; and __whatif_has_places 1" -F
 complete -c whatif -n "__fish_seen_subcommand_from explain sweep slack rescue try; and __whatif_has_places 1" -a '(__whatif_stages)'
 complete -c whatif -n "__fish_seen_subcommand_from compare; and __whatif_has_places 2" -a '(__whatif_stages)'
@@ -71,13 +73,17 @@ complete -c whatif -n "__fish_seen_subcommand_from rescue" -l by -x -d 'The tick
 complete -c whatif -n "__fish_seen_subcommand_from rescue" -l as -x -d 'The value that stands in place of an exception'
 complete -c whatif -n "__fish_seen_subcommand_from rescue" -l top -x -d 'Print the first N changes alone'
 complete -c whatif -n "__fish_seen_subcommand_from failures" -l origin -x -a '(__whatif_stages)' -d 'Print the failure that arose in this stage alone'
-complete -c whatif -n "__fish_seen_subcommand_from report explain sweep slack rescue ends failures try compare draw serve export many import" -l quiet -d 'Leave explanations and warnings out'
-complete -c whatif -n "__fish_seen_subcommand_from report explain sweep slack rescue ends failures try compare draw check serve export many" -l strict -d 'End with status 1 where there is a warning'
+complete -c whatif -n "__fish_seen_subcommand_from report explain sweep slack rescue ends failures try compare draw page serve export many import" -l quiet -d 'Leave explanations and warnings out'
+complete -c whatif -n "__fish_seen_subcommand_from report explain sweep slack rescue ends failures try compare draw page check serve export many" -l strict -d 'End with status 1 where there is a warning'
 complete -c whatif -n "__fish_seen_subcommand_from try" -l stage -x -a '(__whatif_stages)' -d 'Tell what comes of it for this stage'
 complete -c whatif -n "__fish_seen_subcommand_from try" -l save -d 'Write the recording that the changes make'
 complete -c whatif -n "__fish_seen_subcommand_from try" -l draw -d 'Write a picture of what the changes make'
 complete -c whatif -n "__fish_seen_subcommand_from draw" -l stage -x -a '(__whatif_stages)' -d 'Draw the path of this stage'
 complete -c whatif -n "__fish_seen_subcommand_from draw" -l what -x -a 'all path' -d 'Which stages have a row'
+complete -c whatif -n "__fish_seen_subcommand_from page" -l stage -x -a '(__whatif_stages)' -d 'The stage that the page is about'
+complete -c whatif -n "__fish_seen_subcommand_from draw" -l from -x -d 'The first tick that is drawn'
+complete -c whatif -n "__fish_seen_subcommand_from draw" -l to -x -d 'The last tick that is drawn'
+complete -c whatif -n "__fish_seen_subcommand_from draw" -l min -x -d 'Leave out the stages that took less'
 complete -c whatif -n "__fish_seen_subcommand_from draw" -l format -x -a 'svg trace' -d 'An SVG file, or trace events'
 complete -c whatif -n "__fish_seen_subcommand_from report explain sweep slack rescue ends failures try compare serve many import" -l format -x -a 'text json' -d 'Text for people, or JSON for programs'
 complete -c whatif -n "__fish_seen_subcommand_from many" -F
@@ -88,4 +94,5 @@ complete -c whatif -n "__fish_seen_subcommand_from import" -l trace -x -a '(__wh
 complete -c whatif -n "__fish_seen_subcommand_from import" -l unit -x -a 'us ns ms' -d 'The unit of ticks'
 complete -c whatif -n "__fish_seen_subcommand_from import" -l clocks -x -a 'inferred as-told' -d 'Whether clocks that a trace contradicts are moved'
 complete -c whatif -n "__fish_seen_subcommand_from import" -l calls -x -a 'inferred as-told' -d 'Whether calls may have been tried again or given up'
+complete -c whatif -n "__fish_seen_subcommand_from new; and __whatif_has_places 0" -a 'first timeout timer retry fallback breaker cache queue race batch'
 complete -c whatif -n "__fish_seen_subcommand_from help; and __whatif_has_places 0" -a "$commands"

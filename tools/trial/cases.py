@@ -102,7 +102,7 @@ FILES = [
     Case("report of a folder on standard input", ["report"], NO_READ, 3, stdin=File(".")),
     *[
         Case(f"{words[0]} on {told}", words, "", 3, err=err, stdout=stdout, files={"s": OPEN, "warned": R.replace("{", '{"stage":1,', 1)})
-        for words in (["report", "r.json"], ["explain", "r.json", "a"], ["sweep", "r.json", "b"], ["slack", "r.json", "b"], ["rescue", "r.json", "b"], ["compare", "r.json", "r.json", "b"], ["draw", "r.json"], ["check", "warned"], ["export", "r.json", "s"])
+        for words in (["report", "r.json"], ["explain", "r.json", "a"], ["sweep", "r.json", "b"], ["slack", "r.json", "b"], ["rescue", "r.json", "b"], ["compare", "r.json", "r.json", "b"], ["draw", "r.json"], ["page", "r.json", "--stage", "b"], ["check", "warned"], ["export", "r.json", "s"])
         for told, stdout, err in UNWRITTEN
     ],
     Case("report of many stages on a pipe that nobody reads", ["report"], "", 3, err=r"\A\Z", stdout="gone", stdin=lambda: recording(*(stage("manual", name=f"m{it}") for it in range(5000)))),

@@ -231,7 +231,7 @@ EXCEPTION_CASES = [
 ] + [
     Case(f"mistake: no exception's name, of {words[0]}", [words[0], "r.json", *words[1:]], "refused 71 Shape action\n", 1, err=begins('whatif: r.json: line 1: stages[0].action ("a") is "java.io.IOException: reset"; the class alone is meant'),
          files={"r.json": recording(stage("supplyAsync", action=["throw", "java.io.IOException: reset"]), form=2), "s": ""})
-    for words in (["explain", "a"], ["sweep", "a"], ["slack", "a"], ["rescue", "a"], ["ends"], ["failures"], ["try", "a runs=5"], ["compare", "r.json", "a"], ["draw"], ["serve"], ["export", "s"], ["many", "s"])
+    for words in (["explain", "a"], ["sweep", "a"], ["slack", "a"], ["rescue", "a"], ["ends"], ["failures"], ["try", "a runs=5"], ["compare", "r.json", "a"], ["draw"], ["page"], ["serve"], ["export", "s"], ["many", "s"])
 ] + [
     Case("mistake: no exception's name beside another mistake", ["check", "-"],
          re.compile(rb'standard input: line 1: stages\[0\]\.action \("a"\) is "a b" .*\nstandard input: line 1: stage "b" \(place 1\): source "c" .*\n'), 1,
@@ -279,7 +279,7 @@ TRACES = [
 TRACE_CASES = [
     case for what, text, out, said in TRACES for case in (
         *(Case(f"mistake: a trace, {what}, of {words[0]}", [words[0], "t.json", *words[1:]], f"refused {out}\n", 1, err=begins(f"whatif: t.json: {said}"), files={"t.json": text, "s": ""})
-          for words in (["report"], ["explain", "a"], ["sweep", "a"], ["slack", "a"], ["rescue", "a"], ["ends"], ["failures"], ["try", "a runs=5"], ["compare", "t.json", "a"], ["draw"], ["serve"], ["export", "s"])),
+          for words in (["report"], ["explain", "a"], ["sweep", "a"], ["slack", "a"], ["rescue", "a"], ["ends"], ["failures"], ["try", "a runs=5"], ["compare", "t.json", "a"], ["draw"], ["page"], ["serve"], ["export", "s"])),
         Case(f"mistake: a trace, {what}, of check", ["check", "t.json"], f"t.json: {said}\n", 1, err=r"\A\Z", files={"t.json": text}))
 ]
 

@@ -1,7 +1,9 @@
 """Pictures of recordings: SVG files and trace events, held against what the reports of the same recording tell."""
+import itertools
 import json
 import re
 import xml.etree.ElementTree as tree
+from typing import Any, NamedTuple
 
 from . import courses
 from .cases import NO_READ, R, recording, stage, with_r
@@ -9,10 +11,14 @@ from .readme import read
 from .run import CLOSED, Case, run, shown
 
 SVG = "{http://www.w3.org/2000/svg}"
-MOST_ROWS = 2_000
+MOST_ROWS = 200
+MOST_EVENTS = 2_000
+MOST_HIGH = 4_000
 SOME = 12
 NO_STAGE = "refused 10 NoStage\n"
 PENDING = recording(stage("manual"), stage("thenRun", "b", sources=["a"], action=None))
+# (what is below follows the operations of these stages alone)
+CUT_BY_ENDS = json.dumps({"form": 2, "stages": [it for it in json.loads(courses.CUT)["stages"] if it["op"] in ("async", "thenApply")]})
 STATE = re.compile(r"(\S+) \S+ rank (\d+) (.*)")
 
 
@@ -41,8 +47,8 @@ def states(program, text):
     return {found[1]: (found[2], found[3]) for found in map(STATE.fullmatch, asked(program, text, {"what": "all"})) if found}
 
 
-def cut(name):
-    return name if len(name) <= 40 else name[:39] + "\u2026"
+def cut(name, most=40):
+    return name if len(name) <= most else name[:most - 1] + "\u2026"
 
 
 def wrong_row(row, meant):
@@ -97,9 +103,26 @@ def wrong_bars(row, stage, meant):
     return ""
 
 
-def wrong_svg(text, meant, path, known=()):
+def wrong_axes(root, unit):
+    """What the axes say otherwise than whole ticks, with the unit behind each."""
+    wanted = re.compile(rf"\d+{re.escape(' ' + cut(unit, 8) if unit else '')}")
+    named = [it.text for it in root.iter(f"{SVG}text") if it.get("class") == "tick"]
+    wrong = [it for it in named if not wanted.fullmatch(it)]
+    return f"the axes name {wrong}, and not ticks of {unit!r}" if wrong or not named else ""
+
+
+def shown_of(root, count):
+    """What is told below the title otherwise than how many stages there are, and have a row."""
+    note = next(it.text for it in root.iter(f"{SVG}text") if it.get("class") == "note")
+    wanted = f"{count} stages" if count <= MOST_ROWS else f"{MOST_ROWS} of {count} stages: those on the path, and those whose own actions took longest"
+    return "" if note == wanted else f"below the title stands {note!r}, and not {wanted!r}"
+
+
+def wrong_svg(text, meant, path, known=(), unit=""):
     """What is wrong with a picture of a recording, or nothing."""
     root = tree.fromstring(text)
+    if said := wrong_axes(root, unit):
+        return said
     names = {it.tag for it in root.iter()}
     if root.tag != f"{SVG}svg" or f"{SVG}script" in names:
         return f"no picture, or a script: {sorted(names)}"
@@ -110,6 +133,11 @@ def wrong_svg(text, meant, path, known=()):
         name = row.find(f"{SVG}title").text.split("\n")[0]
         if said := wrong_row(row, meant) or (wrong_bars(row, known[name], meant) if name in known else ""):
             return said
+    if int(root.get("height")) > MOST_HIGH:
+        return f"the picture is {root.get('height')} units high"
+    said = shown_of(root, len(meant))
+    if said:
+        return said
     heights = [int(row.find(f"{SVG}text").get("y")) for row in rows]
     if any(after - before < 18 for before, after in zip(heights, heights[1:])):
         return "two names stand closer than a row is high"
@@ -131,7 +159,7 @@ def wrong_events(text, meant, times, path, known=()):
     """What is wrong with the trace events of a recording, or nothing."""
     events = json.loads(text)
     names = {it["tid"]: it["args"]["name"] for it in events if it["name"] == "thread_name"}
-    if sorted(names) != list(range(1, min(len(meant), MOST_ROWS) + 1)) or len({*names.values()}) != len(names):
+    if sorted(names) != list(range(1, min(len(meant), MOST_EVENTS) + 1)) or len({*names.values()}) != len(names):
         return "the rows are not numbered from 1 on, each with a name"
     ran = {names[it["tid"]]: it for it in events if it["ph"] == "X" and it["cat"] != "queued"}
     pending = {names[it["tid"]] for it in events if it["ph"] == "i"}
@@ -171,6 +199,78 @@ def compared(program, text, name):
     return said or wrong_events(told(program, text, "draw", "--format", "trace", "--stage", name), meant, times, path, known)
 
 
+class Window(NamedTuple):
+    """The ticks that are drawn, and how many a stage takes at least; none where nothing is asked."""
+
+    first: Any
+    last: Any
+    least: Any
+
+    def words(self):
+        named = (("--from", self.first), ("--to", self.last), ("--min", self.least))
+        return [it for option, value in named if value is not None for it in (option, str(value))]
+
+    def has(self, first, last):
+        """Whether it has one of these ticks."""
+        return (self.first is None or self.first <= last) and (self.last is None or first <= self.last)
+
+    def asks_for(self, stage, meant, path):
+        """Whether a stage has a row."""
+        created, completed = stage.get("created", 0), courses.moment_of(meant[stage["name"]][1])
+        if completed is None:
+            return self.last is None or created <= self.last
+        took = completed - courses.course(stage, meant).triggered
+        return self.has(created, completed) and (stage["name"] in path or self.least is None or took >= self.least)
+
+
+def wrong_in_window(row, stage, meant, window):
+    """What is drawn of a row otherwise than what happened in a window."""
+    came, completed = courses.course(stage, meant), courses.moment_of(meant[stage["name"]][1])
+    started = min(came.triggered + came.queued, completed)
+    spans = {"queued": (came.queued, came.triggered, started), "ran": (True, started, started + came.ran), "cut": (came.cut_off, completed, completed + came.cut_off)}
+    wanted = {kind for kind, (is_there, first, last) in spans.items() if is_there and window.has(first, last)}
+    drawn = {it.get("class") for it in row}
+    if drawn & {*spans} != wanted:
+        return f"{stage['name']} has the bars {sorted(drawn & {*spans})} in {window}, and not {sorted(wanted)}"
+    return "" if bool(drawn & {"done", "cross"}) == window.has(completed, completed) else f"{stage['name']} completes at {completed}, and has the marks {sorted(drawn)} in {window}"
+
+
+def wrong_window(program, text, window, name):
+    """What a picture of some ticks shows, and what is told of it, otherwise than is asked; or nothing."""
+    meant, known = states(program, text), courses.known(text)
+    path = [it.split(" ")[0] for it in asked(program, text, {"what": "path", "stage": name})] if name else []
+    words = ["draw", *window.words(), *(["--stage", name] if name else []), "-"]
+    came = run(program, Case("window", words, None, stdin=text, seconds=60))
+    root, err = tree.fromstring(came.out.decode()), came.err.decode()
+    rows = {it.find(f"{SVG}title").text.split("\n")[0]: it for it in root if it.get("class", "").startswith("row ")}
+    wanted = {it for it in known if window.asks_for(known[it], meant, path)}
+    if {*rows} != wanted:
+        return f"{sorted(wanted ^ {*rows})} have a row in {window}, or none, and should not"
+    for it in rows:
+        if meant[it][1] != "pending" and (said := wrong_in_window(rows[it], known[it], meant, window)):
+            return said
+    left_out = len(known) - len(rows)
+    note = next(it.text for it in root.iter(f"{SVG}text") if it.get("class") == "note")
+    said = f"{len(rows)} of {len(known)} stages, {left_out} left out by --from, --to or --min" if left_out else f"{len(known)} stages"
+    if note != said:
+        return f"below the title stands {note!r}, and not {said!r}"
+    if err.startswith(f"whatif: {left_out} of the stages are left out: ") != bool(left_out) or err.count("\n") != bool(left_out):
+        return f"{left_out} are left out, and {err!r} is told"
+    ticks = [int(it.text) for it in root.iter(f"{SVG}text") if it.get("class") == "tick"]
+    return "" if all(window.has(it, it) for it in ticks) else f"the axes of {window} name {ticks}"
+
+
+def windows(program):
+    """The name of each case of a picture of some ticks, its complaint or nothing, and no refusal."""
+    asked_for = [Window(*it) for it in ((None, None, None), (30, None, None), (None, 40, None), (25, 70, None), (50, 50, None), (None, None, 9), (None, None, 200), (10, 90, 30), (0, 0, 0), (5_000, None, None))]
+    for seed, window in itertools.product(range(4), asked_for):
+        for name in (None, "s50"):
+            said = wrong_window(program, courses.some(seed, 60), window, name)
+            yield f"pictures of some ticks of stages made at random, {seed}, {' '.join(window.words())}, {name}", said, set()
+    for window in asked_for:
+        yield f"pictures of some ticks of what was cut off, {' '.join(window.words())}", wrong_window(program, CUT_BY_ENDS, window, None), set()
+
+
 def pictures(top, program):
     """The name of each case, its complaint or nothing, and no refusal."""
     late = read(top, "examples/late-reply.json")
@@ -182,12 +282,18 @@ def pictures(top, program):
         *((f"stages that are cut off at random, {seed}", courses.some(seed, 60), "s59") for seed in range(SOME)),
         ("10 stages", fan(10), "stage-9-xxxxxxxxx"),
         ("100 stages", fan(100), "stage-7-xxxxxxx"),
+        ("200 stages", fan(200), "stage-40-" + "x" * 40),
+        ("201 stages", fan(201), "stage-40-" + "x" * 40),
         ("2,000 stages", fan(2_000), "stage-40-" + "x" * 40),
         ("2,001 stages", fan(2_001), "stage-40-" + "x" * 40),
         ("5,000 stages", fan(5_000), "stage-4-xxxx"),
     ):
         said = compared(program, text, stage_name) if stage_name else wrong_svg(told(program, text, "draw"), {}, [])
         yield f"pictures of {name} are as the reports", said, set()
+    for unit in ("ms", "<&'\">", "fortnights", "tick-ish", "\u00b5s", ""):
+        text = json.dumps({"unit": unit, **json.loads(PENDING)})
+        yield f"the axes of a picture are of the unit {unit!r}", wrong_svg(told(program, text, "draw"), states(program, text), [], (), unit), set()
+    yield from windows(program)
     came = told(program, late, "draw", "--stage", "reply")
     yield "docs/late-reply.svg is the picture of the late reply", "" if came == read(top, "docs/late-reply.svg") else f"it is not {shown(came)}", set()
 
@@ -201,11 +307,38 @@ def drawn_cases():
     yield Case("draw of standard input", ["draw"], svg, stdin=R)
     yield Case("draw of -", ["draw", "-"], svg, stdin=R)
     yield Case("draw of a file", ["draw", "r.json"], svg, stdin=CLOSED)
+    for what, words, title in (
+        ("a file", ["draw", "r.json"], b"Version 0 of r.json"),
+        ("a file and a path", ["draw", "r.json", "--stage", "b"], b"Version 0 of r.json, the path of b"),
+        ("standard input", ["draw", "-"], b"Version 0"),
+        ("standard input and a path", ["draw", "--stage", "b"], b"Version 0, the path of b"),
+    ):
+        stdin = CLOSED if "r.json" in words else R
+        yield Case(f"draw of {what} is titled by it", words, re.compile(rb"(?s)<svg [^\n]*\n<title>" + title + rb"</title>.*>" + title + rb"</text>.*"), stdin=stdin)
+        titled = re.compile(rb'(?s)\[\{"args":\{"name":"' + title + rb'"\},"name":"process_name",.*')
+        yield Case(f"draw of {what} as trace events is titled by it", [*words, "--format", "trace"], titled, stdin=stdin)
+    for what, label, told_as in (("a number", 7, b"0"), ("a text", "ms", b"0 ms"), ("null", None, b"0"), ("a long text", "milliseconds", b"0 millise\xe2\x80\xa6")):
+        yield Case(f"draw of a recording whose unit is {what}", ["draw"], re.compile(rb"(?s)<svg .*>" + told_as + rb"</text>.*"), stdin=recording(stage("manual"), unit=label), err=r"\A\Z")
     yield Case("draw: the words in another order", ["draw", "--stage", "b", "r.json", "--what", "path"], svg)
     yield Case("draw --format svg", ["draw", "--format", "svg", "r.json"], svg)
     yield Case("draw --format trace", ["draw", "--format=trace", "r.json", "--stage=b"], events)
-    yield Case("draw of many rows says so", ["draw"], re.compile(rb"(?s)<svg .*2000 of 2001 stages: those on the path.*"), stdin=lambda: fan(MOST_ROWS + 1), seconds=60)
+    for form, most, out in (("svg", MOST_ROWS, rb"(?s)<svg .*200 of 201 stages: those on the path.*"), ("trace", MOST_EVENTS, rb"(?s)\[\{.*\}\n\]\n")):
+        few, many = (lambda most=most: fan(most)), (lambda most=most: fan(most + 1))
+        yield Case(f"draw --format {form} of as many rows as there is room for", ["draw", "--format", form], None, stdin=few, err=r"\A\Z", seconds=60)
+        yield Case(f"draw --format {form} of a row more says so", ["draw", "--format", form], re.compile(out), stdin=many, err=r"\Awhatif: no room for 1 of the stages: [^\n]*\n\Z", seconds=60)
+        yield Case(f"draw --format {form} --quiet of a row more", ["draw", "--format", form, "--quiet"], re.compile(out), stdin=many, err=r"\A\Z", seconds=60)
+    yield Case("draw of 5,000 stages", ["draw"], re.compile(rb"(?s)<svg [^\n]* height='3828'>.*200 of 5000 stages: .*"), stdin=lambda: fan(5_000), err="no room for 4800 of the stages", seconds=60)
     yield Case("draw --what path without a stage", ["draw", "--what", "path", "r.json"], "", 2, err="--stage <STAGE>")
+    yield Case("draw of no ticks", ["draw", "--from", "5", "--to", "4", "r.json"], "", 2, err=r"--to <T>.* before .*--from <T>")
+    yield Case("draw of one tick", ["draw", "--from", "5", "--to", "5", "r.json"], svg, err=r"\A\Z")
+    yield Case("draw from a tick that no recording has", ["draw", "--from", str(2**40 + 1), "r.json"], "", 2, err="--from")
+    yield Case("draw from no tick", ["draw", "--from", "-1", "r.json"], "", 2)
+    yield Case("draw --min of a word", ["draw", "--min", "long", "r.json"], "", 2, err="--min")
+    yield Case("draw after all stages", ["draw", "--from", "1000", "r.json"], svg, err=r"\Awhatif: 2 of the stages are left out: [^\n]*\n\Z")
+    yield Case("draw after all stages, quietly", ["draw", "--from", "1000", "--quiet", "r.json"], svg, err=r"\A\Z")
+    yield Case("draw of a short stage", ["draw", "--min", "6", "r.json"], re.compile(rb"(?s)<svg .*1 of 2 stages, 1 left out by.*"), err="1 of the stages are left out")
+    yield Case("draw of a short stage of the path", ["draw", "--min", "6", "--stage", "b", "r.json"], svg, err=r"\A\Z")
+    yield Case("draw of some ticks, as trace events", ["draw", "--from", "12", "--format", "trace", "r.json"], events, err="1 of the stages are left out")
     yield Case("draw --what none", ["draw", "--what", "none", "r.json"], "", 2, err="possible values: all, path")
     yield Case("draw --format png", ["draw", "--format", "png", "r.json"], "", 2, err="possible values: svg, trace")
     yield Case("draw of two files", ["draw", "r.json", "s.json"], "", 2, err="s.json")

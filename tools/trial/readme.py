@@ -6,7 +6,7 @@ import shlex
 
 from .run import Case
 
-COMMAND = re.compile(r"(?<!\| )\./whatif (report|explain|sweep|slack|rescue|ends|failures|try|compare|serve|export|many|import|draw)((?: (?:[\w./-]+|'[^'\n]*'))+)(?: < (examples/[\w.-]+))?")
+COMMAND = re.compile(r"(?<!\| )\./whatif (report|explain|sweep|slack|rescue|ends|failures|try|compare|serve|export|many|import|draw|page)((?: (?:[\w./-]+|'[^'\n]*'))+)(?: < (examples/[\w.-]+))?")
 BLOCK = re.compile(r"^```(\w*)\n(.*?)^```$", re.M | re.S)
 PAGES = ("README.md", os.path.join("docs", "TOUR.md"))
 
@@ -64,7 +64,7 @@ def of_an_example(command):
     """Whether what is shown is of a recording that lies in examples/: that of a trace, of a picture or of a recording that the program
     has made is compared by traces.py, pictures.py and exports.py."""
     subcommand, words, _ = command
-    return subcommand not in ("import", "draw") and "examples/" in words
+    return subcommand not in ("import", "draw", "page") and "examples/" in words
 
 
 def readme_cases(top):

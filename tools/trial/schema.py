@@ -3,9 +3,10 @@ import json
 import os
 import re
 import sys
+from urllib.parse import urljoin
 
 # These say something to a reader alone, or are read with another keyword.
-SILENT = {"$schema", "$comment", "title", "description", "$defs", "then", "else"}
+SILENT = {"$schema", "$id", "$comment", "title", "description", "$defs", "then", "else"}
 KINDS = {"null": type(None), "string": str, "array": list, "object": dict}
 # (an expression may be nested deep, and each of its levels takes some calls)
 sys.setrecursionlimit(max(sys.getrecursionlimit(), 5000))
@@ -60,24 +61,25 @@ def parts(schema):
 
 
 class Schemas:
-    """The schemas of a folder."""
+    """The schemas of a folder, each by its `$id`, to which references lead."""
 
     def __init__(self, folder, names):
         self.files = {}
         for name in names:
             with open(os.path.join(folder, name), encoding="utf-8") as file:
-                self.files[name] = json.load(file)
-        for name in names:
-            self.prepare(name, self.files[name])
+                schema = json.load(file)
+            self.files[schema["$id"]] = schema
+        for base, schema in self.files.items():
+            self.prepare(base, schema)
 
-    def prepare(self, name, schema):
-        """Looks at all keywords, and gives each reference the name of the file that it leads to."""
+    def prepare(self, base, schema):
+        """Looks at all keywords, and resolves each reference by the `$id` of the schema in which it stands."""
         if isinstance(schema, bool):
             return
         for part in parts(schema):
-            self.prepare(name, part)
+            self.prepare(base, part)
         if "$ref" in schema:
-            schema["$ref"] = schema["$ref"] if schema["$ref"].partition("#")[0] else name + schema["$ref"]
+            schema["$ref"] = urljoin(base, schema["$ref"])
             self.at(schema["$ref"])
 
     def at(self, reference):

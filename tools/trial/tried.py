@@ -23,8 +23,8 @@ HALF = lines(
 )
 SAVED = lines('{"form":2,"wrap":"computed","stages":[', '{"name":"a","op":"async","runs":5,"action":4,"pinResult":{"value":1}},', '{"name":"b","op":"thenApply","sources":["a"],"runs":5,"action":["add",["arg",0],1]}', "]}")
 HALF_OF_A = lines("a value:4 at 10 -> value:4 at 5", *HALF.splitlines()[1:7], "path of a at 5 stages 1", "a at 5 queued 0 ran 5 created 0")
-DRAWN = re.compile(rb"(?s)<svg .*>Version 1<.*>2 stages, \* changed<.*>\* a</text>.*>b</text>.*</svg>\n")
-DRAWN_WITH_PATH = re.compile(rb"(?s)<svg .*>Version 1, the path of b<.*>2 stages, \* changed<.*>\* a</text>.*>b</text>.*class='path'.*</svg>\n")
+DRAWN = re.compile(rb"(?s)<svg .*>Version 1 of r\.json<.*>2 stages, \* changed<.*>\* a</text>.*>b</text>.*</svg>\n")
+DRAWN_WITH_PATH = re.compile(rb"(?s)<svg .*>Version 1 of r\.json, the path of b<.*>2 stages, \* changed<.*>\* a</text>.*>b</text>.*class='path'.*</svg>\n")
 TAKEN = "whatif: no --stage is given, so this is about stage"
 
 # A stage that a timeout cuts off, one that waits for it, and one with two timeouts.

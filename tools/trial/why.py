@@ -40,11 +40,13 @@ Commands:
   try       Prints what would come of changes, made together
   compare   Prints what made a stage late in one run that was not late in another: its path in both, and the stages in which they differ
   draw      Writes a picture of a recording: when each stage waited, was queued, ran and completed
+  page      Writes a page that tells of a recording: one HTML file that stands alone, for the ticket of an incident
   check     Prints every fault of a recording, and every member that nothing reads
   serve     Answers the steps that come on standard input, one to a line, about a recording
   export    Writes the version that a script made last, as a recording
   many      Answers several scripts at once, whose clients share the sessions and versions
   import    Writes the recording that a trace makes, from OTLP/JSON, Jaeger JSON or Zipkin's
+  new       Prints a recording to begin with: one that says what each of its stages is, or the form of a retry, a timeout, a race
   help      Print this message or the help of the given subcommand(s)
 
 Options:
@@ -204,6 +206,9 @@ Arguments:
 Options:
       --stage <STAGE>    draw the path of this stage over the rows
       --what <WHAT>      which stages have a row: all, or those on the path of --stage alone [default: all] [possible values: all, path]
+      --from <T>         draw the ticks from T on alone, from 0 to 2^40, and the stages that completed then or later
+      --to <T>           draw the ticks up to T alone, from 0 to 2^40, and the stages that were created by then
+      --min <T>          leave out the stages that took less than T ticks from their trigger to their completion, from 0 to 2^40, but none of the path of --stage
       --format <FORMAT>  an SVG file, or trace events as JSON, which Perfetto and chrome://tracing open [default: svg] [possible values: svg, trace]
       --quiet            leave explanations and warnings out
       --strict           end with status 1 where there is a warning
@@ -211,9 +216,30 @@ Options:
 
 Examples:
   whatif draw examples/late-reply.json --stage reply > reply.svg
+  whatif draw examples/late-reply.json --from 100 --to 150 --min 10 > end.svg
   whatif draw --format trace examples/late-reply.json > late-reply.trace.json
 
 What is drawn: docs/FORMATS.md, Pictures.
+""")
+HELP_OF_PAGE = help_of("""\
+Writes a page that tells of a recording: one HTML file that stands alone, for the ticket of an incident
+
+Usage: PROGRAM page [OPTIONS] <FILE>
+
+Arguments:
+  <FILE>  the recording; - is standard input
+
+Options:
+      --stage <STAGE>  the stage that the page is about; where it is left out, the one that completes last of those on which no other waits, if one does
+      --quiet          leave explanations and warnings out
+      --strict         end with status 1 where there is a warning
+  -h, --help           Print help
+
+Examples:
+  whatif page examples/late-reply.json --stage reply > late-reply.html
+  whatif page - < examples/late-reply.json > late-reply.html
+
+What the page has: docs/PAGE.md.
 """)
 HELP_OF_IMPORT = help_of("""\
 Writes the recording that a trace makes, from OTLP/JSON, Jaeger JSON or Zipkin's
@@ -288,10 +314,10 @@ COMMAND_LINES = [
     Case("the subcommand of help names each", ["help"], HELP),
     *[
         Case(f"help of {name}, by {' '.join(words)}", words, text)
-        for name, text in (("report", HELP_OF_REPORT), ("explain", HELP_OF_EXPLAIN), ("sweep", HELP_OF_SWEEP), ("ends", HELP_OF_ENDS), ("failures", HELP_OF_FAILURES), ("try", HELP_OF_TRY), ("draw", HELP_OF_DRAW), ("check", HELP_OF_CHECK), ("export", HELP_OF_EXPORT), ("import", HELP_OF_IMPORT))
+        for name, text in (("report", HELP_OF_REPORT), ("explain", HELP_OF_EXPLAIN), ("sweep", HELP_OF_SWEEP), ("ends", HELP_OF_ENDS), ("failures", HELP_OF_FAILURES), ("try", HELP_OF_TRY), ("draw", HELP_OF_DRAW), ("page", HELP_OF_PAGE), ("check", HELP_OF_CHECK), ("export", HELP_OF_EXPORT), ("import", HELP_OF_IMPORT))
         for words in ([name, "--help"], [name, "-h"], ["help", name])
     ],
-    Case("no word names the subcommands", [], "", 2, err="report, explain, sweep, slack, rescue, ends, failures, try, compare, draw, check, serve, export, many, import, help"),
+    Case("no word names the subcommands", [], "", 2, err="report, explain, sweep, slack, rescue, ends, failures, try, compare, draw, page, check, serve, export, many, import, new, help"),
     *[
         case
         for name in ("explain", "sweep")

@@ -1,7 +1,7 @@
 -- The words for what the program can be told to do.
 use Rattle.std.specs.Prelude.{ℕ, List, codes}
 use Rattle.command_line.specs.declared.subcommand.Subcommand.{Subcommand}
-use Rattle.command_line.specs.declared.subcommand.Subcommand.TheVariants.{Report, Explain, Sweep, Slack, Rescue, Ends, Failures, Try, Compare, Draw, Check, Serve, Export, Many, Import}
+use Rattle.command_line.specs.declared.subcommand.Subcommand.TheVariants.{Report, Explain, Sweep, Slack, Rescue, Ends, Failures, Try, Compare, Draw, Page, Check, Serve, Export, Many, Import, New}
 
 abbrev pub word_of : Subcommand → List ℕ
 word_of Report = codes "report"
@@ -14,8 +14,10 @@ word_of Failures = codes "failures"
 word_of Try = codes "try"
 word_of Compare = codes "compare"
 word_of Draw = codes "draw"
+word_of Page = codes "page"
 word_of Check = codes "check"
 word_of Serve = codes "serve"
 word_of Export = codes "export"
 word_of Many = codes "many"
 word_of Import = codes "import"
+word_of New = codes "new"

@@ -1,5 +1,5 @@
 -- What the words of the command line ask for. Where an option is left out it has no word.
-use Rattle.std.specs.Prelude.{ℕ, List, Option, None, Some, bytes_eq, codes, if◌then◌else◌}
+use Rattle.std.specs.Prelude.{ℕ, ◌-◌, ◌^◌, Bool, List, Option, None, Some, bytes_eq, codes, nat_lt, unwrap_or, if◌then◌else◌}
 use Rattle.std.specs.Option.{option_map}
 use Rattle.command_line.specs.declared.input.Input.{Input}
 use Rattle.command_line.specs.declared.input.Input.TheVariants.{Standard, File}
@@ -9,6 +9,7 @@ use Rattle.command_line.specs.declared.picture.PictureFormat.{PictureFormat}
 use Rattle.command_line.specs.declared.picture.PictureFormat.TheVariants.{Svg, TraceEvents}
 use Rattle.command_line.specs.declared.picture.Rows.{Rows}
 use Rattle.command_line.specs.declared.picture.Rows.TheVariants as rows
+use Rattle.command_line.specs.declared.picture.Ticks.{Ticks}
 use Rattle.command_line.specs.declared.sweep.Ending.{Ending}
 use Rattle.command_line.specs.declared.sweep.Ending.TheVariants.{Any, Value}
 use Rattle.command_line.specs.declared.traces.Unit.{Unit}
@@ -39,6 +40,10 @@ picture_format_of (Some word) = if bytes_eq word (codes "trace") then TraceEvent
 abbrev pub rows_of : Option (List ℕ) → Rows
 rows_of None = rows.All
 rows_of (Some word) = if bytes_eq word (codes "path") then rows.Path else rows.All
+
+-- the last one comes before the first
+abbrev pub has_no_tick : Ticks → Bool
+has_no_tick ticks = nat_lt (unwrap_or ticks.to (2 ^ 64 - 1)) (unwrap_or ticks.from 0)
 
 abbrev pub unit_of : Option (List ℕ) → Unit
 unit_of None = Microsecond

@@ -3,6 +3,7 @@ use crate::manner::FORMATS;
 use crate::picture::{PICTURE_FORMATS, ROWS_NAMES};
 use crate::traces::{READINGS, UNITS};
 use clap::{Arg, ArgAction, value_parser};
+use recording_forms::FORM_NAMES;
 use std::alloc::{AllocError, Global};
 
 /// The most ticks that a recording may say.
@@ -37,6 +38,8 @@ pub(crate) enum Takes {
     MaybeWord(&'static str, &'static [&'static str]),
     /// One of the words, the first where it is left out.
     OneOf(&'static str, Choice),
+    /// One of the words, the first where it is left out.
+    Chosen(Choice),
     /// A text that may be left out.
     MaybeOne,
     /// A text.
@@ -54,6 +57,8 @@ pub(crate) enum Choice {
     Picture,
     /// Which stages have a row in a picture.
     Rows,
+    /// Which recording to begin with is printed.
+    Form,
     /// The unit of an imported recording's ticks.
     Unit,
     /// Whether something of a trace is inferred, or taken as it is told.
@@ -88,6 +93,7 @@ pub(crate) fn arg_of<'a>(alloc: Global, argument: Argument) -> Result<Arg<'a>, A
                 .value_parser(words)
         }
         Takes::OneOf(value, choice) => one_of(arg.long(argument.name).value_name(value), choice),
+        Takes::Chosen(choice) => one_of(arg, choice),
         Takes::MaybeOne => arg,
         Takes::One => arg.required(true),
         Takes::UpTo(most) => arg.num_args(1..=most).required(true),
@@ -112,6 +118,7 @@ fn one_of<'a>(arg: Arg<'a>, choice: Choice) -> Arg<'a> {
         Choice::Format => arg.value_parser(&FORMATS[..]).default_value("text"),
         Choice::Picture => arg.value_parser(&PICTURE_FORMATS[..]).default_value("svg"),
         Choice::Rows => arg.value_parser(&ROWS_NAMES[..]).default_value("all"),
+        Choice::Form => arg.value_parser(&FORM_NAMES[..]).default_value("first"),
         Choice::Unit => arg.value_parser(&UNITS[..]).default_value("us"),
         Choice::Reading => arg.value_parser(&READINGS[..]).default_value("inferred"),
     }

@@ -6,6 +6,7 @@ use crate::scripts::Scripts;
 use crate::sweep::Sweep;
 use crate::traces::{Mapping, Wanted};
 use crate::trial::Trial;
+use recording_forms::Form;
 
 /// What the program is told to do. A recording by a path alone stands in a file, as standard input has the script or is not
 /// read. Where no `stage` is named, the one is meant that completes last of those on which no other waits.
@@ -68,6 +69,11 @@ pub enum Command<'a> {
         recording: Input<'a>,
         picture: Picture<'a>,
     },
+    /// To write a page that tells of a recording, and of a stage if one is named or completes last.
+    Page {
+        recording: Input<'a>,
+        stage: Option<&'a str>,
+    },
     /// To print every fault of a recording.
     Check {
         recording: Input<'a>,
@@ -91,6 +97,10 @@ pub enum Command<'a> {
         trace: Input<'a>,
         wanted: Wanted<'a>,
         mapping: Mapping,
+    },
+    /// To print a recording to begin with.
+    New {
+        form: Form,
     },
 }
 

@@ -38,6 +38,9 @@ pub(crate) const WORKERS: &str = "workers";
 /// The stage whose path is drawn.
 pub(crate) const PATH_OF: &str = "stage";
 
+/// The stage that a page is about.
+pub(crate) const STAGE_OF_PAGE: &str = "stage";
+
 /// The stage in which a failure arose.
 pub(crate) const ORIGIN: &str = "origin";
 
@@ -53,6 +56,15 @@ pub(crate) const DRAW: &str = "draw";
 /// Which stages have a row in a picture.
 pub(crate) const ROWS: &str = "what";
 
+/// The first tick that is drawn.
+pub(crate) const FROM: &str = "from";
+
+/// The last tick that is drawn.
+pub(crate) const TO: &str = "to";
+
+/// How many ticks a stage takes at least that is drawn.
+pub(crate) const LEAST: &str = "min";
+
 pub(crate) const LIST: &str = "list";
 
 pub(crate) const EACH: &str = "each";
@@ -64,3 +76,6 @@ pub(crate) const UNIT: &str = "unit";
 pub(crate) const CLOCKS: &str = "clocks";
 
 pub(crate) const CALLS: &str = "calls";
+
+/// Which recording to begin with is printed.
+pub(crate) const FORM: &str = "FORM";

@@ -2,7 +2,8 @@
 ghost use Rattle.std.specs.Prelude.{◌≡◌, codes, None, Some, false, true, option_map, IfOk};
 ghost use Rattle.clap.specs.Matches.{first_value, found_of, one_text};
 ghost use Rattle.command_line.specs.Percents.{percent_asked, percent_in};
-ghost use Rattle.command_line.specs.Words.{drawn_of, ending_of, format_of, path_of, picture_format_of, reading_of, rows_of, told_of, unit_of, wanted_path};
+ghost use Rattle.command_line.specs.Words.{drawn_of, ending_of, format_of, has_no_tick, path_of, picture_format_of, reading_of, rows_of, told_of, unit_of, wanted_path};
+ghost use Rattle.recording_forms.specs.Names.{name_of};
 ghost use Rattle.command_line.specs.declared.sweep.Part.TheVariants.{Both, Queue};
 ghost use Rattle.command_line.specs.declared.traces.Wanted.TheVariants.{List, Each};
 ghost use Rattle.command_line.specs.declared.trial.Asked.TheVariants.{Recording};
@@ -12,7 +13,7 @@ use crate::input::Input;
 use crate::manner::{Format, Manner};
 use crate::names;
 use crate::percent::percent_in;
-use crate::picture::{Picture, PictureFormat, Rows};
+use crate::picture::{Picture, PictureFormat, Rows, Ticks};
 use crate::scripts::Scripts;
 use crate::subcommand::Subcommand;
 use crate::subcommand_words::{command, described};
@@ -23,6 +24,7 @@ use crate::words::MOST_WORKERS;
 use clap::ArgMatches;
 use clap::error::ErrorKind;
 use level_pool::Workers;
+use recording_forms::Form;
 use std::alloc::{AllocError, Global};
 
 /// Why the words ask for nothing that the program can do.
@@ -71,7 +73,9 @@ pub fn parsed<'a>(alloc: Global, words: &'a [String]) -> Result<CommandLine<'a>,
 }
 
 /// What clap sees to: that a word is there, and is one that is taken.
-fn required<T: Drop>(word: Option<T>) -> Result<T, WordsFault> {
+fn required<T: Drop>(word: Option<T>) -> Result<T, WordsFault>
+    ensures { IfOk result (λ value. word ≡ Some value) }
+{
     word.ok_or(WordsFault::Missing)
 }
 
@@ -124,7 +128,11 @@ fn command_of<'a>(
         },
         Subcommand::Draw => Command::Draw {
             recording: input_of(matches),
-            picture: picture_of(matches),
+            picture: picture_of(matches, ticks_of(alloc, matches)?),
+        },
+        Subcommand::Page => Command::Page {
+            recording: input_of(matches),
+            stage: stage_of_page(matches),
         },
         Subcommand::Check => Command::Check {
             recording: input_of(matches),
@@ -144,6 +152,9 @@ fn command_of<'a>(
             trace: input_of(matches),
             wanted: wanted_of(matches),
             mapping: mapping_of(matches),
+        },
+        Subcommand::New => Command::New {
+            form: form_of(matches)?,
         },
     })
 }
@@ -272,16 +283,50 @@ fn asked_of<'a>(matches: &ArgMatches<'a>) -> Asked<'a>
     }
 }
 
-fn picture_of<'a>(matches: &ArgMatches<'a>) -> Picture<'a>
+/// The ticks that are drawn.
+fn ticks_of(alloc: Global, matches: &ArgMatches<'_>) -> Result<Ticks, WordsFault>
+    ensures { IfOk result (λ ticks. has_no_tick ticks ≡ false) }
+{
+    let ticks = Ticks {
+        from: matches.get_one::<u64>(names::FROM),
+        to: matches.get_one::<u64>(names::TO),
+    };
+    if ticks.is_empty() {
+        Err(no_ticks(alloc)?)
+    } else {
+        Ok(ticks)
+    }
+}
+
+/// That no ticks are drawn.
+fn no_ticks(alloc: Global) -> Result<WordsFault, AllocError> {
+    let mut draw = described(alloc, Subcommand::Draw)?.bin_name("whatif draw")?;
+    let error = draw.error(
+        ErrorKind::ValueValidation,
+        "the tick of '--to <T>' comes before that of '--from <T>'",
+    )?;
+    Ok(WordsFault::Told(error))
+}
+
+fn picture_of<'a>(matches: &ArgMatches<'a>, ticks: Ticks) -> Picture<'a>
     ensures format { result.format ≡ picture_format_of (first_value (found_of matches.now) (codes "format")) }
     ensures rows { result.rows ≡ rows_of (first_value (found_of matches.now) (codes "what")) }
+    ensures ticks { result.ticks ≡ ticks }
     ensures path { option_map (λ stage. stage.now) result.path_of ≡ first_value (found_of matches.now) (codes "stage") }
 {
     Picture {
         format: PictureFormat::of(matches.get_str(names::FORMAT)),
         rows: Rows::of(matches.get_str(names::ROWS)),
+        ticks,
+        least: matches.get_one::<u64>(names::LEAST).unwrap_or(0),
         path_of: matches.get_str(names::PATH_OF),
     }
+}
+
+fn stage_of_page<'a>(matches: &ArgMatches<'a>) -> Option<&'a str>
+    ensures { option_map (λ stage. stage.now) result ≡ first_value (found_of matches.now) (codes "stage") }
+{
+    matches.get_str(names::STAGE_OF_PAGE)
 }
 
 fn scripts_of<'a>(alloc: Global, matches: &ArgMatches<'a>) -> Result<Scripts<'a>, WordsFault> {
@@ -309,6 +354,14 @@ fn wanted_of<'a>(matches: &ArgMatches<'a>) -> Wanted<'a>
     } else {
         Wanted::One(matches.get_str(names::TRACE))
     }
+}
+
+/// Clap sees to it that the word is the name of a form.
+fn form_of(matches: &ArgMatches<'_>) -> Result<Form, WordsFault>
+    ensures { IfOk result (λ form. Some (name_of form) ≡ first_value (found_of matches.now) (codes "FORM")) }
+{
+    let word = required(matches.get_str(names::FORM))?;
+    required(Form::named(word))
 }
 
 fn mapping_of(matches: &ArgMatches<'_>) -> Mapping

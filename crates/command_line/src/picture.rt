@@ -1,6 +1,6 @@
 //! What is asked of a picture.
 ghost use Rattle.std.specs.Prelude.{◌≡◌, option_map};
-ghost use Rattle.command_line.specs.Words.{picture_format_of, rows_of};
+ghost use Rattle.command_line.specs.Words.{has_no_tick, picture_format_of, rows_of};
 
 /// What a picture is written as.
 #[derive(Clone, Copy, Debug, PartialEq, Eq)]
@@ -47,11 +47,30 @@ impl Rows {
     }
 }
 
+/// The ticks that are drawn: as far as one is named, from there or until then alone.
+#[derive(Clone, Copy, Debug, PartialEq, Eq)]
+pub struct Ticks {
+    pub from: Option<u64>,
+    pub to: Option<u64>,
+}
+
+impl Ticks {
+    /// Whether there are none, as the last one comes before the first.
+    pub(crate) fn is_empty(self) -> bool
+        ensures { result ≡ has_no_tick self }
+    {
+        self.to.unwrap_or(u64::MAX) < self.from.unwrap_or(0)
+    }
+}
+
 /// What is asked of a picture.
 #[derive(Clone, Copy, Debug, PartialEq, Eq)]
 pub struct Picture<'a> {
     pub format: PictureFormat,
     pub rows: Rows,
+    pub ticks: Ticks,
+    /// How many ticks a stage takes at least that has a row and is not on the path.
+    pub least: u64,
     /// The stage whose path is drawn over the rows.
     pub path_of: Option<&'a str>,
 }

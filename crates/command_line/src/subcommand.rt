@@ -15,14 +15,16 @@ pub(crate) enum Subcommand {
     Try,
     Compare,
     Draw,
+    Page,
     Check,
     Serve,
     Export,
     Many,
     Import,
+    New,
 }
 
-pub(crate) static SUBCOMMANDS: [Subcommand; 15] = [
+pub(crate) static SUBCOMMANDS: [Subcommand; 17] = [
     Subcommand::Report,
     Subcommand::Explain,
     Subcommand::Sweep,
@@ -33,11 +35,13 @@ pub(crate) static SUBCOMMANDS: [Subcommand; 15] = [
     Subcommand::Try,
     Subcommand::Compare,
     Subcommand::Draw,
+    Subcommand::Page,
     Subcommand::Check,
     Subcommand::Serve,
     Subcommand::Export,
     Subcommand::Many,
     Subcommand::Import,
+    Subcommand::New,
 ];
 
 impl Subcommand {
@@ -56,11 +60,13 @@ impl Subcommand {
             Subcommand::Try => "try",
             Subcommand::Compare => "compare",
             Subcommand::Draw => "draw",
+            Subcommand::Page => "page",
             Subcommand::Check => "check",
             Subcommand::Serve => "serve",
             Subcommand::Export => "export",
             Subcommand::Many => "many",
             Subcommand::Import => "import",
+            Subcommand::New => "new",
         }
     }
 

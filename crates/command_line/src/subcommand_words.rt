@@ -2,16 +2,17 @@
 use crate::argument::{Argument, arg_of};
 use crate::subcommand::{SUBCOMMANDS, Subcommand};
 use crate::words::{
-    AS, BAD, BY, BY_PERCENT, CALLS, CHANGES, CLOCKS, DRAW, DRAWN_STAGE, EACH, FORMAT, GOOD, LIST,
-    LIST_FORMAT, ORIGIN, PICTURE, QUEUED, QUIET, QUIET_IMPORT, RECORDING, RECORDING_OR_DASH,
-    RECORDING_OR_INPUT, ROWS, SAVE, SCRIPT, SCRIPTS, STAGE, STAGE_OF_BOTH, STAGE_OF_TRIAL, STRICT,
-    STRICT_SCRIPTS, STRICT_STEPS, TOP, TOP_CHANGES, TRACE, TRACE_ID, UNIT, WANT, WITHIN, WORKERS,
+    AS, BAD, BY, BY_PERCENT, CALLS, CHANGES, CLOCKS, DRAW, DRAWN_STAGE, EACH, FORM, FORMAT, FROM,
+    GOOD, LEAST, LIST, LIST_FORMAT, ORIGIN, PICTURE, QUEUED, QUIET, QUIET_IMPORT, RECORDING,
+    RECORDING_OR_DASH, RECORDING_OR_INPUT, ROWS, SAVE, SCRIPT, SCRIPTS, STAGE, STAGE_OF_BOTH,
+    STAGE_OF_PAGE, STAGE_OF_TRIAL, STRICT, STRICT_SCRIPTS, STRICT_STEPS, TO, TOP, TOP_CHANGES,
+    TRACE, TRACE_ID, UNIT, WANT, WITHIN, WORKERS,
 };
 use clap::Command;
 use std::alloc::{AllocError, Global};
 
 /// The version of the program.
-const VERSION: &str = "1.0.0";
+pub const VERSION: &str = "1.0.0";
 
 /// The words that the program takes.
 pub(crate) fn command<'a>(alloc: Global) -> Result<Command<'a>, AllocError> {
@@ -44,11 +45,13 @@ pub(crate) fn described<'a>(
         Subcommand::Try => try_changes(alloc),
         Subcommand::Compare => compare(alloc),
         Subcommand::Draw => draw(alloc),
+        Subcommand::Page => page(alloc),
         Subcommand::Check => check(alloc),
         Subcommand::Serve => serve(alloc),
         Subcommand::Export => export(alloc),
         Subcommand::Many => many(alloc),
         Subcommand::Import => import(alloc),
+        Subcommand::New => new(alloc),
     }
 }
 
@@ -175,15 +178,28 @@ fn draw<'a>(alloc: Global) -> Result<Command<'a>, AllocError> {
         alloc,
         Subcommand::Draw,
         "Writes a picture of a recording: when each stage waited, was queued, ran and completed",
-        "Examples:\n  whatif draw examples/late-reply.json --stage reply > reply.svg\n  whatif draw --format trace examples/late-reply.json > late-reply.trace.json\n\nWhat is drawn: docs/FORMATS.md, Pictures.",
+        "Examples:\n  whatif draw examples/late-reply.json --stage reply > reply.svg\n  whatif draw examples/late-reply.json --from 100 --to 150 --min 10 > end.svg\n  whatif draw --format trace examples/late-reply.json > late-reply.trace.json\n\nWhat is drawn: docs/FORMATS.md, Pictures.",
         &[
             DRAWN_STAGE,
             ROWS,
+            FROM,
+            TO,
+            LEAST,
             PICTURE,
             QUIET,
             STRICT,
             RECORDING_OR_INPUT,
         ],
+    )
+}
+
+fn page<'a>(alloc: Global) -> Result<Command<'a>, AllocError> {
+    told(
+        alloc,
+        Subcommand::Page,
+        "Writes a page that tells of a recording: one HTML file that stands alone, for the ticket of an incident",
+        "Examples:\n  whatif page examples/late-reply.json --stage reply > late-reply.html\n  whatif page - < examples/late-reply.json > late-reply.html\n\nWhat the page has: docs/PAGE.md.",
+        &[STAGE_OF_PAGE, QUIET, STRICT, RECORDING_OR_DASH],
     )
 }
 
@@ -262,4 +278,14 @@ fn told<'a>(
         command = command.arg(arg_of(alloc, *it)?)?;
     }
     Ok(command)
+}
+
+fn new<'a>(alloc: Global) -> Result<Command<'a>, AllocError> {
+    told(
+        alloc,
+        Subcommand::New,
+        "Prints a recording to begin with: one that says what each of its stages is, or the form of a retry, a timeout, a race",
+        "Examples:\n  whatif new > run.json\n  whatif new retry > retry.json\n  whatif new timer | whatif explain -\n\nWhat each is a form of, with its code: docs/MODELLING.md.",
+        &[FORM],
+    )
 }

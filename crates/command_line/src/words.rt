@@ -139,6 +139,30 @@ pub(crate) const DRAWN_STAGE: Argument = Argument {
     takes: Takes::TextIf("STAGE", names::ROWS, "path"),
 };
 
+pub(crate) const STAGE_OF_PAGE: Argument = Argument {
+    name: names::STAGE_OF_PAGE,
+    help: "the stage that the page is about; where it is left out, the one that completes last of those on which no other waits, if one does",
+    takes: Takes::Text("STAGE"),
+};
+
+pub(crate) const FROM: Argument = Argument {
+    name: names::FROM,
+    help: "draw the ticks from T on alone, from 0 to 2^40, and the stages that completed then or later",
+    takes: Takes::Ticks("T"),
+};
+
+pub(crate) const TO: Argument = Argument {
+    name: names::TO,
+    help: "draw the ticks up to T alone, from 0 to 2^40, and the stages that were created by then",
+    takes: Takes::Ticks("T"),
+};
+
+pub(crate) const LEAST: Argument = Argument {
+    name: names::LEAST,
+    help: "leave out the stages that took less than T ticks from their trigger to their completion, from 0 to 2^40, but none of the path of --stage",
+    takes: Takes::Ticks("T"),
+};
+
 pub(crate) const ORIGIN: Argument = Argument {
     name: names::ORIGIN,
     help: "print the failure that arose in this stage alone",
@@ -215,6 +239,12 @@ pub(crate) const TRACE: Argument = Argument {
     name: names::FILE,
     help: "the trace, in OTLP/JSON, Jaeger JSON or Zipkin's; standard input where it is left out, or -",
     takes: Takes::MaybeOne,
+};
+
+pub(crate) const FORM: Argument = Argument {
+    name: names::FORM,
+    help: "first: ten stages, each of which says what it is; or a form of code that docs/MODELLING.md writes down",
+    takes: Takes::Chosen(Choice::Form),
 };
 
 pub(crate) const STAGE: Argument = Argument {

@@ -1,13 +1,14 @@
 //! What made a stage late in one run that was not late in another.
-use crate::fault::compared;
+use crate::fault::{compared, told};
 use crate::format::format_of;
 use crate::naming::with_name_explained;
-use crate::place::last_place;
+use crate::place::{last_place, place_named};
 use command_line::{Input, Manner};
 use console::{Fault, Voice, flushed, warn, why_read_twice, with_reason};
-use recording_reports::{PairFault, Which, compare_recordings};
+use recording_reports::{PairFault, Which, compare_recordings, tell_pair};
 use report_form::Form;
 use std::cell::Cell;
+use std::mem::forget;
 use version_store::{StateRepresentation, Version};
 
 /// A recording, and by which voice people are told of it.
@@ -46,19 +47,50 @@ pub fn run_compare<'a, K: StateRepresentation>(
     let form = format_of(manner).form(None);
     match stage {
         Some(name) => compare_named::<K>(rt, good, bad, name, form),
-        None => {
-            let name = last_name::<K>(rt, bad)?;
-            compare_named::<K>(rt, good, bad, name.as_str(), form)
-        }
+        None => compare_last::<K>(rt, good, bad, form),
     }
 }
 
-/// The name of the stage that completes last.
-fn last_name<K: StateRepresentation>(rt: &HostRuntime, run: Run<'_>) -> Result<String, Fault> {
+/// The version that a recording opens with.
+fn opened<K: StateRepresentation>(rt: &HostRuntime, run: Run<'_>) -> Result<Version<K>, Fault> {
     let graph = console::graph::<K>(rt.alloc(), run.voice, run.recording)?;
-    let version = Version::load(rt.alloc(), graph)?;
-    let place = last_place(rt, run.voice, &version, "STAGE")?;
-    Ok(String::from_str(rt.alloc(), version.graph().name_of(place))?)
+    Ok(Version::load(rt.alloc(), graph)?)
+}
+
+/// Prints the same of the stage that completes last in the bad run, which is read before the good one.
+fn compare_last<K: StateRepresentation>(
+    rt: &HostRuntime,
+    good: Run<'_>,
+    bad: Run<'_>,
+    form: Form,
+) -> Result<(), Fault> {
+    let bad_version = opened::<K>(rt, bad)?;
+    let at_bad = last_place(rt, bad.voice, &bad_version, "STAGE")?;
+    let good_version = opened::<K>(rt, good)?;
+    let name = bad_version.graph().name_of(at_bad);
+    let at_good = place_named(rt, good.voice, good.recording, &good_version, name)?;
+    // (a stage stands at both)
+    let Some(_) = bad_version.stage(at_bad) else {
+        return Err(Fault::NoStage(None));
+    };
+    let Some(_) = good_version.stage(at_good) else {
+        return Err(Fault::NoStage(None));
+    };
+    let reason = Cell::new(None);
+    let mut sink = console::output(rt, &reason)?;
+    let end = tell_pair(
+        rt.alloc(),
+        &good_version,
+        at_good,
+        &bad_version,
+        at_bad,
+        form,
+        &mut sink,
+    );
+    // The program ends with its report.
+    forget(good_version);
+    forget(bad_version);
+    with_reason(good.voice, &reason, flushed(&mut sink, told(end)))
 }
 
 /// Prints the same of the stage of a name.

@@ -4,11 +4,12 @@ use recording_reports::{PairFault, RecordingFault};
 use recording_text::TextFault;
 use report_rows::ReportFault;
 use serve_script::ServeFault;
+use text_io::Stopped;
 
-/// The end of a report.
-pub(crate) fn reported(end: Result<(), RecordingFault>) -> Result<(), Fault> {
+/// The end of a report, or of a picture.
+pub(crate) fn reported<T: Drop>(end: Result<T, RecordingFault>) -> Result<T, Fault> {
     match end {
-        Ok(()) => Ok(()),
+        Ok(answer) => Ok(answer),
         Err(RecordingFault::Refused(fault)) => Err(Fault::Refused(fault, None)),
         Err(RecordingFault::NoStage) => Err(Fault::NoStage(None)),
         Err(RecordingFault::Write) => Err(Fault::Write(None)),
@@ -34,6 +35,15 @@ pub(crate) fn told(end: Result<(), ReportFault>) -> Result<(), Fault> {
         Err(ReportFault::NoStage) => Err(Fault::NoStage(None)),
         Err(ReportFault::Write) => Err(Fault::Write(None)),
         Err(ReportFault::Memory) => Err(Fault::Memory),
+    }
+}
+
+/// The end of a page.
+pub(crate) fn paged(end: Result<(), Stopped>) -> Result<(), Fault> {
+    match end {
+        Ok(()) => Ok(()),
+        Err(Stopped::Write) => Err(Fault::Write(None)),
+        Err(Stopped::Memory) => Err(Fault::Memory),
     }
 }
 

@@ -1,5 +1,6 @@
 //! Recordings made from traces.
 use crate::format::format_of;
+use crate::printing::print_text;
 use command_line::{Input, Manner, Reading, Wanted};
 use console::{Fault, Voice, flushed, imported, imported_each, listed, output, trace, with_reason};
 use report_form::Format;
@@ -7,7 +8,6 @@ use std::alloc::{AllocError, Global};
 use std::cell::Cell;
 use std::fmt::Write;
 use std::process::ExitCode;
-use text_io::Sink;
 use trace_import::{AsTold, Mapping, Options, Unit, import, import_each};
 use trace_spans::{Summary, list_traces, row_json};
 
@@ -100,13 +100,7 @@ fn run_list(
     let alloc = rt.alloc();
     let rows = listed(alloc, voice, bytes, mapping, list_traces(alloc, bytes))?;
     let text = rows_text(alloc, format, &rows)?;
-    let reason = Cell::new(None);
-    let mut sink = output(rt, &reason)?;
-    let end = match sink.write(text.as_bytes()) {
-        Ok(()) => Ok(()),
-        Err(_) => Err(Fault::Write(None)),
-    };
-    with_reason(voice, &reason, flushed(&mut sink, end))?;
+    print_text(rt, voice, text.as_str())?;
     Ok(ExitCode::SUCCESS)
 }
 

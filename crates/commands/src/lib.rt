@@ -1,11 +1,12 @@
-//! What `report`, `explain`, `sweep`, `slack`, `rescue`, `ends`, `failures`, `try`, `compare`, `draw`, `serve`, `export` and `import` do: from what
-//! their words ask for to what is printed.
+//! What `report`, `explain`, `sweep`, `slack`, `rescue`, `ends`, `failures`, `try`, `compare`, `draw`, `page`, `serve`, `export`, `import` and `new` do: from
+//! what their words ask for to what is printed.
 //!
-//! It stands on the crates that answer (`recording_reports`, `tried_changes`, `recording_pictures`, `serve_script`, `recording_text`,
-//! `trace_spans`, `trace_import`) and on `console`, by which people are told of mistakes. A command's own steps belong here; what it
+//! It stands on the crates that answer (`recording_reports`, `tried_changes`, `recording_pictures`, `incident_page`, `serve_script`, `recording_text`,
+//! `trace_spans`, `trace_import`, `recording_forms`) and on `console`, by which people are told of mistakes. A command's own steps belong here; what it
 //! answers belongs to the crate that it calls.
 #![tactic(auto)]
 
+mod beginning;
 mod comparing;
 mod draw;
 mod drawing_trial;
@@ -14,7 +15,9 @@ mod fault;
 mod format;
 mod importing;
 mod naming;
+mod paging;
 mod place;
+mod printing;
 mod refusing;
 mod report;
 mod rescuing;
@@ -22,11 +25,13 @@ mod serve;
 mod sweeping;
 mod trying;
 
+pub use beginning::run_new;
 pub use comparing::run_compare;
 pub use draw::run_draw;
 pub use export::run_export;
 pub use format::format_of;
 pub use importing::run_import;
+pub use paging::run_page;
 pub use refusing::refuse;
 pub use report::{run_report, run_report_stage};
 pub use rescuing::{RescueWords, run_rescue};

@@ -1,4 +1,5 @@
 //! What would come of changes of a recording.
+use crate::draw::file_of;
 use crate::drawing_trial::draw_changed;
 use crate::export::write_version;
 use crate::fault::told;
@@ -8,10 +9,12 @@ use change_words::MakingFault;
 use command_line::{Asked, Input, Manner, Trial};
 use console::{Fault, Voice, changes_of, flushed, output, warn, why_not_made, with_reason};
 use level_pool::Runner;
+use recording_pictures::unit_of;
 use report_form::Form;
 use std::cell::Cell;
 use std::mem::forget;
 use tried_changes::{tell_trial, tried};
+use version_rows::Source;
 use version_store::{StateRepresentation, Version};
 
 /// Prints what would come of changes of a recording, or writes the recording that they make, or a picture of it.
@@ -42,7 +45,12 @@ pub fn run_try<'a, K: StateRepresentation, W: Runner>(
         Asked::Recording => write_version(rt, voice, &version),
         Asked::Picture(stage) => {
             let target = target_of(rt, voice, &recording, &before, stage)?;
-            draw_changed(rt, voice, &version, changes.as_slice(), target)
+            let unit = unit_of(rt.alloc(), &recording)?;
+            let source = Source {
+                file: file_of(input),
+                unit: unit.as_str(),
+            };
+            draw_changed(rt, voice, &version, source, changes.as_slice(), target)
         }
         Asked::Reports(stage) => {
             let place = place_of(rt, voice, &recording, &before, stage, "--stage")?;

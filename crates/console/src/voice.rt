@@ -47,39 +47,24 @@ impl<'a> Voice<'a> {
     /// The same, where lines of the script of this name are told of.
     pub fn of_script(self, script: &'a str) -> Voice<'a> {
         Voice {
-            rt: self.rt,
-            file: self.file,
             script: Some(script),
-            trace: self.trace,
-            is_of_several: self.is_of_several,
-            is_quiet: self.is_quiet,
-            is_strict: self.is_strict,
+            ..self
         }
     }
 
     /// The same, where the trace of this id is told of.
     pub fn of_trace(self, trace: &'a str) -> Voice<'a> {
         Voice {
-            rt: self.rt,
-            file: self.file,
-            script: self.script,
             trace: Some(trace),
-            is_of_several: self.is_of_several,
-            is_quiet: self.is_quiet,
-            is_strict: self.is_strict,
+            ..self
         }
     }
 
     /// The same, where other files are told of beside it.
     pub fn of_several(self) -> Voice<'a> {
         Voice {
-            rt: self.rt,
-            file: self.file,
-            script: self.script,
-            trace: self.trace,
             is_of_several: true,
-            is_quiet: self.is_quiet,
-            is_strict: self.is_strict,
+            ..self
         }
     }
 

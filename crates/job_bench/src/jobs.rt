@@ -12,6 +12,7 @@ use crate::scripts::{Steps, great_edits, small_edits};
 use crate::traces::{Form as TraceForm, trace};
 use act_expr::Value;
 use anyhow::{Result, bail};
+use incident_page::{Frame, Heading, write_page};
 use level_pool::Runner;
 use recording::read_recording;
 use report_form::{
@@ -44,6 +45,8 @@ pub(crate) enum Job {
     Rescue,
     /// In which stages two runs differ.
     Compare,
+    /// A page that tells of a recording and of its last stage.
+    Page,
     /// Traces are imported.
     Import,
     /// Scripts of small edits alone.
@@ -68,6 +71,7 @@ impl Job {
             "slack" => Some(Job::Slack),
             "rescue" => Some(Job::Rescue),
             "compare" => Some(Job::Compare),
+            "page" => Some(Job::Page),
             "import" => Some(Job::Import),
             "small" => Some(Job::Small),
             "hubs" => Some(Job::Hubs),
@@ -291,6 +295,39 @@ fn compared<R: StateRepresentation>(
     Ok(())
 }
 
+/// Takes in the data of the page of a recording, about its last stage.
+fn paged<R: StateRepresentation, W: Runner>(
+    alloc: Global,
+    runner: &W,
+    plan: &Plan,
+    digest: &mut Digest,
+) -> Result<()> {
+    let text = recording(alloc, plan)?;
+    let version = loaded::<R>(alloc, text.as_str())?;
+    let target = last_of(alloc, plan, &version)?;
+    if version.stage(target).is_none() {
+        bail!("no last stage");
+    }
+    let frame = Frame { head: "", tail: "" };
+    let heading = Heading {
+        program: "",
+        file: "-",
+        recording: text.as_bytes(),
+    };
+    let mut sink = unwritten(alloc);
+    write_page(
+        alloc,
+        frame,
+        heading,
+        &version,
+        Some(target),
+        runner,
+        &mut sink,
+    )?;
+    taken(digest, sink);
+    Ok(())
+}
+
 /// Takes in what is imported from a trace.
 fn imported(
     alloc: Global,
@@ -461,6 +498,20 @@ fn run_compare<R: StateRepresentation>(
     Ok(())
 }
 
+/// Runs the job `page`.
+fn run_page<R: StateRepresentation, W: Runner>(
+    alloc: Global,
+    runner: &W,
+    scale: Scale,
+    seed: u32,
+    digest: &mut Digest,
+) -> Result<()> {
+    for shape in [Shape::Layers, Shape::Mixed] {
+        paged::<R, W>(alloc, runner, &plan(shape, scale.of(2_048), seed), digest)?;
+    }
+    Ok(())
+}
+
 /// Runs the job `import`.
 fn run_import(alloc: Global, scale: Scale, seed: u32, digest: &mut Digest) -> Result<()> {
     imported(alloc, TraceForm::Otlp, scale.of(22_000), seed, digest)?;
@@ -572,6 +623,7 @@ pub(crate) fn run<R: StateRepresentation, W: Runner>(
         Job::Slack => run_slack::<R, W>(alloc, runner, scale, seed, &mut digest)?,
         Job::Rescue => run_rescue::<R, W>(alloc, runner, scale, seed, &mut digest)?,
         Job::Compare => run_compare::<R>(alloc, scale, seed, &mut digest)?,
+        Job::Page => run_page::<R, W>(alloc, runner, scale, seed, &mut digest)?,
         Job::Import => run_import(alloc, scale, seed, &mut digest)?,
         Job::Small => run_small::<R, W>(alloc, runner, scale, seed, &mut digest)?,
         Job::Hubs => run_hubs::<R, W>(alloc, runner, scale, seed, &mut digest)?,

@@ -1,6 +1,6 @@
 //! The jobs that a user waits for, on inputs that it makes of a seed, to be timed.
 //!
-//! `job_bench JOB SEED` runs one of the jobs `report`, `ends`, `serve`, `spread`, `sweep`, `slack`, `rescue`, `compare`, `import`,
+//! `job_bench JOB SEED` runs one of the jobs `report`, `ends`, `serve`, `spread`, `sweep`, `slack`, `rescue`, `compare`, `page`, `import`,
 //! `small`, `hubs`, `windows` and `joins`, and prints a digest of all that it wrote. Without words it runs each once on small inputs, which is what the gate runs.
 #![tactic(auto)]
 
@@ -23,9 +23,9 @@ use std::env;
 use std::thread::Threads;
 
 /// The jobs, by name.
-const JOBS: [&str; 13] = [
-    "report", "ends", "serve", "spread", "sweep", "slack", "rescue", "compare", "import", "small",
-    "hubs", "windows", "joins",
+const JOBS: [&str; 14] = [
+    "report", "ends", "serve", "spread", "sweep", "slack", "rescue", "compare", "page", "import",
+    "small", "hubs", "windows", "joins",
 ];
 
 /// The line of a job: its name, and the digest and the number of the bytes that it wrote.

@@ -1,6 +1,5 @@
 -- A picture, put together from what each call says.
-use Rattle.std.proofs.Common.{◌≡◌, ℕ, List, Option, Some, None, Result, Ok, Err, String, IfOk, IfSome, string_bytes, sym, subst}
-use Rattle.std.specs.declared.alloc.Global.{Global}
+use Rattle.std.proofs.Common.{◌≡◌, ℕ, List, Option, Some, None, Ok, IfSome, refl, sym, subst}
 use Rattle.std.specs.Option.{option_map}
 use Rattle.stage_graph.specs.declared.stage.Stage.{Stage}
 use Rattle.stage_graph.specs.Plain.{PlainGraph, IsLive, place_named, stage_at}
@@ -9,16 +8,19 @@ use Rattle.recording.specs.Reads.{IsNamed}
 use Rattle.recording.specs.RecordingOf.{named}
 use Rattle.version_store.specs.Plain.{PlainVersion, opening_version}
 use Rattle.version_rows.specs.Drawings.{IsDrawing}
-use Rattle.version_rows.specs.declared.candidate.Scope.{Scope}
 use Rattle.version_rows.specs.declared.drawing.Drawing.{Drawing}
+use Rattle.version_rows.specs.declared.left_out.LeftOut.{LeftOut}
+use Rattle.version_rows.specs.declared.room.Room.{Room}
+use Rattle.version_rows.specs.declared.selection.Selection.{Selection}
 use Rattle.recording_pictures.specs.declared.asked.Form.{Form}
-use Rattle.recording_pictures.specs.Pictures.{IsPictureOf, IsShown, IsShownOf, target_of}
+use Rattle.recording_pictures.specs.Labels.{unit_label}
+use Rattle.recording_pictures.specs.Pictures.{IsPictureOf, IsShown, IsShownOf, room_of, target_of}
 
 -- a text that shows what is drawn of a version shows the version
-pub shown_of : {E : Type 0} (version : PlainVersion) (form : Form) (scope : Scope) (target : Option ℕ) (drawing : Drawing) (result : Result (String Global) E)
-    → IsDrawing version scope target drawing → IfOk result (λ text. IsShown form drawing (string_bytes text)) → IfOk result (λ text. IsShownOf version form scope target (string_bytes text))
-shown_of version form scope target drawing (Ok text) drawn shown = (drawing, drawn, shown)
-shown_of version form scope target drawing (Err fault) drawn shown = tt
+pub shown_of : (version : PlainVersion) (file : Option (List ℕ)) (unit : List ℕ) (form : Form) (selection : Selection) (target : Option ℕ) (drawing : Drawing) (room : Room) (text : List ℕ)
+    → room ≡ room_of form → IsDrawing version file unit room selection target drawing → IsShown form selection.window drawing text → IsShownOf version file unit form selection target text drawing.left_out
+shown_of version file unit form selection target drawing room text is drawn shown =
+    (drawing, subst (λ (room : Room). IsDrawing version file unit room selection target drawing) is drawn, shown, refl)
 
 emptied : (target : Option ℕ) → Some None ≡ Some target → target ≡ None
 emptied target is = cc
@@ -37,13 +39,14 @@ live_target graph None target is = subst (λ (there : Option ℕ). IfSome there 
 live_target graph (Some name) target is = live_place graph.places name target (placed (place_named graph.places name) target is)
 
 -- what shows the version that a recording opens as is the recording's picture
-pub pictured : (recording : List ℕ) (form : Form) (scope : Scope) (name : Option (List ℕ)) (text : List ℕ) (graph : PlainGraph) (version : PlainVersion) (target : Option ℕ)
-    → IsNamed (Ok graph) (named recording) → version ≡ opening_version graph → target_of version.graph name ≡ Some target → IsShownOf version form scope target text
-    → IsPictureOf recording form scope name text
-pictured recording form scope name text graph version target is loaded finds shows = record {
+pub pictured : (recording : List ℕ) (file : Option (List ℕ)) (unit : List ℕ) (form : Form) (selection : Selection) (name : Option (List ℕ)) (text : List ℕ) (left_out : LeftOut) (graph : PlainGraph) (version : PlainVersion) (target : Option ℕ)
+    → IsNamed (Ok graph) (named recording) → version ≡ opening_version graph → target_of version.graph name ≡ Some target → unit ≡ unit_label recording → IsShownOf version file unit form selection target text left_out
+    → IsPictureOf recording file form selection name text left_out
+pictured recording file unit form selection name text left_out graph version target is loaded finds told shows = record {
   graph = graph;
   read = is;
   target = target;
   found = subst (λ (version : PlainVersion). target_of version.graph name ≡ Some target) loaded finds;
-  shown = subst (λ (version : PlainVersion). IsShownOf version form scope target text) loaded shows;
+  shown = subst (λ (told : List ℕ). IsShownOf (opening_version graph) file told form selection target text left_out) told
+      (subst (λ (version : PlainVersion). IsShownOf version file unit form selection target text left_out) loaded shows);
 }

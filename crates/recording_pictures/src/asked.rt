@@ -2,7 +2,7 @@
 ghost use Rattle.std.specs.Prelude.{◌≡◌};
 ghost use Rattle.recording_pictures.specs.Words.{form_named, scope_named};
 
-use version_rows::Scope;
+use version_rows::{Scope, Selection};
 
 /// What the picture is written as.
 #[derive(Clone, Copy, Debug, PartialEq, Eq)]
@@ -40,9 +40,11 @@ pub fn scope_named(word: &str) -> Option<Scope>
 /// What is asked for.
 #[derive(Clone, Copy)]
 pub struct Asked<'a> {
+    /// The file that the recording is in, where one is named.
+    pub file: Option<&'a str>,
     pub form: Form,
-    /// Which stages may have a row.
-    pub scope: Scope,
+    /// Which stages have a row, where there is room, and the ticks that an SVG file shows.
+    pub selection: Selection,
     /// The name of the stage whose path is drawn over the rows.
     pub stage: Option<&'a str>,
 }

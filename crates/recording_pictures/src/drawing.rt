@@ -1,30 +1,30 @@
 //! The picture of a recording.
 ghost use Rattle.std.specs.Prelude.{◌≡◌, ◌+◌, ◌-◌, ◌^◌, ◌<◌, option_copied};
-ghost use Rattle.recording_reports.specs.Reported.{failed_writes};
-ghost use Rattle.recording_pictures.specs.Pictures.{IsDrawn};
+ghost use Rattle.recording_pictures.specs.Pictures.{IsDrawn, failed_writes};
 
 use crate::asked::Asked;
 use crate::text::recording_text;
 use recording_reports::RecordingFault;
 use std::alloc::Global;
 use text_io::Sink;
+use version_rows::LeftOut;
 use version_store::StateRepresentation;
 
-/// Writes the picture of version 0 of a recording: a row for each stage that is asked for, 2,000 at most, and over them the
-/// path of the stage, where one is named. The version is left to the system, as by `report_all` of `recording_reports`.
+/// Writes the picture of version 0 of a recording: a row for each stage that is asked for, of an SVG file 200 at most and of
+/// trace events 2,000, and over them the path of the stage, where one is named. What is left out is answered. The version is left to the system, as by `report_all` of `recording_reports`.
 pub fn draw_recording<R: StateRepresentation, S: Sink>(
     alloc: Global,
     recording: &[u8],
     asked: Asked<'_>,
     sink: &mut S,
-) -> Result<(), RecordingFault>
+) -> Result<LeftOut, RecordingFault>
     requires { S.failures sink.old < 2 ^ 64 - 1 }
-    ensures written { IsDrawn recording.now asked.entry.form asked.entry.scope (option_copied asked.entry.stage) (S.held sink.old) (S.held sink.new) result }
+    ensures written { IsDrawn recording.now (option_copied asked.entry.file) asked.entry.form asked.entry.selection (option_copied asked.entry.stage) (S.held sink.old) (S.held sink.new) result }
     ensures failures { S.failures sink.new ≡ S.failures sink.old + failed_writes result }
 {
-    let text = recording_text::<R>(alloc, recording, asked)?;
-    match sink.write(text.as_bytes()) {
-        Ok(()) => Ok(()),
+    let written = recording_text::<R>(alloc, recording, asked)?;
+    match sink.write(written.text.as_bytes()) {
+        Ok(()) => Ok(written.left_out),
         Err(_) => Err(RecordingFault::Write),
     }
 }

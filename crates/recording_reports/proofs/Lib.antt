@@ -1,3 +1,2 @@
-pub mod InThree
 pub mod Pairing
 pub mod Reporting

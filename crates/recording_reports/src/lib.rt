@@ -9,6 +9,6 @@ mod stage;
 
 pub use all::{WholeReport, report_all};
 pub use fault::RecordingFault;
-pub use pair::compare_recordings;
+pub use pair::{compare_recordings, tell_pair};
 pub use pair_fault::{PairFault, Which};
 pub use stage::{StageReport, report_stage, tell_stage};

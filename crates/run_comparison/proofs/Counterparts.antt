@@ -14,7 +14,8 @@ placed (Some other) at is = cc
 pub live_where_found : (places : List (Option Stage)) (name : List ℕ) (place : ℕ) → Ok place ≡ found (place_named places name) → IsLive places place
 live_where_found places name place is = live_from_name name (stage_at places place) (named_at places name place (placed (place_named places name) place is)).1
 
-none_is_not_live : (here : Option Stage) → None ≡ here → is_some here ≡ true → ⊥
+-- where nothing stands no stage is live
+pub none_is_not_live : (here : Option Stage) → None ≡ here → is_some here ≡ true → ⊥
 none_is_not_live None none live = cc
 none_is_not_live (Some stage) none live = cc
 

@@ -7,7 +7,7 @@ use Rattle.stage_graph.specs.Plain.{PlainGraph, place_named, stage_at}
 use Rattle.stage_graph.proofs.Placing.{named_at}
 use Rattle.run_comparison.specs.declared.difference.Difference.{Difference}
 use Rattle.run_comparison.specs.Differences.{bad_at, bad_in, bad_told, both_told, is_on, of_both, of_good}
-use Rattle.run_comparison.specs.Flags.{AreFlags, is_flagged}
+use Rattle.place_flags.specs.Flags.{AreFlags, is_flagged}
 
 same_over : (told other : ℕ → Option Difference) (start count : ℕ) → ((place : ℕ) → place < start + count → told place ≡ other place)
     → filter_map told (range_with_len start count) ≡ filter_map other (range_with_len start count)

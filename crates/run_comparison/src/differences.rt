@@ -6,13 +6,14 @@ ghost use Rattle.std.specs.Ordering.{nat_cmp};
 ghost use Rattle.propagate.specs.Completions.{same_outcome};
 ghost use Rattle.stage_graph.specs.Plain.{place_named, stage_at};
 ghost use Rattle.run_comparison.specs.Differences.{StandsByShare, bad_in, bad_told, both_told, difference, differences, differs, good_at, good_told, is_told, of_bad, of_both, of_good, order_in, same_end};
-ghost use Rattle.run_comparison.specs.Flags.{is_flagged};
+ghost use Rattle.place_flags.specs.Flags.{is_flagged};
 ghost use Rattle.run_comparison.specs.declared.difference.Stands.TheVariants.{Both};
 
 use crate::difference::{Difference, Stands};
-use crate::path_flags::{is_flagged, path_flags};
+use crate::path_flags::path_flags;
 use crate::share::{Share, order_of, same_share};
 use act_expr::Outcome;
+use place_flags::is_flagged;
 use propagate::StateRepresentation;
 use stage_ops::Done;
 use std::alloc::{AllocError, Global};

@@ -1,6 +1,10 @@
 pub mod ByKey
 pub mod Crossing
 pub mod Finding
+pub mod Further
+pub mod HandingOn
+pub mod Resting
+pub mod Reaching
 pub mod Settling
 pub mod Exchanging
 pub mod Hurrying

@@ -11,10 +11,8 @@ use Rattle.stage_ops.specs.States.{seen_at, seen_of}
 use Rattle.stage_ops.specs.Evaluation.{at, ReadsDecide}
 use Rattle.rank_order.specs.Lists.{is_among}
 use Rattle.rank_order.specs.Marks.{IsFirst}
-use Rattle.propagate.specs.Completions.{differ}
-use Rattle.propagate.specs.Reach.{Stages, Step, come_to, reads_of}
-use Rattle.propagate.proofs.Members.{false_unless, contains_among, among_contains, among_push_cases}
-use Rattle.propagate.proofs.Comparing.{same_from_differ}
+use Rattle.propagate.specs.Reach.{Stages, Step, come_to, reads_at, reads_of}
+use Rattle.propagate.proofs.Members.{false_unless, contains_among, among_contains, among_push_cases, among_push_left, among_push_self}
 use Rattle.propagate.proofs.Scratch.{reads_are_feeds, scratch_meets, same_on_feeds, same_on_reads}
 use Rattle.propagate.proofs.Ranks.{rank_feed}
 use Rattle.propagate.proofs.Ascending.{IsBefore}
@@ -38,6 +36,23 @@ pub record IsSettling (step : Step) (old new : Stages) (known : ℕ → Bool) (c
   pub before : (c m : ℕ) → is_among c computed ≡ true → marked m ≡ true → IsBefore old c m
   pub ascending : AllPairs (IsBefore old) computed
   pub each_known : (c : ℕ) → is_among c computed ≡ true → known c ≡ true
+
+-- What is not computed keeps its state. What a known place that is neither marked nor computed has read looks the same there as before. And
+-- no mark is of a lower rank than the place that differs.
+pub record IsCalm (step : Step) (old : Stages) (place : ℕ) (known : ℕ → Bool) (computed : List ℕ) (marked : ℕ → Bool) (states : ℕ → State) : Type 0 where
+  pub fresh : (s : ℕ) → is_among s computed ≡ false → states s ≡ at step old s
+  pub calm : (s feed : ℕ) → known s ≡ true → marked s ≡ false → is_among s computed ≡ false → is_among feed (reads_at step old s) ≡ true
+      → seen_at states feed ≡ seen_at (at step old) feed
+  pub low : (s : ℕ) → marked s ≡ true → rank old place ≤ rank old s
+
+-- at the beginning, where at most the place that differs is marked
+pub calm_begun : {step : Step} {old : Stages} {place : ℕ} (known marked : ℕ → Bool) (states : ℕ → State) → ((s : ℕ) → marked s ≡ true → s ≡ place)
+    → ((s : ℕ) → states s ≡ at step old s) → IsCalm step old place known [] marked states
+calm_begun {step} {old} {place} known marked states only same = record {
+  fresh = λ s apart. same s;
+  calm = λ s feed here unmarked apart read. ap seen_of (same feed);
+  low = λ s is. let as_high : rank old s ≡ rank old place = ap (rank old) (only s is) in omega (arith, as_high);
+}
 
 module _ {step : Step} (law : ReadsDecide step) {old new : Stages} {place : ℕ} (exchange : IsExchange old new place) (known : ℕ → Bool) where
   -- At the beginning nothing is computed. The place whose stage differs is marked, if it is known.
@@ -125,7 +140,7 @@ module _ {step : Step} (law : ReadsDecide step) {old new : Stages} {place : ℕ}
       -- reader: the places that have read the first marked one, as far as they are known and have it as a feed
       module _ (told : Bool) (reader marked_then : ℕ → Bool) (states_then : ℕ → State)
           (unread : (s : ℕ) → known s ≡ true → is_among u (feeds_at old s) ≡ true → reader s ≡ false → is_among u (reads_of (stage_at new s) (states s).reads) ≡ false)
-          (tells : told ≡ differ (seen_at states u) (seen_of (come_to step (stage_at new u) states)))
+          (tells : told ≡ false → seen_at states u ≡ seen_of (come_to step (stage_at new u) states))
           (marks : (s : ℕ) → marked_then s ≡ (left s || (told && (is_among u (feeds_at old s) && (known s && reader s)))))
           (holds : (s : ℕ) → states_then s ≡ (if u == s then come_to step (stage_at new u) states else states s)) where
         abbrev hears : ℕ → Bool
@@ -166,8 +181,7 @@ module _ {step : Step} (law : ReadsDecide step) {old new : Stages} {place : ℕ}
             false_unless (reader s) (λ reads.
             true≢false (sym (and_from told (hears s) loud (and_from (is_among u (feeds_at old s)) (known s && reader s) among (and_from (known s) (reader s) here reads))) ∙ silent)) in
             true≢false (sym (contains_among u (reads_of (stage_at new s) (states s).reads) mine) ∙ unread s here among deaf)) in
-            let seen : seen_at states u ≡ seen_of (come_to step (stage_at new u) states) = same_from_differ (seen_at states u) (seen_of (come_to step (stage_at new u) states)) (sym tells ∙ quiet) in
-            ap (seen_at states) (sym e) ∙ seen ∙ ap seen_of (sym (here_then read same)))
+            ap (seen_at states) (sym e) ∙ tells quiet ∙ ap seen_of (sym (here_then read same)))
             (λ other. ap seen_of (sym (there_then read other)))
             (cases_Bool (u == read))
 
@@ -230,3 +244,55 @@ module _ {step : Step} (law : ReadsDecide step) {old new : Stages} {place : ℕ}
           each_known = λ c in_computed.
               ⊎_elim (λ earlier. settling.each_known c earlier) (λ (e : u ≡ c). subst (λ x. known x ≡ true) e first_known) (among_push_cases c u computed in_computed);
         }
+
+        -- so the rest stays calm
+        module _ (calm : IsCalm step old place known computed marked states) (hearing : (s : ℕ) → reader s ≡ is_among u (reads_at step old s)) where
+          earlier : (s : ℕ) → is_among s (computed ++ u ∷ []) ≡ false → (is_among s computed ≡ false) × ((u == s) ≡ false)
+          earlier s apart = (
+            false_unless (is_among s computed) (λ here. true≢false (sym (among_push_left s u computed here) ∙ apart)),
+            false_unless (u == s) (λ same. true≢false (sym (subst (λ x. is_among x (computed ++ u ∷ []) ≡ true) (eqb-true u s same) (among_push_self u computed)) ∙ apart)),
+          )
+
+          was_unmarked : (s : ℕ) → (u == s) ≡ false → marked_then s ≡ false → marked s ≡ false
+          was_unmarked s other unmarked =
+              let others : (s == u) ≡ false = false_unless (s == u) (λ is. true≢false (sym (eq-eqb u s (sym (eqb-true s u is))) ∙ other)) in
+              false_unless (marked s) (λ is.
+              true≢false (sym (first.rest s ∙ and_from (marked s) (not (s == u)) is (not_from_false (s == u) others)) ∙ (unmarked_parts s unmarked).0))
+
+          -- what has read the computed place is not marked, so it sees no difference
+          sees_calm : (s : ℕ) → known s ≡ true → marked_then s ≡ false → is_among u (reads_at step old s) ≡ true → seen_at states u ≡ seen_of (come_to step (stage_at new u) states)
+          sees_calm s here unmarked read =
+              let among : is_among u (feeds_at old s) ≡ true =
+              contains_among u (feeds_at old s) (reads_are_feeds (stage_at old s) (at step old s).reads u (among_contains u (reads_at step old s) read)) in
+              tells
+              (false_unless told (λ loud.
+              true≢false (sym (and_from told (hears s) loud (and_from (is_among u (feeds_at old s)) (known s && reader s) among (and_from (known s) (reader s) here (hearing s ∙ read)))) ∙ (unmarked_parts s unmarked).1)))
+
+          calm_then : (s feed : ℕ) → known s ≡ true → marked_then s ≡ false → is_among s (computed ++ u ∷ []) ≡ false → is_among feed (reads_at step old s) ≡ true
+              → seen_at states_then feed ≡ seen_at (at step old) feed
+          calm_then s feed here unmarked apart read =
+              let parts = earlier s apart in
+              let before = calm.calm s feed here (was_unmarked s parts.1 unmarked) parts.0 read in
+              ⊎_elim
+              (λ same.
+              let e : u ≡ feed = eqb-true u feed same in
+              ap seen_of (here_then feed same)
+              ∙ sym (sees_calm s here unmarked (subst (λ x. is_among x (reads_at step old s) ≡ true) (sym e) read))
+              ∙ ap (seen_at states) e
+              ∙ before)
+              (λ other. ap seen_of (there_then feed other) ∙ before)
+              (cases_Bool (u == feed))
+
+          low_then : (s : ℕ) → marked_then s ≡ true → rank old place ≤ rank old s
+          low_then s is =
+              ⊎_elim
+              (λ l. calm.low s (left_marked s l).0)
+              (λ t. let least : rank old place ≤ rank old u = calm.low u first.here in let above : rank old u < rank old s = t.0 in omega arith)
+              (marked_cases s is)
+
+          pub calm_more : IsCalm step old place known (computed ++ u ∷ []) marked_then states_then
+          calm_more = record {
+            fresh = λ s apart. let parts = earlier s apart in there_then s parts.1 ∙ calm.fresh s parts.0;
+            calm = calm_then;
+            low = low_then;
+          }

@@ -1,5 +1,6 @@
 -- The turns of a trial.
-use Rattle.std.proofs.Common.{◌≡◌, ◌^◌, ◌<◌, ◌≤◌, ℕ, Bool, true, false, List, [], ◌∷◌, ◌++◌, Option, length, refl, ap, sym, ◌∙◌, arith, subst, ⊎_elim, length-append}
+use Rattle.std.proofs.Common.{◌≡◌, ◌^◌, ◌<◌, ◌≤◌, ℕ, min, Bool, true, false, List, [], ◌∷◌, ◌++◌, Option, length, refl, ap, sym, ◌∙◌, arith, subst, ⊎_elim, length-append}
+use Rattle.std.specs.Option.{option_map}
 use Rattle.std.specs.Prelude.{All, slice_set, is_some, ◌==◌, ◌&&◌, ◌||◌, if◌then◌else◌}
 use Rattle.std.proofs.lemmas.Bool.{cond-true, eqb-true, eq-eqb, true≢false}
 use Rattle.std.proofs.lemmas.Map.Steps.{length-le_from_distinct_below}
@@ -19,22 +20,31 @@ use Rattle.rank_order.specs.Marks.{IsFirst}
 use Rattle.propagate.specs.Completions.{differ}
 use Rattle.propagate.specs.Reach.{AreStates, come_to, has_read, reads_of}
 use Rattle.propagate.proofs.Ascending.{distinct_from_before}
+use Rattle.propagate.proofs.Comparing.{same_from_differ}
 use Rattle.propagate.proofs.Members.{among_contains, among_push_cases, false_unless}
 use Rattle.propagate.proofs.Ranks.{live_within, rank_feed}
 use Rattle.propagate.proofs.Turns.{all_in_time, in_time}
 use Rattle.time_sweep.specs.declared.changes.Change.{Change}
 use Rattle.time_sweep.specs.Changed.{changed_places, state_in, states_in}
+use Rattle.time_sweep.specs.HandedOn.{Reaches}
 use Rattle.time_sweep.specs.Known.{AreRanksFor}
+use Rattle.time_sweep.specs.Sooner.{sooner_completion, sooner_state}
 use Rattle.time_sweep.specs.WithStage.{with_stage, IsFitting}
 use Rattle.time_sweep.proofs.Exchanging.{exchange, with_ranked, with_reads, with_sound}
 use Rattle.time_sweep.proofs.Overlaid.{nothing_changed, overlaid, places_long, places_more, state_anywhere, unchanged}
-use Rattle.time_sweep.proofs.Settling.{IsSettling, ascending_more, begun, first_comes, first_known, settled_before, settled_whole, settling_more}
+use Rattle.time_sweep.proofs.Reaching.{reached}
+use Rattle.time_sweep.proofs.Settling.{IsCalm, IsSettling, ascending_more, begun, calm_begun, calm_more, first_comes, first_known, settled_before, settled_whole, settling_more}
 use Rattle.time_sweep.proofs.Unreached.{is_known}
 
 -- the states of a trial so far, and the places that are marked
 abbrev pub IsTurn : PlainGraph → Stage → List (Option ℕ) → List State → List ℕ → List Change → (ℕ → Bool) → Type 0
 IsTurn graph changed ranks before at list marked =
     IsSettling (java_step graph.mode) graph.places (with_stage graph changed).places (is_known ranks) (changed_places list) marked (state_in before at list)
+
+-- what is not computed is as it was
+abbrev pub IsCalmTurn : PlainGraph → Stage → List (Option ℕ) → List State → List ℕ → List Change → (ℕ → Bool) → Type 0
+IsCalmTurn graph changed ranks before at list marked =
+    IsCalm (java_step graph.mode) graph.places changed.place (is_known ranks) (changed_places list) marked (state_in before at list)
 
 -- the state that a place comes to in the graph with this stage
 abbrev pub comes : PlainGraph → Stage → List State → List ℕ → List Change → ℕ → State
@@ -49,6 +59,14 @@ module _ (graph : PlainGraph) (ranked : IsRanked graph.places) (sound : IsSound 
       (begun (java_reads_decide graph.mode) (exchange graph changed fits ranked) (is_known ranks) marked (state_in before at' list)
       (λ s here unmarked same. true≢false (sym (marks s ∙ eq-eqb s changed.place same) ∙ unmarked))
       (λ s is. subst (λ place. is_known ranks place ≡ true) (sym (eqb-true s changed.place (sym (marks s) ∙ is))) known)
+      (λ s. nothing_changed before at' list none s ∙ states.each s))
+
+  pub first_calm : (at : List ℕ) (list : List Change) (marked : ℕ → Bool) → list ≡ [] → ((s : ℕ) → marked s ≡ (s == changed.place)) → IsCalmTurn graph changed ranks before at list marked
+  first_calm at' list marked none marks =
+      subst (λ (computed : List ℕ). IsCalm (java_step graph.mode) graph.places changed.place (is_known ranks) computed marked (state_in before at' list))
+      (sym (ap changed_places none))
+      (calm_begun (is_known ranks) marked (state_in before at' list)
+      (λ s is. eqb-true s changed.place (sym (marks s) ∙ is))
       (λ s. nothing_changed before at' list none s ∙ states.each s))
 
   moments : MomentsFollowRanks (java_step graph.mode)
@@ -129,7 +147,8 @@ module _ (graph : PlainGraph) (ranked : IsRanked graph.places) (sound : IsSound 
             subst (λ (computed : List ℕ). IsSettling (java_step graph.mode) graph.places (with_stage graph changed).places (is_known ranks) computed marked_then (state_in before at_then list_then))
             (sym (ap changed_places list_is ∙ places_more list (record { place = u; state = now })))
             (settling_more (java_reads_decide graph.mode) (exchange graph changed fits ranked) (is_known ranks) are.feeds turn first
-            (differ (seen_of (state_in before at' list u)) (seen_of now)) (has_read graph.places (state_at before) u) marked_then (state_in before at_then list_then) unread refl
+            (differ (seen_of (state_in before at' list u)) (seen_of now)) (has_read graph.places (state_at before) u) marked_then (state_in before at_then list_then) unread
+            (same_from_differ (seen_of (state_in before at' list u)) (seen_of now))
             marks
             holds)
 
@@ -140,3 +159,28 @@ module _ (graph : PlainGraph) (ranked : IsRanked graph.places) (sound : IsSound 
             ∙ cond-true (u == target) now (state_in before at' list target) (eq-eqb u target here)
             ∙ first_comes (java_reads_decide graph.mode) (exchange graph changed fits ranked) (is_known ranks) are.feeds turn first
             ∙ ap (at (java_step graph.mode) (with_stage graph changed).places) here
+
+        -- the computed place has the state that it came to
+        pub now_here : state_in before at_then list_then u ≡ now
+        now_here = holds u ∙ cond-true (u == u) now (state_in before at' list u) (eq-eqb u u refl)
+
+        module _ (calm : IsCalmTurn graph changed ranks before at' list marked) where
+          pub next_calm : IsCalmTurn graph changed ranks before at_then list_then marked_then
+          next_calm =
+              subst (λ (computed : List ℕ). IsCalm (java_step graph.mode) graph.places changed.place (is_known ranks) computed marked_then (state_in before at_then list_then))
+              (sym (ap changed_places list_is ∙ places_more list (record { place = u; state = now })))
+              (calm_more (java_reads_decide graph.mode) (exchange graph changed fits ranked) (is_known ranks) are.feeds turn first
+              (differ (seen_of (state_in before at' list u)) (seen_of now)) (has_read graph.places (state_at before) u) marked_then (state_in before at_then list_then) unread
+              (same_from_differ (seen_of (state_in before at' list u)) (seen_of now))
+              marks
+              holds
+              calm
+              (λ s. ap (λ (state : State). is_among u (reads_of (stage_at graph.places s) state.reads)) (states.each s)))
+
+          -- Where no other place is marked, and what it completes sooner reaches the target, as far as it does, the target has its state.
+          pub handed_target : ((s : ℕ) → left s ≡ false) → (gain most : ℕ) → Reaches (java_step graph.mode) graph.places ranks target u most
+              → seen_of (state_in before at_then list_then u) ≡ option_map (sooner_completion gain) (seen_of (state_at before u))
+              → at (java_step graph.mode) (with_stage graph changed).places target ≡ sooner_state (min gain most) (at (java_step graph.mode) graph.places target)
+          handed_target alone gain most (between, reaches) sees =
+              reached (java_reads_decide graph.mode) (exchange graph changed fits ranked) ranks are.feeds target between turn calm first alone gain most reaches
+              (ap seen_of (sym now_here) ∙ sees ∙ ap (λ (state : State). option_map (sooner_completion gain) (seen_of state)) (states.each u))

@@ -1,7 +1,10 @@
 pub mod ByKey
 pub mod Changed
+pub mod Forms
+pub mod HandedOn
 pub mod Hastened
 pub mod Known
+pub mod Sooner
 pub mod Standing
 pub mod Starts
 pub mod Sweep

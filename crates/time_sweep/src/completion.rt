@@ -1,6 +1,6 @@
 //! How a target completes in the graph in which another stage stands at a place: a changed one, which keeps its name and its
 //! feeds.
-ghost use Rattle.std.specs.Prelude.{◌≡◌, ◌+◌, ◌<◌, ◌≤◌, ◌||◌, ◌&&◌, ◌==◌, ◌^◌, ℕ, true, All, IfOk, OnOk, Some, IfSome, is_some, length, option_copied, slice_set, ◌++◌, ◌∷◌, []};
+ghost use Rattle.std.specs.Prelude.{◌≡◌, ◌+◌, ◌<◌, ◌≤◌, ◌||◌, ◌&&◌, ◌==◌, ◌^◌, ℕ, true, All, IfOk, OnOk, Some, IfNone, IfSome, is_some, not, length, option_copied, slice_set, ◌++◌, ◌∷◌, []};
 ghost use Rattle.stage_graph.specs.Plain.{stage_at, feeds_at, dependents, IsLive};
 ghost use Rattle.stage_graph.specs.Sound.{IsSoundStage};
 ghost use Rattle.stage_graph.specs.Walk.{rank};
@@ -13,13 +13,15 @@ ghost use Rattle.rank_order.specs.Marks.{is_marked, AreMarks};
 ghost use Rattle.propagate.specs.Completions.{differ};
 ghost use Rattle.propagate.specs.Reach.{come_to, has_read, AreStates};
 ghost use Rattle.time_sweep.specs.Changed.{state_in, states_in, IsEachOnce};
+ghost use Rattle.time_sweep.specs.HandedOn.{handed_at, AreHandedOn, IsDoneByOne};
 ghost use Rattle.time_sweep.specs.Known.{is_below, rank_in, AreRanksFor, IsKnown};
 ghost use Rattle.time_sweep.specs.Standing.{AreStanding};
 ghost use Rattle.time_sweep.specs.Sweep.{completion_of};
 ghost use Rattle.time_sweep.specs.WithStage.{with_stage, IsFitting};
 
 use crate::changes::{Changes, Now};
-use crate::known::{known_rank, reads_in};
+use crate::known::{done_in, handed_at, known_rank, reads_in};
+use crate::sooner::{sooner_done, ticks_sooner};
 use crate::standing::{Standing, standing_at};
 use propagate::{KeptState, StateRepresentation, has_read};
 use rank_order::Marks;
@@ -49,7 +51,7 @@ fn first_mark(alloc: Global, ranks: &[Option<u32>], place: u32) -> Result<Marks,
 
 /// The stage at a place whose rank is known.
 #[inline(always)]
-fn stage_at<'a, R: StateRepresentation>(
+pub(crate) fn stage_at<'a, R: StateRepresentation>(
     version: &Version<R>,
     ranks: &[Option<u32>],
     standing: &[Option<Standing<'a>>],
@@ -68,7 +70,7 @@ fn stage_at<'a, R: StateRepresentation>(
 
 /// The dependents of a stage whose rank is known.
 #[inline(always)]
-fn dependents_of<'a, R: StateRepresentation>(
+pub(crate) fn dependents_of<'a, R: StateRepresentation>(
     version: &Version<R>,
     ranks: &[Option<u32>],
     standing: &[Option<Standing<'a>>],
@@ -111,7 +113,7 @@ fn is_reader<R: StateRepresentation>(
 }
 
 /// The rank of a dependent of a place, if the rank is known and the dependent has read the place.
-fn reader_rank<R: StateRepresentation>(
+pub(crate) fn reader_rank<R: StateRepresentation>(
     version: &Version<R>,
     before: &[KeptState],
     ranks: &[Option<u32>],
@@ -330,6 +332,62 @@ fn advance<R: StateRepresentation>(
     Ok(())
 }
 
+/// How the stage at a place completes in a trial so far.
+fn done_now(before: &[KeptState], changes: &Changes, place: u32) -> Option<Done>
+    requires { place < length before.now }
+    ensures { result ≡ (state_in before.now changes.now.at.items changes.now.list.items place).done }
+{
+    let now = Now { before, changes };
+    now.at(place).state().done
+}
+
+/// How the target completes where one place alone differs, which completes sooner and is else the same to dependents, and it
+/// is known how much of that reaches the target; else none.
+#[inline(always)]
+fn done_by_one(
+    is_sought: bool,
+    is_alone: bool,
+    before: &[KeptState],
+    handed: &[Option<u64>],
+    target: u32,
+    place: u32,
+    changes: &Changes,
+) -> Option<Done>
+    requires { place < length before.now }
+    ensures sought { IfSome result (λ _. is_sought ≡ true) }
+    ensures alone { IfSome result (λ _. is_alone ≡ true) }
+    ensures done { IfSome result (IsDoneByOne before.now handed.now target place (state_in before.now changes.now.at.items changes.now.list.items place)) }
+{
+    if !is_sought {
+        return None;
+    }
+    if !is_alone {
+        return None;
+    }
+    let most = handed_at(handed, place)?;
+    let was = done_in(before, place)?;
+    let now = done_now(before, changes, place)?;
+    let gain = ticks_sooner(&was, &now)?;
+    let old = done_in(before, target)?;
+    let reaching = gain.min(most);
+    Some(sooner_done(reaching, old))
+}
+
+/// Whether such a place is sought further: not after one that was alone, and of which it is known how much reaches the target. As
+/// that has not completed sooner, what comes of it hardly will.
+#[inline(always)]
+fn is_sought_further(is_sought: bool, is_alone: bool, handed: &[Option<u64>], place: u32) -> bool
+    ensures { result ≡ (is_sought && not (is_alone && is_some (handed_at handed.now place))) }
+{
+    if !is_sought {
+        return false;
+    }
+    if !is_alone {
+        return true;
+    }
+    handed_at(handed, place).is_none()
+}
+
 /// Whether the rank of the first place is below that of the second.
 fn is_below(ranks: &[Option<u32>], one: u32, other: u32) -> bool
     ensures { result ≡ is_below (rank_in ranks.now one) (rank_in ranks.now other) }
@@ -340,28 +398,34 @@ fn is_below(ranks: &[Option<u32>], one: u32, other: u32) -> bool
     }
 }
 
-/// Computes the stages that can be reached from the changed one, as far as their ranks are known: by rank, so each of them once, and no more of them once the target's state is found. The meter counts them.
+/// Computes the stages that can be reached from the changed one, as far as their ranks are known: by rank, so each of them
+/// once, and no more of them once the target's state is found. Where all that is left to compute comes of one place, and it is
+/// known how much of what that completes sooner reaches the target, gives how the target completes, and computes no more. The
+/// meter counts them.
 fn settle<R: StateRepresentation>(
     alloc: Global,
     version: &Version<R>,
     before: &[KeptState],
     ranks: &[Option<u32>],
     standing: &[Option<Standing<'_>>],
+    handed: &[Option<u64>],
     changed: &Stage,
     target: u32,
     changes: &mut Changes,
     meter: &mut Meter<OneTrial>,
-) -> Result<(), AllocError>
+) -> Result<Option<Done>, AllocError>
     requires fits { IsFitting version.now.graph.places changed.now }
     requires known { IsKnown ranks.now changed.now.place }
     requires states { AreStates (java_step version.now.graph.mode) version.now.graph.places before.now }
     requires ranks { AreRanksFor version.now.graph.places target ranks.now }
     requires standing { AreStanding version.now.graph.places ranks.now standing.now }
+    requires handed { AreHandedOn (java_step version.now.graph.mode) version.now.graph.places ranks.now target handed.now }
     requires each { length changes.old.at.items ≡ length version.now.graph.places }
     requires room { meter.old ≤ 2 ^ 63 }
     ensures each { OnOk result (length changes.new.at.items ≡ length version.now.graph.places) }
-    ensures settled { OnOk result (state_in before.now changes.new.at.items changes.new.list.items target
-        ≡ at (java_step version.now.graph.mode) (with_stage version.now.graph changed.now).places target) }
+    ensures settled { IfOk result (λ early. IfNone early (state_in before.now changes.new.at.items changes.new.list.items target
+        ≡ at (java_step version.now.graph.mode) (with_stage version.now.graph changed.now).places target)) }
+    ensures early { IfOk result (λ early. IfSome early (λ done. Some done ≡ completion_of (with_stage version.now.graph changed.now) target)) }
     ensures once { OnOk result (IsEachOnce changes.new.list.items) }
     ensures counted { OnOk result (meter.new ≡ meter.old + length changes.new.list.items) }
 {
@@ -370,19 +434,27 @@ fn settle<R: StateRepresentation>(
     let _ = graph.len();
     changes.clear();
     let mut marks = first_mark(alloc, ranks, changed.place)?;
+    let mut is_sought = true;
     while let Some(place) = marks.pop_first() {
         if is_below(ranks, target, place) {
-            return Ok(());
+            return Ok(None);
         }
+        let is_alone = marks.is_empty();
         advance(
             alloc, version, before, ranks, standing, changed, target, place, &mut marks, changes,
             meter,
         )?;
         if place == target {
-            return Ok(());
+            return Ok(None);
         }
+        if let Some(done) = done_by_one(
+            is_sought, is_alone, before, handed, target, place, changes,
+        ) {
+            return Ok(Some(done));
+        }
+        is_sought = is_sought_further(is_sought, is_alone, handed, place);
     }
-    Ok(())
+    Ok(None)
 }
 
 /// How the target completes in the graph with the changed stage; none where it would be pending. No stage is computed
@@ -393,6 +465,7 @@ pub(crate) fn changed_completion<R: StateRepresentation>(
     before: &[KeptState],
     ranks: &[Option<u32>],
     standing: &[Option<Standing<'_>>],
+    handed: &[Option<u64>],
     changed: &Stage,
     target: u32,
     changes: &mut Changes,
@@ -404,6 +477,7 @@ pub(crate) fn changed_completion<R: StateRepresentation>(
     requires states { AreStates (java_step version.now.graph.mode) version.now.graph.places before.now }
     requires ranks { AreRanksFor version.now.graph.places target ranks.now }
     requires standing { AreStanding version.now.graph.places ranks.now standing.now }
+    requires handed { AreHandedOn (java_step version.now.graph.mode) version.now.graph.places ranks.now target handed.now }
     requires each { length changes.old.at.items ≡ length version.now.graph.places }
     requires room { meter.old ≤ 2 ^ 63 }
     ensures each { OnOk result (length changes.new.at.items ≡ length version.now.graph.places) }
@@ -411,9 +485,11 @@ pub(crate) fn changed_completion<R: StateRepresentation>(
     ensures once { OnOk result (IsEachOnce changes.new.list.items) }
     ensures counted { OnOk result (meter.new ≡ meter.old + length changes.new.list.items) }
 {
-    settle(
-        alloc, version, before, ranks, standing, changed, target, changes, meter,
+    let early = settle(
+        alloc, version, before, ranks, standing, handed, changed, target, changes, meter,
     )?;
-    let now = Now { before, changes };
-    Ok(now.at(target).state().done)
+    match early {
+        Some(done) => Ok(Some(done)),
+        None => Ok(done_now(before, changes, target)),
+    }
 }

@@ -1,12 +1,13 @@
-//! The states of a version, and the ranks that are known, in lists by place.
+//! The states of a version, and the ranks and what else is known, in lists by place.
 ghost use Rattle.std.specs.Prelude.{◌≡◌, IfOk, slice_index_or, None};
 ghost use Rattle.stage_ops.specs.Java.{java_step};
 ghost use Rattle.propagate.specs.Reach.{AreStates};
 ghost use Rattle.stage_ops.specs.States.{state_at};
 ghost use Rattle.version_store.specs.Queries.{state_of};
+ghost use Rattle.time_sweep.specs.HandedOn.{handed_at};
 
 use propagate::{KeptState, StateRepresentation};
-use stage_ops::{Reads, State};
+use stage_ops::{Done, Reads, State};
 use std::alloc::{AllocError, Global};
 use version_store::{NoStage, Version};
 
@@ -55,5 +56,26 @@ pub(crate) fn reads_in(states: &[KeptState], place: u32) -> Reads
     match states.get(place as usize) {
         Some(state) => state.reads(),
         None => Reads::Nothing,
+    }
+}
+
+/// How the stage at a place completes by these states.
+pub(crate) fn done_in(states: &[KeptState], place: u32) -> Option<Done>
+    ensures { result ≡ (state_at states.now place).done }
+{
+    match states.get(place as usize) {
+        Some(state) => state.state().done,
+        None => None,
+    }
+}
+
+/// How many of the ticks that the stage at a place completes sooner reach the target, at most, where it is known.
+#[inline(always)]
+pub(crate) fn handed_at(handed: &[Option<u64>], place: u32) -> Option<u64>
+    ensures { result ≡ handed_at handed.now place }
+{
+    match handed.get(place as usize) {
+        Some(most) => *most,
+        None => None,
     }
 }

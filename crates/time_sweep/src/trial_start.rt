@@ -10,6 +10,7 @@ use crate::ancestors::ranks_of;
 use crate::as_it_is::completion_of;
 use crate::changes::Changes;
 use crate::completion::{OneTrial, changed_completion};
+use crate::handed::handed_on;
 use crate::known::{known_rank, states_of};
 use crate::standing::{Standing, standing_of};
 use propagate::{KeptState, StateRepresentation};
@@ -29,6 +30,8 @@ pub struct TrialStart<'a> {
     pub(crate) ranks: Vec<Option<u32>>,
     /// What stands at these places.
     pub(crate) standing: Vec<Option<Standing<'a>>>,
+    /// How many of the ticks that each place completes sooner reach the target, at most, where it is known.
+    pub(crate) handed: Vec<Option<u64>>,
 }
 
 impl<'a> TrialStart<'a> {
@@ -66,11 +69,20 @@ impl<'a> TrialStart<'a> {
     {
         let before = states_of(alloc, version)?;
         let standing = standing_of(alloc, version, ranks.as_slice(), target)?;
+        let handed = handed_on(
+            alloc,
+            version,
+            before.as_slice(),
+            ranks.as_slice(),
+            standing.as_slice(),
+            target,
+        )?;
         Ok(TrialStart {
             target,
             before,
             ranks,
             standing,
+            handed,
         })
     }
 
@@ -116,6 +128,7 @@ impl<'a> TrialStart<'a> {
             self.before.as_slice(),
             self.ranks.as_slice(),
             self.standing.as_slice(),
+            self.handed.as_slice(),
             changed,
             self.target,
             changes,

@@ -1,5 +1,5 @@
 -- The text of a row.
-use Rattle.std.specs.Prelude.{ℕ, ◌+◌, ◌-◌, Bool, true, false, List, [], ◌∷◌, ◌++◌, Option, None, Some, codes, max, nat_lt, if◌then◌else◌, string_bytes}
+use Rattle.std.specs.Prelude.{ℕ, ◌+◌, ◌-◌, Bool, true, false, List, [], ◌∷◌, ◌++◌, Option, None, Some, codes, max, nat_le, nat_lt, ◌&&◌, if◌then◌else◌, string_bytes}
 use Rattle.std.specs.Fmt.{decimal}
 use Rattle.timeline.specs.declared.scale.Bar.{Bar}
 use Rattle.timeline.specs.declared.scale.Scale.{Scale}
@@ -34,20 +34,32 @@ mark_text x y false = circle_text x y
 abbrev pub wait_text : ℕ → ℕ → ℕ → List ℕ
 wait_text y from to = codes "<path class='wait' d='M" ++ decimal from ++ codes " " ++ decimal y ++ codes ".5H" ++ decimal to ++ codes "'/>"
 
+-- the scale has one of the ticks from one to another
+abbrev pub shows : Scale → ℕ → ℕ → Bool
+shows scale from to = nat_le from scale.last && nat_le scale.first to
+
 -- the light bar, where the action was queued
 abbrev pub queue_text : Scale → ℕ → Run → List ℕ
-queue_text scale y run = if nat_lt run.triggered run.started then queued_text (bar_of scale run.triggered run.started) y else []
+queue_text scale y run = if nat_lt run.triggered run.started && shows scale run.triggered run.started then queued_text (bar_of scale run.triggered run.started) y else []
+
+-- the solid bar, while the action ran
+abbrev pub action_text : Scale → ℕ → Run → List ℕ
+action_text scale y run = if shows scale run.started run.ended then ran_text (bar_of scale run.started run.ended) y else []
 
 -- the hatched bar, where the action was cut off: from where the stage completed to where the action would have ended, and so wide that it is seen beside the mark
 abbrev pub cut_text : Scale → ℕ → ℕ → Option ℕ → List ℕ
 cut_text scale y completed None = []
-cut_text scale y completed (Some end) = hatched_text (x_of scale completed) y (max (x_of scale end - x_of scale completed) 14)
+cut_text scale y completed (Some end) = if shows scale completed end then hatched_text (x_of scale completed) y (max (x_of scale end - x_of scale completed) 14) else []
 
--- a thin line, the bars, and how it ended
+-- how it ended
+abbrev pub end_text : Scale → ℕ → Run → List ℕ
+end_text scale y run = if shows scale run.completed run.completed then mark_text (x_of scale run.completed) y run.has_failed else []
+
+-- a thin line, the bars, and how it ended, as far as the scale has their ticks
 abbrev pub run_text : Scale → ℕ → ℕ → Run → List ℕ
 run_text scale y from run =
-    wait_text y from (x_of scale run.completed) ++ queue_text scale y run ++ ran_text (bar_of scale run.started run.ended) y
-    ++ cut_text scale y run.completed run.missed_end ++ mark_text (x_of scale run.completed) y run.has_failed
+    wait_text y from (x_of scale run.completed) ++ queue_text scale y run ++ action_text scale y run
+    ++ cut_text scale y run.completed run.missed_end ++ end_text scale y run
 
 -- a line to the right end, and an open arrow
 abbrev pub pending_text : ℕ → ℕ → ℕ → List ℕ

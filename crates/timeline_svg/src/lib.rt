@@ -9,7 +9,9 @@ mod row;
 mod rows;
 mod span;
 mod trail;
+mod window;
 
 pub use escape::push_escaped;
 pub use picture::{Heading, timeline_svg};
 pub use row::{Course, Row, Run};
+pub use window::Window;

@@ -1,10 +1,11 @@
 //! The rows of a picture.
 ghost use Rattle.std.specs.Prelude.{◌≡◌, ◌+◌, ◌≤◌, ◌^◌, ◌++◌, OnOk, length, string_bytes};
-ghost use Rattle.timeline_svg.specs.RowTexts.{circle_text, course_text, cross_text, cut_text, ended_text, group_text, hatched_text, hit_text, label_text, mark_text, name_text, pending_text, place_text, queue_text, queued_text, ran_text, row_text, rows_text, run_text, state_text, told_text, wait_text};
+ghost use Rattle.timeline_svg.specs.RowTexts.{action_text, circle_text, course_text, cross_text, cut_text, end_text, ended_text, group_text, hatched_text, hit_text, label_text, mark_text, name_text, pending_text, place_text, queue_text, queued_text, ran_text, row_text, rows_text, run_text, state_text, told_text, wait_text};
 
 use crate::escape::{push_cut, push_element};
 use crate::frame::row_y;
 use crate::row::{Course, Row, Run};
+use crate::window::shows;
 use std::alloc::{AllocError, Global};
 use std::fmt::Write;
 use timeline::{Bar, Scale};
@@ -139,7 +140,7 @@ fn push_pending(line: &mut String, y: u32, from: u32, right: u32) -> Result<(), 
     )
 }
 
-// A thin line, the bars, and how it ended.
+// A thin line, the bars, and how it ended, as far as the scale has their ticks.
 fn push_run(line: &mut String, scale: &Scale, y: u32, from: u32, run: Run) -> Result<(), AllocError>
     requires { 9 ≤ y }
     ensures { OnOk result (string_bytes line.new ≡ string_bytes line.old ++ run_text scale.now y from run) }
@@ -147,9 +148,9 @@ fn push_run(line: &mut String, scale: &Scale, y: u32, from: u32, run: Run) -> Re
     let to = scale.x(run.completed);
     push_wait(line, y, from, to)?;
     push_queue(line, scale, y, run)?;
-    push_ran(line, scale.bar(run.started, run.ended), y)?;
+    push_action(line, scale, y, run)?;
     push_cut_off(line, scale, y, run)?;
-    push_mark(line, to, y, run.has_failed)
+    push_end(line, scale, y, run)
 }
 
 // A thin line.
@@ -164,7 +165,7 @@ fn push_queue(line: &mut String, scale: &Scale, y: u32, run: Run) -> Result<(), 
     requires { 9 ≤ y }
     ensures { OnOk result (string_bytes line.new ≡ string_bytes line.old ++ queue_text scale.now y run) }
 {
-    if run.triggered < run.started {
+    if run.triggered < run.started && shows(scale, run.triggered, run.started) {
         push_queued(line, scale.bar(run.triggered, run.started), y)
     } else {
         Ok(())
@@ -181,6 +182,18 @@ fn push_queued(line: &mut String, bar: Bar, y: u32) -> Result<(), AllocError>
         line,
         "<rect class='queued' x='{x}.5' y='{top}.5' width='{width}' height='7'/>"
     )
+}
+
+// The solid bar, while the action ran.
+fn push_action(line: &mut String, scale: &Scale, y: u32, run: Run) -> Result<(), AllocError>
+    requires { 9 ≤ y }
+    ensures { OnOk result (string_bytes line.new ≡ string_bytes line.old ++ action_text scale.now y run) }
+{
+    if shows(scale, run.started, run.ended) {
+        push_ran(line, scale.bar(run.started, run.ended), y)
+    } else {
+        Ok(())
+    }
 }
 
 fn push_ran(line: &mut String, bar: Bar, y: u32) -> Result<(), AllocError>
@@ -203,6 +216,9 @@ fn push_cut_off(line: &mut String, scale: &Scale, y: u32, run: Run) -> Result<()
     let Some(end) = run.missed_end else {
         return Ok(());
     };
+    if !shows(scale, run.completed, end) {
+        return Ok(());
+    }
     let x = scale.x(run.completed);
     let width = scale.x(end).saturating_sub(x).max(LEAST_CUT);
     push_hatched(line, x, y, width)
@@ -217,6 +233,17 @@ fn push_hatched(line: &mut String, x: u32, y: u32, width: u32) -> Result<(), All
         line,
         "<rect class='cut' x='{x}' y='{top}.5' width='{width}' height='9'/>"
     )
+}
+
+// How it ended.
+fn push_end(line: &mut String, scale: &Scale, y: u32, run: Run) -> Result<(), AllocError>
+    ensures { OnOk result (string_bytes line.new ≡ string_bytes line.old ++ end_text scale.now y run) }
+{
+    if shows(scale, run.completed, run.completed) {
+        push_mark(line, scale.x(run.completed), y, run.has_failed)
+    } else {
+        Ok(())
+    }
 }
 
 fn push_mark(line: &mut String, x: u32, y: u32, has_failed: bool) -> Result<(), AllocError>

@@ -1,11 +1,12 @@
 //! The scale of the rows.
 ghost use Rattle.std.specs.Prelude.{◌≡◌, ◌≤◌, ◌<◌, ◌^◌, IfOk};
-ghost use Rattle.timeline_svg.specs.Spans.{IsScaleOf, first_of, first_tick, last_of, last_tick, longest_name};
+ghost use Rattle.timeline_svg.specs.Spans.{IsScaleOf, first_of, first_tick, last_of, last_shown, last_tick, longest_name};
 
 use crate::escape::characters;
 use crate::frame::CHART;
 use crate::row::{Course, Row};
 use crate::rows::MOST_SHOWN;
+use crate::window::Window;
 use std::alloc::{AllocError, Global};
 use timeline::Scale;
 
@@ -16,17 +17,25 @@ const LAST: u64 = (1 << 63) - 1;
 const CHARACTER: u32 = 8;
 
 /// The scale on which the ticks of the rows stand.
-pub(crate) fn scale_of(alloc: Global, rows: &[Row]) -> Result<Scale, AllocError>
-    ensures { IfOk result (λ scale. IsScaleOf rows.now scale) }
+pub(crate) fn scale_of(alloc: Global, window: Window, rows: &[Row]) -> Result<Scale, AllocError>
+    ensures { IfOk result (λ scale. IsScaleOf window rows.now scale) }
 {
     let columns = longest_name(alloc, rows)?.min(MOST_SHOWN);
-    let last = last_tick(rows).min(LAST);
+    let last = last_shown(window, rows).min(LAST);
     Ok(Scale {
-        first: first_tick(rows).min(last),
+        first: window.first.unwrap_or(first_tick(rows)).min(last),
         last,
         left: 32 + columns as u32 * CHARACTER,
         width: CHART,
     })
+}
+
+// The last tick that is shown, which is no earlier than the first one that is asked for.
+fn last_shown(window: Window, rows: &[Row]) -> u64
+    ensures { result ≡ last_shown window rows.now }
+{
+    let last = last_tick(rows).max(window.first.unwrap_or(0));
+    window.last.unwrap_or(last)
 }
 
 // The first tick of all rows.

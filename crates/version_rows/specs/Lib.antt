@@ -1,4 +1,5 @@
 pub mod Candidates
 pub mod Courses
 pub mod Drawings
+pub mod Rooms
 pub mod Rows

@@ -5,18 +5,17 @@ ghost use Rattle.std.specs.Ordering.{nat_cmp};
 ghost use Rattle.version_rows.specs.Candidates.{IsChosen, order_in, rest_in};
 
 use crate::candidate::Candidate;
+use crate::room::Room;
 use std::alloc::AllocError;
 
-/// The most rows of a picture.
-pub(crate) const MOST_ROWS: usize = 2000;
-
 /// Those of the candidates that have a row, by start and place.
-pub(crate) fn chosen(candidates: Vec<Candidate>) -> Result<Vec<Candidate>, AllocError>
-    ensures chosen { IfOk result (λ chosen. IsChosen candidates.items chosen.items) }
+pub(crate) fn chosen(candidates: Vec<Candidate>, room: Room) -> Result<Vec<Candidate>, AllocError>
+    ensures chosen { IfOk result (λ chosen. IsChosen room candidates.items chosen.items) }
     ensures few { IfOk result (λ chosen. length chosen.items ≤ 2000) }
 {
     let mut ranked = by_rest(candidates)?;
-    ranked.truncate(MOST_ROWS);
+    let most = room.most_rows();
+    ranked.truncate(most);
     let chosen = by_order(ranked)?;
     Ok(chosen)
 }

@@ -1,13 +1,16 @@
 //! What is drawn of a version.
-ghost use Rattle.std.specs.Prelude.{◌≡◌, ◌≤◌, ◌↔◌, IfOk, None, length};
+ghost use Rattle.std.specs.Prelude.{◌≡◌, ◌≤◌, ◌↔◌, IfOk, None, length, option_copied};
 ghost use Rattle.stage_graph.specs.Plain.{stage_at};
 ghost use Rattle.scratch_eval.specs.Path.{path};
 ghost use Rattle.version_rows.specs.Drawings.{IsDrawing, IsMissing, path_to};
 
-use crate::candidate::{Scope, candidates};
+use crate::candidate::candidates;
 use crate::chosen::chosen;
-use crate::heading::heading_of;
+use crate::heading::{Source, heading_of};
+use crate::left_out::{LeftOut, left_out};
+use crate::room::Room;
 use crate::rows::{indices_of, rows_of};
+use crate::selection::{Selection, asked};
 use propagate::StateRepresentation;
 use stage_graph::Places;
 use std::alloc::Global;
@@ -21,30 +24,37 @@ pub struct Drawing {
     pub rows: Vec<Row>,
     /// The rows of the path, from the stage whose path it is to where it began.
     pub path: Vec<usize>,
+    pub left_out: LeftOut,
 }
 
-/// What is drawn of a version: a row for each stage in scope, 2,000 at most, and over them the path of the target, if
-/// there is one.
+/// What is drawn of a version of a recording: a row for each stage that is asked for, as far as there is room,
+/// and over them the path of the target, if there is one.
 pub fn drawing_of<R: StateRepresentation>(
     alloc: Global,
     version: &Version<R>,
-    scope: Scope,
+    source: Source<'_>,
+    room: Room,
+    selection: Selection,
     target: Option<u32>,
 ) -> Result<Drawing, QueryFault>
-    ensures drawn { IfOk result (λ drawing. IsDrawing version.now scope target drawing) }
+    ensures drawn { IfOk result (λ drawing. IsDrawing version.now (option_copied source.entry.file) source.entry.unit.now room selection target drawing) }
     ensures few { IfOk result (λ drawing. length drawing.rows.items ≤ 2000) }
     ensures no_stage { (result ≡ Err QueryFault.NoStage) ↔ IsMissing version.now.graph target }
 {
     let path = path_to(alloc, version, target)?;
-    let candidates = candidates(alloc, version, scope, path.as_slice())?;
-    let heading = heading_of(alloc, version, target, candidates.len())?;
-    let chosen = chosen(candidates)?;
+    let candidates = candidates(alloc, version, selection, path.as_slice())?;
+    let count = candidates.len();
+    let asked = asked(candidates);
+    let heading = heading_of(alloc, version, source, target, room, count, asked.len())?;
+    let left_out = left_out(room, count, asked.len());
+    let chosen = chosen(asked, room)?;
     let rows = rows_of(alloc, version, chosen.as_slice())?;
     let path = indices_of(alloc, chosen.as_slice(), path.as_slice())?;
     Ok(Drawing {
         heading,
         rows,
         path,
+        left_out,
     })
 }
 

@@ -1,40 +1,66 @@
 //! What stands above the rows.
-ghost use Rattle.std.specs.Prelude.{◌≡◌, IfOk, string_bytes, ◌++◌, OnOk};
-ghost use Rattle.version_rows.specs.Drawings.{note_text, path_title, title_text};
+ghost use Rattle.std.specs.Prelude.{◌≡◌, IfOk, option_copied, string_bytes, ◌++◌, OnOk};
+ghost use Rattle.version_rows.specs.Drawings.{file_title, note_text, path_title, room_note, title_text, unasked_note};
 
-use crate::chosen::MOST_ROWS;
+use crate::room::Room;
 use propagate::StateRepresentation;
 use std::alloc::{AllocError, Global};
 use std::fmt::Write;
 use timeline_svg::Heading;
 use version_store::Version;
 
-/// Which version and whose path it is, and how many stages there are.
+/// What is told of the recording that a version is of.
+#[derive(Clone, Copy)]
+pub struct Source<'a> {
+    /// The file that it is in, where one is named.
+    pub file: Option<&'a str>,
+    /// What a tick is; empty where that is not told.
+    pub unit: &'a str,
+}
+
+/// Which version and whose path it is, how many stages there are and how many of them are asked for, and the unit.
 pub(crate) fn heading_of<R: StateRepresentation>(
     alloc: Global,
     version: &Version<R>,
+    source: Source<'_>,
     target: Option<u32>,
+    room: Room,
     count: usize,
+    asked: usize,
 ) -> Result<Heading, AllocError>
-    ensures title { IfOk result (λ heading. string_bytes heading.title ≡ title_text version.now target) }
-    ensures note { IfOk result (λ heading. string_bytes heading.note ≡ note_text count) }
+    ensures title { IfOk result (λ heading. string_bytes heading.title ≡ title_text version.now (option_copied source.entry.file) target) }
+    ensures note { IfOk result (λ heading. string_bytes heading.note ≡ note_text room count asked) }
+    ensures unit { IfOk result (λ heading. string_bytes heading.unit ≡ source.entry.unit.now) }
 {
-    let title = title_of(alloc, version, target)?;
-    let note = note_of(alloc, count)?;
-    Ok(Heading { title, note })
+    let title = title_of(alloc, version, source.file, target)?;
+    let note = note_of(alloc, room, count, asked)?;
+    let mut unit = String::new(alloc);
+    unit.push_str(source.unit)?;
+    Ok(Heading { title, note, unit })
 }
 
 fn title_of<R: StateRepresentation>(
     alloc: Global,
     version: &Version<R>,
+    file: Option<&str>,
     target: Option<u32>,
 ) -> Result<String, AllocError>
-    ensures { IfOk result (λ title. string_bytes title ≡ title_text version.now target) }
+    ensures { IfOk result (λ title. string_bytes title ≡ title_text version.now (option_copied file.entry) target) }
 {
     let number = version.number();
     let mut title = format!(in alloc; "Version {number}")?;
+    push_file_title(&mut title, file)?;
     push_path_title(&mut title, version, target)?;
     Ok(title)
+}
+
+fn push_file_title(title: &mut String, file: Option<&str>) -> Result<(), AllocError>
+    ensures { OnOk result (string_bytes title.new ≡ string_bytes title.old ++ file_title (option_copied file.entry)) }
+{
+    match file {
+        Some(file) => write!(title, " of {file}"),
+        None => Ok(()),
+    }
 }
 
 fn push_path_title<R: StateRepresentation>(
@@ -53,14 +79,35 @@ fn push_path_title<R: StateRepresentation>(
     }
 }
 
-fn note_of(alloc: Global, count: usize) -> Result<String, AllocError>
-    ensures { IfOk result (λ note. string_bytes note ≡ note_text count) }
+fn note_of(alloc: Global, room: Room, count: usize, asked: usize) -> Result<String, AllocError>
+    ensures { IfOk result (λ note. string_bytes note ≡ note_text room count asked) }
 {
-    if count <= MOST_ROWS {
-        format!(in alloc; "{count} stages")
+    let shown = asked.min(room.most_rows());
+    if count <= shown {
+        return format!(in alloc; "{count} stages");
+    }
+    let mut note = format!(in alloc; "{shown} of {count} stages")?;
+    push_unasked(&mut note, count.saturating_sub(asked))?;
+    push_room(&mut note, room, asked)?;
+    Ok(note)
+}
+
+fn push_unasked(note: &mut String, unasked: usize) -> Result<(), AllocError>
+    ensures { OnOk result (string_bytes note.new ≡ string_bytes note.old ++ unasked_note unasked) }
+{
+    if unasked > 0 {
+        write!(note, ", {unasked} left out by --from, --to or --min")
     } else {
-        format!(in alloc;
-            "2000 of {count} stages: those on the path, and those whose own actions took longest"
-        )
+        Ok(())
+    }
+}
+
+fn push_room(note: &mut String, room: Room, asked: usize) -> Result<(), AllocError>
+    ensures { OnOk result (string_bytes note.new ≡ string_bytes note.old ++ room_note room asked) }
+{
+    if asked > room.most_rows() {
+        note.push_str(": those on the path, and those whose own actions took longest")
+    } else {
+        Ok(())
     }
 }

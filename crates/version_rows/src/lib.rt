@@ -6,9 +6,15 @@ mod candidate;
 mod chosen;
 mod course;
 mod drawing;
-mod flags;
 mod heading;
+mod left_out;
+mod room;
 mod rows;
+mod selection;
 
 pub use candidate::Scope;
 pub use drawing::{Drawing, drawing_of};
+pub use heading::Source;
+pub use left_out::LeftOut;
+pub use room::Room;
+pub use selection::Selection;

@@ -8,8 +8,8 @@ use at_once::run_many;
 use command_help::told;
 use command_line::{Command, CommandLine, Manner, WordsFault, parsed, without_help_of_help};
 use commands::{
-    RescueWords, refuse, run_compare, run_draw, run_export, run_import, run_report,
-    run_report_stage, run_rescue, run_serve, run_try, swept_as,
+    RescueWords, refuse, run_compare, run_draw, run_export, run_import, run_new, run_page,
+    run_report, run_report_stage, run_rescue, run_serve, run_try, swept_as,
 };
 use console::{Fault, run_check};
 use level_pool::{OneThread, Runner};
@@ -108,6 +108,9 @@ fn answer<'a, K: StateRepresentation, H: Threads + Wait + Copy + Drop + Send + S
         }
         Command::Compare { good, bad, stage } => { run_compare::<K>(rt, manner, good, bad, stage)? }
         Command::Draw { recording, picture } => run_draw::<K>(rt, manner, recording, picture)?,
+        Command::Page { recording, stage } => {
+            run_page::<K, _>(rt, threads, manner, recording, stage)?
+        }
         Command::Check { recording } => return run_check(rt, manner, recording),
         Command::Serve { recording } => run_serve::<K, _>(rt, runner, manner, recording)?,
         Command::Export { recording, script } => {
@@ -119,6 +122,7 @@ fn answer<'a, K: StateRepresentation, H: Threads + Wait + Copy + Drop + Send + S
             wanted,
             mapping,
         } => return run_import(rt, manner, trace, wanted, mapping),
+        Command::New { form } => run_new(rt, manner, form)?,
     }
     Ok(ExitCode::SUCCESS)
 }

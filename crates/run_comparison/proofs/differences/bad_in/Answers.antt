@@ -2,7 +2,7 @@ use Rattle.std.proofs.Common.{◌∙◌, ℕ, ap}
 use Rattle.stage_graph.specs.Plain.{place_named}
 use Rattle.version_store.specs.Plain.{PlainVersion}
 use Rattle.run_comparison.specs.Differences.{bad_in, bad_told}
-use Rattle.run_comparison.specs.Flags.{is_flagged}
+use Rattle.place_flags.specs.Flags.{is_flagged}
 use Rattle.run_comparison.proofs.differences.bad_in.Goals as goal
 
 pub returns-in-Some : goal.returns-in-Some

@@ -4,7 +4,7 @@ use Rattle.std.proofs.lemmas.List.Sorted.{All-permutation}
 use Rattle.scratch_eval.specs.Path.{path}
 use Rattle.run_comparison.specs.declared.difference.Difference.{Difference}
 use Rattle.run_comparison.specs.Differences.{StandsByShare, in_turn, is_on, of_both}
-use Rattle.run_comparison.specs.Flags.{AreFlags, is_flagged}
+use Rattle.place_flags.specs.Flags.{AreFlags, is_flagged}
 use Rattle.run_comparison.proofs.Flagged.{told_by_paths}
 use Rattle.run_comparison.proofs.Ordering.{each_by_share, sorted_in_turn}
 use Rattle.run_comparison.proofs.differences.differences_of.Goals as goal

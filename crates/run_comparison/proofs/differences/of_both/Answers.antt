@@ -1,7 +1,7 @@
 use Rattle.std.proofs.Common.{◌++◌, ◌∙◌, List, ap}
 use Rattle.run_comparison.specs.declared.difference.Difference.{Difference}
 use Rattle.run_comparison.specs.Differences.{of_bad, of_good}
-use Rattle.run_comparison.specs.Flags.{is_flagged}
+use Rattle.place_flags.specs.Flags.{is_flagged}
 use Rattle.run_comparison.proofs.differences.of_both.Goals as goal
 
 pub returns : goal.returns

@@ -1,7 +1,7 @@
 use Rattle.std.proofs.Common.{◌≡◌, ◌∙◌, Bool, ap}
 use Rattle.stage_graph.specs.Plain.{stage_at}
 use Rattle.run_comparison.specs.Differences.{bad_at, bad_in}
-use Rattle.run_comparison.specs.Flags.{is_flagged}
+use Rattle.place_flags.specs.Flags.{is_flagged}
 use Rattle.run_comparison.proofs.Collecting.{collects, next_place}
 use Rattle.run_comparison.proofs.differences.push_of_bad.Goals as goal
 

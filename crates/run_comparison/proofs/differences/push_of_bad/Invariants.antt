@@ -2,7 +2,7 @@ use Rattle.std.proofs.Common.{◌≡◌, ◌++◌, ◌-◌}
 use Rattle.std.specs.Prelude.{filter_map}
 use Rattle.std.specs.List.{range_with_len}
 use Rattle.run_comparison.specs.Differences.{bad_at, of_bad}
-use Rattle.run_comparison.specs.Flags.{is_flagged}
+use Rattle.place_flags.specs.Flags.{is_flagged}
 use Rattle.run_comparison.proofs.differences.push_of_bad.Given as goal
 
 -- what was told and what is left make the whole

@@ -1,7 +1,7 @@
 use Rattle.std.proofs.Common.{◌≡◌, ◌∙◌, List, ℕ, ap, length, subst}
 use Rattle.stage_graph.specs.Plain.{PlainGraph}
 use Rattle.scratch_eval.specs.Path.{path}
-use Rattle.run_comparison.specs.Flags.{AreFlags}
+use Rattle.place_flags.specs.Flags.{AreFlags}
 use Rattle.run_comparison.proofs.path_flags.path_flags.Goals as goal
 
 pub returns : goal.returns

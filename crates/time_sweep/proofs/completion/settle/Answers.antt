@@ -1,15 +1,19 @@
-use Rattle.std.proofs.Common.{◌∙◌, sym, ap, subst, length, length-append, arith}
+use Rattle.std.proofs.Common.{◌∙◌, min, sym, ap, subst, length, length-append, arith}
+use Rattle.std.specs.Option.{option_map}
 use Rattle.std.proofs.Math.ListN.{length-set}
 use Rattle.stage_graph.specs.Sound.{IsSound}
 use Rattle.stage_graph.specs.Walk.{rank}
 use Rattle.rank_order.specs.Marks.{is_marked}
 use Rattle.rank_order.proofs.Marking.{marks_left, none_marked}
 use Rattle.propagate.proofs.Ascending.{distinct_from_before}
+use Rattle.propagate.proofs.Ranks.{live_within}
+use Rattle.stage_ops.specs.declared.state.State.{State}
 use Rattle.time_sweep.specs.declared.changes.Change.{Change}
 use Rattle.time_sweep.specs.Changed.{changed_places}
+use Rattle.time_sweep.specs.Sooner.{sooner_done}
 use Rattle.time_sweep.proofs.Exchanging.{fits_live}
 use Rattle.time_sweep.proofs.Knowing.{ranks_below, rank_known}
-use Rattle.time_sweep.proofs.TrialTurns.{ended, ended_before, ended_here, first_turn, next_turn, turn_few, turn_live, turn_known, turn_moments}
+use Rattle.time_sweep.proofs.TrialTurns.{ended, ended_before, ended_here, first_calm, first_turn, handed_target, next_calm, next_turn, turn_few, turn_live, turn_known, turn_moments}
 use Rattle.time_sweep.proofs.completion.settle.Goals as goal
 
 pub loop-place-init : goal.loop-place-init
@@ -21,6 +25,8 @@ loop-place-init g c =
     record {
       settling = first_turn graph c.graph-graph.ensures.ranked sound changed c.requires.fits c.args.target c.args.ranks.now c.requires.ranks c.args.before.now c.requires.states
           c.clear.new.self.at.items c.clear.new.self.list.items (is_marked (rank graph.places) c.in_ok-marks.marks) c.clear.ensures.list c.requires.known (c.in_ok-marks.ensures.marked (rank graph.places) own);
+      calm = first_calm graph c.graph-graph.ensures.ranked sound changed c.requires.fits c.args.target c.args.ranks.now c.requires.ranks c.args.before.now c.requires.states
+          c.clear.new.self.at.items c.clear.new.self.list.items (is_marked (rank graph.places) c.in_ok-marks.marks) c.clear.ensures.list (c.in_ok-marks.ensures.marked (rank graph.places) own);
       marks = c.in_ok-marks.ensures.marks (rank graph.places) own;
       each = ap (λ at. length at.items) c.clear.ensures.at ∙ c.requires.each;
       counted = omega (arith, ap length c.clear.ensures.list);
@@ -88,6 +94,9 @@ loop-place-preserved g c =
       settling = next_turn graph c.graph-graph.ensures.ranked sound c.args.changed.now c.requires.fits c.args.target c.args.ranks.now c.requires.ranks c.args.before.now c.requires.states
           c.loop-place.changes.at.items c.loop-place.changes.list.items (is_marked (rank graph.places) c.loop-place.marks) inv.each inv.settling (c.in-Some.ensures.first (rank graph.places) inv.marks)
           c.advance.new.changes.at.items c.advance.new.changes.list.items (is_marked (rank graph.places) c.advance.new.marks) done.at done.list done.marked;
+      calm = next_calm graph c.graph-graph.ensures.ranked sound c.args.changed.now c.requires.fits c.args.target c.args.ranks.now c.requires.ranks c.args.before.now c.requires.states
+          c.loop-place.changes.at.items c.loop-place.changes.list.items (is_marked (rank graph.places) c.loop-place.marks) inv.each inv.settling (c.in-Some.ensures.first (rank graph.places) inv.marks)
+          c.advance.new.changes.at.items c.advance.new.changes.list.items (is_marked (rank graph.places) c.advance.new.marks) done.at done.list done.marked inv.calm;
       marks = done.marks (marks_left c.loop-place.marks c.pop_first.new.self c.in-Some.ensures.left (rank graph.places) inv.marks);
       each = ap length done.at ∙ length-set c.loop-place.changes.at.items c.in-Some.place (length c.loop-place.changes.list.items) ∙ inv.each;
       counted = omega (arith, done.counted, inv.counted, ap length done.list, length-append {A = Change});
@@ -161,3 +170,47 @@ returns-clause-settled g c =
     let inv = c.loop-place.invariant in
     ended graph c.graph-graph.ensures.ranked sound c.args.changed.now c.requires.fits c.args.target c.args.ranks.now c.requires.ranks c.args.before.now c.requires.states
     c.loop-place.changes.at.items c.loop-place.changes.list.items (is_marked (rank graph.places) c.loop-place.marks) inv.each inv.settling (λ m. none_marked c.loop-place.marks c.in_default.ensures.none (rank graph.places m) m)
+
+-- ---- the end before the target is computed
+
+pub done_by_one-requires : goal.done_by_one-requires
+done_by_one-requires g c =
+    let graph = c.args.version.now.graph in
+    let sound = subst IsSound c.graph-graph.ensures.graph c.len.ensures.sound in
+    let inv = c.loop-place.invariant in
+    let within = live_within graph.places c.in-Some.place
+    (turn_live graph c.graph-graph.ensures.ranked sound c.args.changed.now c.requires.fits c.args.target c.args.ranks.now c.requires.ranks c.args.before.now c.requires.states
+    c.loop-place.changes.at.items c.loop-place.changes.list.items (is_marked (rank graph.places) c.loop-place.marks) inv.each inv.settling (c.in-Some.ensures.first (rank graph.places) inv.marks)) in
+    omega (arith, within, c.requires.states.count)
+
+pub returns-in-Some-done_by_one-clause-early : goal.returns-in-Some-done_by_one-clause-early
+returns-in-Some-done_by_one-clause-early g c =
+    let graph = c.args.version.now.graph in
+    let sound = subst IsSound c.graph-graph.ensures.graph c.len.ensures.sound in
+    let inv = c.loop-place.invariant in
+    let done = c.in_ok-advance.ensures in
+    let by = c.in-Some-done_by_one.ensures.done in
+    let none = c.is_empty-is_alone.ensures.0 c.in-Some-done_by_one.ensures.alone in
+    let new = handed_target graph c.graph-graph.ensures.ranked sound c.args.changed.now c.requires.fits c.args.target c.args.ranks.now c.requires.ranks c.args.before.now c.requires.states
+    c.loop-place.changes.at.items c.loop-place.changes.list.items (is_marked (rank graph.places) c.loop-place.marks) inv.each inv.settling (c.in-Some.ensures.first (rank graph.places) inv.marks)
+    c.advance.new.changes.at.items c.advance.new.changes.list.items (is_marked (rank graph.places) c.advance.new.marks) done.at done.list done.marked inv.calm
+    (λ s. none_marked c.pop_first.new.self none (rank graph.places s) s) by.gain by.most (c.requires.handed c.in-Some.place by.most by.known) by.sees in
+    by.completes
+    ∙ ap (λ (state : State). option_map (sooner_done (min by.gain by.most)) state.done) (c.requires.states.each c.args.target)
+    ∙ sym (ap (λ (state : State). state.done) new)
+
+pub returns-in-Some-done_by_one-clause-once : goal.returns-in-Some-done_by_one-clause-once
+returns-in-Some-done_by_one-clause-once g c =
+    let graph = c.args.version.now.graph in
+    let sound = subst IsSound c.graph-graph.ensures.graph c.len.ensures.sound in
+    let inv = c.loop-place.invariant in
+    let done = c.in_ok-advance.ensures in
+    let turn = next_turn graph c.graph-graph.ensures.ranked sound c.args.changed.now c.requires.fits c.args.target c.args.ranks.now c.requires.ranks c.args.before.now c.requires.states
+    c.loop-place.changes.at.items c.loop-place.changes.list.items (is_marked (rank graph.places) c.loop-place.marks) inv.each inv.settling (c.in-Some.ensures.first (rank graph.places) inv.marks)
+    c.advance.new.changes.at.items c.advance.new.changes.list.items (is_marked (rank graph.places) c.advance.new.marks) done.at done.list done.marked in
+    distinct_from_before graph.places (changed_places c.advance.new.changes.list.items) turn.ascending
+
+pub returns-in-Some-done_by_one-clause-counted : goal.returns-in-Some-done_by_one-clause-counted
+returns-in-Some-done_by_one-clause-counted g c =
+    let done = c.in_ok-advance.ensures in
+    omega (arith, done.counted, c.loop-place.invariant.counted, ap length done.list, length-append {A = Change})

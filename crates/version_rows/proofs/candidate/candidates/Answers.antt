@@ -8,10 +8,10 @@ pub loop-place-preserved : goal.loop-place-preserved
 loop-place-preserved g c =
     let graph = c.args.version.now.graph in
     let place = c.loop-place.place in
-    let is : c.candidate_at.result ≡ candidate_at graph c.args.scope c.args.path.now place =
+    let is : c.candidate_at.result ≡ candidate_at graph c.args.selection c.args.path.now place =
     c.candidate_at.ensures
-    ∙ ap (λ (flag : Bool). candidate_in graph c.args.scope flag place (stage_at graph.places place))
+    ∙ ap (λ (flag : Bool). candidate_in graph c.args.selection flag place (stage_at graph.places place))
     (c.is_flagged-is_on_path.ensures ∙ ap (λ (flags : List Bool). get_or flags place false) c.as_slice.ensures.value ∙ c.in_ok-flags.ensures place c.loop-place-test.true) in
     collects _ _ _ _ _ _ c.loop-place.invariant
-    (next_number (candidate_at graph c.args.scope c.args.path.now) place _ c.candidate_at.result c.loop-place-test.true is)
+    (next_number (candidate_at graph c.args.selection c.args.path.now) place _ c.candidate_at.result c.loop-place-test.true is)
     c.in_ok-push_found.ensures

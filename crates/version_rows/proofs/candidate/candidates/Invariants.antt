@@ -7,5 +7,5 @@ use Rattle.version_rows.proofs.candidate.candidates.Given as goal
 -- what was found and what is left make the whole
 abbrev pub invariant-loop-place : goal.invariant-loop-place
 invariant-loop-place g l =
-    l.found.items ++ filter_map (candidate_at l.version.graph l.scope l.path) (range_with_len l.place (l.place-end - l.place))
-    ≡ candidates l.version.graph l.scope l.path
+    l.found.items ++ filter_map (candidate_at l.version.graph l.selection l.path) (range_with_len l.place (l.place-end - l.place))
+    ≡ candidates l.version.graph l.selection l.path

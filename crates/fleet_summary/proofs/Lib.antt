@@ -1,0 +1,13 @@
+pub mod CountersAdded
+pub mod FailuresAdded
+pub mod GroupParts
+pub mod GroupsAdded
+pub mod HistogramAdded
+pub mod HistogramAt
+pub mod Keys
+pub mod Ranks
+pub mod SameTables
+pub mod StepPlaces
+pub mod SummaryLaws
+pub mod Tables
+pub mod Weighing

@@ -1,0 +1,9 @@
+pub mod Counters
+pub mod Failures
+pub mod GroupCounters
+pub mod Groups
+pub mod Histogram
+pub mod Laws
+pub mod Names
+pub mod Quantiles
+pub mod Steps

@@ -1,0 +1,4 @@
+pub mod Data
+pub mod Escaped
+pub mod Lines
+pub mod Pages
