@@ -16,7 +16,7 @@ use Rattle.fleet_summary.specs.declared.group.GroupCounts.{GroupCounts}
 use Rattle.fleet_summary.specs.declared.summary.Summary.{Summary}
 use Rattle.fleet_summary.specs.Histogram.{IsHistogram, capped, count_at}
 use Rattle.fleet_summary.specs.Failures.{IsFailures, failed_by}
-use Rattle.fleet_summary.specs.GroupCounters.{GroupCounter, in_traces, in_spans, on_paths, comes_sooner, ran_at, queued_at, then_at, IsGroup, group_amount}
+use Rattle.fleet_summary.specs.GroupCounters.{GroupCounter, in_traces, in_spans, on_paths, comes_sooner, ran_at, queued_at, took_at, then_at, IsGroup, group_amount}
 use Rattle.fleet_summary.specs.Groups.{IsGroups, amount_of}
 use Rattle.fleet_summary.specs.Counters.{Counter, replied, failed, replied_at, in_group, failed_with, IsSound, IsSummaryJoin, IsSummaryOf, amount, facts_at}
 use Rattle.fleet_summary.specs.Names.{failure_cmp, name_cmp}
@@ -37,6 +37,7 @@ same_group : (first second : GroupCounts) → IsGroup first → IsGroup second �
 same_group first second is also same =
     let ran : first.ran ≡ second.ran = same_counts first.ran second.ran is.ran also.ran (λ step. same (ran_at step)) in
     let queued : first.queued ≡ second.queued = same_counts first.queued second.queued is.queued also.queued (λ step. same (queued_at step)) in
+    let times : first.times ≡ second.times = same_counts first.times second.times is.times also.times (λ step. same (took_at step)) in
     let times_then : first.times_then ≡ second.times_then = same_counts first.times_then second.times_then is.times_then also.times_then (λ step. same (then_at step)) in
     λ i. record {
       traces = same in_traces i;
@@ -45,6 +46,7 @@ same_group first second is also same =
       sooner = same comes_sooner i;
       ran = ran i;
       queued = queued i;
+      times = times i;
       times_then = times_then i;
     }
 

@@ -13,6 +13,7 @@ pub data GroupCounter : Type 0 where
   comes_sooner : GroupCounter
   ran_at : ℕ → GroupCounter
   queued_at : ℕ → GroupCounter
+  took_at : ℕ → GroupCounter
   then_at : ℕ → GroupCounter
 
 -- the number of a counter
@@ -23,6 +24,7 @@ group_amount counts on_paths = counts.paths
 group_amount counts comes_sooner = counts.sooner
 group_amount counts (ran_at step) = count_at counts.ran step
 group_amount counts (queued_at step) = count_at counts.queued step
+group_amount counts (took_at step) = count_at counts.times step
 group_amount counts (then_at step) = count_at counts.times_then step
 
 -- what one trace adds to it by what the group came to in it, where its reply took a time
@@ -33,6 +35,7 @@ group_facts_at time facts on_paths = if facts.is_on_path then 1 else 0
 group_facts_at time facts comes_sooner = time - facts.time_then
 group_facts_at time facts (ran_at step) = if step == step_of time then facts.ran else 0
 group_facts_at time facts (queued_at step) = if step == step_of time then facts.queued else 0
+group_facts_at time facts (took_at step) = if step == step_of time then 1 else 0
 group_facts_at time facts (then_at step) = if step == step_of facts.time_then then 1 else 0
 
 -- The group is in a trace, and each number has 64 bits.
@@ -41,4 +44,5 @@ pub record IsGroup (counts : GroupCounts) : Type 0 where
   pub fits : (counter : GroupCounter) → group_amount counts counter < 2 ^ 64
   pub ran : IsHistogram counts.ran
   pub queued : IsHistogram counts.queued
+  pub times : IsHistogram counts.times
   pub times_then : IsHistogram counts.times_then

@@ -1,5 +1,5 @@
 //! What is counted of one group.
-ghost use Rattle.std.specs.Prelude.{◌≡◌, ℕ, ◌+◌, ◌<◌, IfOk, OnOk};
+ghost use Rattle.std.specs.Prelude.{◌≡◌, ◌+◌, ◌<◌, IfOk, OnOk};
 ghost use Rattle.fleet_summary.specs.Histogram.{capped};
 ghost use Rattle.fleet_summary.specs.GroupCounters.{GroupCounter, IsGroup, group_amount, group_facts_at};
 
@@ -22,7 +22,9 @@ pub struct GroupCounts {
     pub ran: Histogram,
     /// The ticks of paths in which it was queued, likewise.
     pub queued: Histogram,
-    /// How many replies take how long if it takes no time.
+    /// How many of the traces' replies take how long.
+    pub times: Histogram,
+    /// How many of them take how long if it takes no time.
     pub times_then: Histogram,
 }
 
@@ -38,6 +40,7 @@ impl GroupCounts {
             sooner: 0,
             ran: Histogram::new(alloc),
             queued: Histogram::new(alloc),
+            times: Histogram::new(alloc),
             times_then: Histogram::new(alloc),
         }
     }
@@ -54,6 +57,7 @@ impl GroupCounts {
         counts.sooner = time.saturating_sub(facts.time_then);
         counts.ran.add(step, facts.ran)?;
         counts.queued.add(step, facts.queued)?;
+        counts.times.add(step, 1)?;
         counts.times_then.add(step_of(facts.time_then), 1)?;
         Ok(counts)
     }
@@ -66,6 +70,7 @@ impl GroupCounts {
     {
         self.ran.absorb(&other.ran)?;
         self.queued.absorb(&other.queued)?;
+        self.times.absorb(&other.times)?;
         self.times_then.absorb(&other.times_then)?;
         self.traces = self.traces.saturating_add(other.traces);
         self.spans = self.spans.saturating_add(other.spans);

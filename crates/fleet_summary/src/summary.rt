@@ -1,5 +1,5 @@
 //! What the replies of traces came to.
-ghost use Rattle.std.specs.Prelude.{◌≡◌, ℕ, ◌+◌, IfOk, OnOk};
+ghost use Rattle.std.specs.Prelude.{◌≡◌, ◌+◌, IfOk, OnOk};
 ghost use Rattle.fleet_summary.specs.Histogram.{capped};
 ghost use Rattle.fleet_summary.specs.Counters.{IsSound, IsSummaryJoin, Counter, amount, facts_at};
 

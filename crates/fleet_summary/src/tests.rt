@@ -97,7 +97,11 @@ fn holds(rt: &impl Abort, alloc: Global, both: &Summary) -> Result<(), Fail> {
                 (db.ran.at(step_of(100)), db.queued.at(step_of(100))),
                 (40, 10)
             );
-            assert_eq!(rt; (db.ran.total(), db.times_then.total()), (40, 2));
+            assert_eq!(rt;
+                (db.ran.total(), db.times.total(), db.times_then.total()),
+                (40, 2, 2)
+            );
+            assert_eq!(rt; db.times.at(step_of(300)), 1);
             assert_eq!(rt; db.times_then.at(step_of(50)), 1);
         }
     }

@@ -1,0 +1,13 @@
+pub mod Bases
+pub mod Chains
+pub mod Depths
+pub mod Exact
+pub mod Joins
+pub mod Lasts
+pub mod Lists
+pub mod Looks
+pub mod Nexts
+pub mod Pushed
+pub mod ReadLists
+pub mod ReadTables
+pub mod Said

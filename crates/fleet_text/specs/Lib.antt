@@ -1,0 +1,6 @@
+pub mod Back
+pub mod Held
+pub mod Json
+pub mod Laws
+pub mod Parts
+pub mod Says

@@ -1,0 +1,3 @@
+pub mod GroupNames
+pub mod Replies
+pub mod Stages
