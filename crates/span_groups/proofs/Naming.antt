@@ -2,8 +2,9 @@
 use Rattle.std.proofs.Common.{◌≡◌, ℕ, zero, suc, ◌+◌, ◌-◌, ◌^◌, ◌<◌, ◌≤◌, Bool, false, cond, List, [], ◌∷◌, ◌++◌, Option, Some, None, length, get_or, refl, ap, sym, ◌∙◌, arith, subst, ⊎_elim}
 use Rattle.std.specs.Prelude.{All, bytes_eq, count_by, map, slice_get, slice_index_or, slice_set, if◌then◌else◌, is_some}
 use Rattle.std.specs.Option.{option_and_then, option_map, option_map_or}
-use Rattle.std.proofs.lemmas.Bool.{cases_eq, cond-false, cond-true, false_from_ne_true}
-use Rattle.std.proofs.lemmas.List.{get_or-set_other, get_or-set_same, length-set, map-append}
+use Rattle.std.proofs.lemmas.Bool.{cases_eq, cases_lt, cond-false, cond-true, false_from_ne_true}
+use Rattle.std.proofs.Math.ListN.{get_or-append}
+use Rattle.std.proofs.lemmas.List.{get_or-set_other, get_or-set_same, length-append, length-set, map-append}
 use Rattle.std.proofs.lemmas.List.Elements.{All-cons, All-nil, All-push}
 use Rattle.std.proofs.lemmas.List.Sums.{count_by-le-length, sum_by-cons, sum_by_push}
 use Rattle.std.proofs.lemmas.Option.{same_Some, slice_get-get_or, slice_get_within}
@@ -12,9 +13,9 @@ use Rattle.fleet_summary.specs.Histogram.{capped}
 use Rattle.span_groups.specs.declared.grouping.Group.{Group}
 use Rattle.span_groups.specs.declared.making.StageOf.{StageOf}
 use Rattle.span_groups.specs.Grouping.{counted_at, name_of}
-use Rattle.span_groups.specs.Groups.{counted_as, counted_by, empty_group, number_known, AreApart, AreCounted, AreKnown, AreNumbers}
+use Rattle.span_groups.specs.Groups.{counted_as, counted_by, empty_group, number_known, AreApart, AreCounted, AreInhabited, AreKnown, AreNumbers}
 use Rattle.span_groups.specs.Numbered.{numbered}
-use Rattle.span_groups.proofs.Numbering.{named_still}
+use Rattle.span_groups.proofs.Numbering.{named_still, pushed_last}
 
 heads : {A : Type 0} {x y : A} {xs ys : List A} → x ∷ xs ≡ y ∷ ys → x ≡ y
 heads e = cc
@@ -103,7 +104,48 @@ module _ (known : List (List ℕ × ℕ)) (groups groups_then : List Group) (nam
     of None is = subst (AreCounted names) (sym (grown_as None is)) (counted_fresh known groups are names numbers name each counted is)
     of (Some own) is = subst (AreCounted names) (sym (grown_as (Some own) is)) counted
 
+  -- each but that of the name has a span, where each had one before
+  pub inhabited_then : AreInhabited groups → (known_then : List (List ℕ × ℕ)) → AreKnown known_then groups_then → (number : ℕ) → name_of groups_then number ≡ Some name
+      → (k : ℕ) (d : Group) → k < length groups_then → (k ≡ number → ⊥) → 0 < (get_or groups_then k d).spans
+  inhabited_then were known_then are number own k d short differ = of (number_known known name) refl where
+    stands : groups_then ≡ groups ++ empty_group name ∷ [] → k < length groups → get_or groups_then k d ≡ get_or groups k d
+    stands grew within = ap (λ (list : List Group). get_or list k d) grew ∙ get_or-append groups (empty_group name ∷ []) d k within
+
+    named : groups_then ≡ groups ++ empty_group name ∷ [] → k ≡ length groups → name_of groups_then k ≡ Some name
+    named grew last = ap (option_map (λ (group : Group). group.name)) (ap (λ (list : List Group). slice_get list k) grew ∙ pushed_last groups k (empty_group name) last)
+
+    of : (found : Option ℕ) → number_known known name ≡ found → 0 < (get_or groups_then k d).spans
+    of (Some there) is =
+        let same : groups_then ≡ groups = grown_as (Some there) is in
+        subst (λ (list : List Group). 0 < (get_or list k d).spans) (sym same) (were k d (subst (λ (list : List Group). k < length list) same short))
+    of None is =
+        let grew : groups_then ≡ groups ++ empty_group name ∷ [] = grown_as None is in
+        let long : length groups_then ≡ length groups + 1 = ap (λ (list : List Group). length list) grew ∙ length-append groups (empty_group name ∷ []) in
+        ⊎_elim
+        (λ within. subst (λ (group : Group). 0 < group.spans) (sym (stands grew within)) (were k d within))
+        (λ past. absurd (differ (apart known_then groups_then are k number name (named grew (omega (arith, long, short, past))) own)))
+        (cases_lt k (length groups))
+
 -- ---- a span more of a group
+
+one_more : (spans : ℕ) → 0 < capped (spans + 1)
+one_more spans = omega arith
+
+-- a group with one span more has one, and so has each where each other one has
+inhabited_set : (groups : List Group) (number : ℕ) (group : Group) → slice_get groups number ≡ Some group
+    → ((k : ℕ) (d : Group) → k < length groups → (k ≡ number → ⊥) → 0 < (get_or groups k d).spans)
+    → AreInhabited (slice_set groups number (record group { spans = capped (group.spans + 1) }))
+inhabited_set groups number group here others k d short =
+    let more : Group = record group { spans = capped (group.spans + 1) } in
+    let long : length (slice_set groups number more) ≡ length groups = length-set groups number more in
+    ⊎_elim
+    (λ (same : k ≡ number).
+    subst (λ (one : Group). 0 < one.spans)
+    (sym (ap (λ (at : ℕ). get_or (slice_set groups number more) at d) same ∙ get_or-set_same groups number more d (slice_get_within groups number group here)))
+    (one_more group.spans))
+    (λ (differ : k ≡ number → ⊥).
+    subst (λ (one : Group). 0 < one.spans) (sym (get_or-set_other groups number k more d differ)) (others k d (omega (arith, short, long)) differ))
+    (cases_eq k number)
 
 -- each group keeps its name
 pub recounted : (groups : List Group) (number spans : ℕ) (group : Group) → slice_get groups number ≡ Some group → (k : ℕ) → name_of (slice_set groups number (record group { spans = spans })) k ≡ name_of groups k
@@ -195,6 +237,17 @@ module _ (groups groups_then : List Group) (name : List ℕ) (number : ℕ) (her
         subst (AreCounted (names ++ name ∷ []))
         (sym (counts ∙ ap (λ (found : Option Group). option_map_or (λ (group : Group). slice_set groups number (record group { spans = capped (group.spans + 1) })) found groups) is))
         (counted_set known groups are names counted name few number group is (same_Some group.name name (sym (ap (option_map (λ (group : Group). group.name)) is) ∙ here)))
+
+  pub inhabited_more : ((k : ℕ) (d : Group) → k < length groups → (k ≡ number → ⊥) → 0 < (get_or groups k d).spans) → AreInhabited groups_then
+  inhabited_more others = of (slice_get groups number) refl where
+    of : (found : Option Group) → slice_get groups number ≡ found → AreInhabited groups_then
+    of None is = nothing (sym (ap (option_map (λ (group : Group). group.name)) is) ∙ here) where
+      nothing : None ≡ Some name → AreInhabited groups_then
+      nothing e = cc
+    of (Some group) is =
+        subst AreInhabited
+        (sym (counts ∙ ap (λ (found : Option Group). option_map_or (λ (group : Group). slice_set groups number (record group { spans = capped (group.spans + 1) })) found groups) is))
+        (inhabited_set groups number group is others)
 
 -- ---- the stages
 

@@ -1,5 +1,5 @@
 -- The groups of spans of some names.
-use Rattle.std.specs.Prelude.{◌≡◌, ℕ, Bool, List, All, bytes_eq, count_by, map, Option, Some, None, slice_get, slice_index_or}
+use Rattle.std.specs.Prelude.{◌≡◌, ℕ, ◌<◌, Bool, List, All, bytes_eq, count_by, map, Option, Some, None, slice_get, slice_index_or}
 use Rattle.std.specs.BTreeMap.{is_at}
 use Rattle.std.specs.List.Sorted.{IsStrictlySortedBy}
 use Rattle.std.specs.Map.{keys_of, lookup}
@@ -20,6 +20,10 @@ AreApart groups = (one other : ℕ) (name : List ℕ) → name_of groups one ≡
 abbrev pub AreCounted : List (List ℕ) → List Group → Type 0
 AreCounted names groups = All (λ (group : Group). group.spans ≡ count_by (bytes_eq group.name) names) groups
 
+-- none is without a span
+abbrev pub AreInhabited : List Group → Type 0
+AreInhabited groups = All (λ (group : Group). 0 < group.spans) groups
+
 -- these are the numbers of the groups of the names
 abbrev pub AreNumbers : List (List ℕ) → List Group → List ℕ → Type 0
 AreNumbers names groups numbers = map (name_of groups) numbers ≡ map (λ (name : List ℕ). Some name) names
@@ -38,6 +42,7 @@ counted_as groups counted = option_map (λ (name : List ℕ). (name, counted.is_
 pub record IsGroupingOf (names : List (List ℕ)) (stages : List (Option StageOf)) (grouping : Grouping) : Type 0 where
   pub apart : AreApart grouping.groups.items
   pub counted : AreCounted names grouping.groups.items
+  pub inhabited : AreInhabited grouping.groups.items
   -- each name has a group
   pub each : All (λ name. (number : ℕ) × (name_of grouping.groups.items number ≡ Some name)) names
   -- each stage counts to that of its span's name
@@ -59,6 +64,7 @@ pub record AreKnown (known : List (List ℕ × ℕ)) (groups : List Group) : Typ
 pub record IsOfNames (names : List (List ℕ)) (made : NamedGroups) : Type 0 where
   pub known : AreKnown made.known.entries made.groups.items
   pub counted : AreCounted names made.groups.items
+  pub inhabited : AreInhabited made.groups.items
   pub numbers : AreNumbers names made.groups.items made.numbers.items
 
 -- a group with no span

@@ -17,6 +17,7 @@ returns c =
     record {
       apart = apart made.known.entries groups is.known;
       counted = is.counted;
+      inhabited = is.inhabited;
       each = each_grouped groups c.args.names.now numbers is.numbers;
       stages_are = λ place.
           ap (λ (stages : List (Option Counted)). option_and_then (counted_as groups) (counted_at stages place))

@@ -1,7 +1,7 @@
 use Rattle.std.proofs.Common.{◌≡◌, ◌∙◌, ◌++◌, ◌∷◌, [], ℕ, sym, subst, arith}
 use Rattle.span_groups.specs.Grouping.{name_of}
 use Rattle.span_groups.specs.Groups.{AreNumbers}
-use Rattle.span_groups.proofs.Naming.{as_many, counted_more, counted_then, known_still, named_then, numbers_more, numbers_still, same_names}
+use Rattle.span_groups.proofs.Naming.{as_many, counted_more, counted_then, inhabited_more, inhabited_then, known_still, named_then, numbers_more, numbers_still, same_names}
 use Rattle.span_groups.proofs.groups.NamedGroups.add.Goals as goal
 
 pub returns : goal.returns
@@ -22,6 +22,7 @@ returns c names was =
       counted = counted_more groups_then groups_new name number made.number c.count_span.ensures known_then made.known names
           (counted_then known groups groups_then name made.groups c.requires names numbers was.numbers was.counted)
           (let many = as_many groups names numbers was.numbers in omega (arith, many, c.len.ensures, c.args.self.now.numbers.ok.0));
+      inhabited = inhabited_more groups_then groups_new name number made.number c.count_span.ensures (inhabited_then known groups groups_then name made.groups was.inhabited known_then made.known number made.number);
       numbers = subst (AreNumbers (names ++ name ∷ []) groups_new) (sym c.in_ok-push.ensures.items)
           (numbers_more groups_new names numbers name number (numbers_still groups_then groups_new (λ k other here. same k ∙ here) names numbers each_then) (same number ∙ made.number));
     }
