@@ -27,10 +27,18 @@ _whatif_words() {
   for ((at = 1; at < COMP_CWORD; at++)); do
     case $closed${COMP_WORDS[at]} in
       --) closed=after- ;;
-      --top | --want | --within | --by | --as | --workers | --trace | --unit | --stage | --origin | --what | --format)
+      --top | --want | --within | --by | --as | --workers | --trace | --unit | --reply | --slowest | --stage | --origin | --what | --from | --to | --min | --group | --script | --format)
         option=${COMP_WORDS[at]}
         if [ "${COMP_WORDS[at + 1]}" = = ]; then at=$((at + 1)); fi
         at=$((at + 1))
+        ;;
+      --version)
+        # (without a command it takes no number)
+        if [ -n "$command" ]; then
+          option=--version
+          if [ "${COMP_WORDS[at + 1]}" = = ]; then at=$((at + 1)); fi
+          at=$((at + 1))
+        fi
         ;;
       -?*) ;;
       *)
@@ -49,7 +57,15 @@ _whatif_words() {
       --stage | --origin) _whatif_stages "$1" "${file:-$(_whatif_file_behind)}" ;;
       --trace) _whatif_traces "$1" "${file:-$(_whatif_file_behind)}" ;;
       --unit) echo us ns ms ;;
+      --by)
+        case $command in
+          fleet) echo span service ;;
+          *) echo - ;;
+        esac
+        ;;
       --what) echo all path ;;
+      --group) echo service ;;
+      --script) ;;
       --want) echo value ;;
       --format)
         case $command in
@@ -67,24 +83,26 @@ _whatif_words() {
       rescue) echo --by --as --top --quiet --strict --format -h --help ;;
       failures) echo --origin --quiet --strict --format -h --help ;;
       try) echo --stage --save --draw --quiet --strict --format -h --help ;;
-      draw) echo --stage --what --from --to --min --format --quiet --strict -h --help ;;
+      draw) echo --stage --what --from --to --min --group --script --version --format --quiet --strict -h --help ;;
       page) echo --stage --quiet --strict -h --help ;;
       many) echo --workers --quiet --strict --format -h --help ;;
       check) echo --strict -h --help ;;
+      fleet) echo --reply --by --slowest --part --join --unit --clocks --calls --quiet --strict --format -h --help ;;
       import) echo --list --each --trace --unit --clocks --calls --format --quiet -h --help ;;
+      console) echo --steps --quiet --strict -h --help ;;
       export) echo --quiet --strict -h --help ;;
       new) echo -h --help ;;
       help) echo - ;;
       *) echo --quiet --strict --format -h --help ;;
     esac
   elif [ -z "$command" ]; then
-    echo report explain sweep slack rescue ends failures try compare draw page check serve export many import new help
+    echo report explain sweep slack rescue ends failures try compare draw page check serve console export many import fleet new help
   else
     case $command:$places in
-      help:0) echo report explain sweep slack rescue ends failures try compare draw page check serve export many import new help ;;
+      help:0) echo report explain sweep slack rescue ends failures try compare draw page check serve console export many import fleet new help ;;
       new:0) echo first timeout timer retry fallback breaker cache queue race batch ;;
       explain:1 | sweep:1 | slack:1 | rescue:1 | compare:2 | try:[1-9]*) _whatif_stages "$1" "$file" ;;
-      report:0 | explain:0 | sweep:0 | slack:0 | rescue:0 | ends:0 | failures:0 | try:0 | compare:0 | compare:1 | draw:0 | page:0 | check:0 | serve:0 | export:0 | export:1 | many:* | import:0) ;;
+      report:0 | explain:0 | sweep:0 | slack:0 | rescue:0 | ends:0 | failures:0 | try:0 | compare:0 | compare:1 | draw:0 | page:0 | page:1 | check:0 | serve:0 | console:0 | export:0 | export:1 | many:* | import:0 | fleet:*) ;;
       *) echo - ;;
     esac
   fi

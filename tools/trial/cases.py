@@ -7,7 +7,7 @@ import time
 from .run import CLOSED, Case, File, Pieces, Shut
 
 # The refusals that the program can print. Each has a case in which it is wanted, or the trial fails.
-PRINTED = [*range(10, 23), 41, *range(50, 56), 57, 58, 70, 71, 72, *range(80, 86), 90]
+PRINTED = [*range(10, 23), 41, *range(50, 56), 57, 58, 70, 71, 72, *range(80, 88), 90]
 # Those that needn't come, or can't, and why.
 SELDOM_PRINTED = {35: "only where no thread can be started; scripts may then be run one after another instead"}
 NEVER_PRINTED = {

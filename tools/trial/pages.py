@@ -13,6 +13,7 @@ import urllib.parse
 
 from . import recomputed
 from .browser import Browser, Gone
+from .pictures import in_micros
 
 PARTS = "crates/incident_page/page"
 MOST_BYTES = 64 * 1024
@@ -180,8 +181,10 @@ def derived(trial, file, script=None, sample=None):
         told = told or difference([(it["name"], it["reaches"]) for it in failures["stages"]], [(it["name"], it["reach"]) for it in came if it["reach"] is not None], f"version {version}: failures")
         told = told or difference([(it["name"], it["fate"]) for it in ends["stages"]], [(it["name"], fate) for it in came for fate in it["fates"]], f"version {version}: ends")
         if len(came) <= 2000:
+            with open(os.path.join(trial.folder, of), encoding="utf-8") as given:
+                unit = json.load(given).get("unit")
             drawn = spans_of(json.loads(trial.run("draw", "--format", "trace", "--quiet", of).stdout))
-            told = told or difference([(it["name"], drawn.get(it["name"], {})) for it in came], [(it["name"], shown_spans(it)) for it in came], f"version {version}: bars")
+            told = told or difference([(it["name"], drawn.get(it["name"], {})) for it in came], [(it["name"], shown_spans(it, unit)) for it in came], f"version {version}: bars")
         if told:
             return told
     return ""
@@ -191,13 +194,16 @@ def answers_recording(trial, file, lines, version):
     return trial.told("serve", file, stdin="\n".join([*lines, json.dumps({"do": "report", "version": version, "what": "recording"})]).encode())[-1]["recording"]
 
 
-def shown_spans(it):
-    """The bars of a stage as the trace events of `draw` have them."""
+def shown_spans(it, unit):
+    """The bars of a stage as the trace events of `draw` have them, in microseconds."""
+    def span(start, end):
+        return in_micros(start, unit), in_micros(end, unit) - in_micros(start, unit)
+
     bars = it["bars"]
     if bars is None:
-        return {"ran": (it["moment"], 0)} if it["moment"] is not None else {}
-    queued = {"queued": (bars["from"], bars["start"] - bars["from"])} if it["queued"] and bars["start"] > bars["from"] else {}
-    return queued | {"ran": (bars["start"], bars["to"] - bars["start"])}
+        return {"ran": span(it["moment"], it["moment"])} if it["moment"] is not None else {}
+    queued = {"queued": span(bars["from"], bars["start"])} if it["queued"] and bars["start"] > bars["from"] else {}
+    return queued | {"ran": span(bars["start"], bars["to"])}
 
 
 # ---- what stands in the page
@@ -270,22 +276,22 @@ def all_stages(trial, file, pages=999):
 
 
 # From where to where the run bar of a stage is coloured in the picture, and from where to where it ought to be.
-BAR = """(name => { const { model, pitch, target } = whatif.shown, one = model.by.get(name), row = whatif.shownFor(one), scroll = document.getElementById('scroll');
-const plot = whatif.plotsFor(scroll.clientWidth).at(-1), canvas = document.getElementById('rows'), y = (row.row + .5) * pitch - scroll.scrollTop - 4;
-const strong = new Set(whatif.stepsOf(target).map(step => step.name)).has(name), wanted = whatif.look[one.failed ? strong ? 'fail' : 'fail-soft' : strong ? 'ran-path' : 'ran'];
+BAR = """((name, at) => { const { pitch, target } = whatif.shown, scroll = document.getElementById('scroll'), plot = whatif.plotsFor(scroll.clientWidth).at(at), { model } = plot, one = model.by.get(name);
+const row = whatif.shownFor(whatif.shown.model.by.get(name)), canvas = document.getElementById('rows'), y = (row.row + .5) * pitch + plot.up - scroll.scrollTop - 4;
+const strong = new Set(whatif.stepsOf(model.by.get(target.name)).map(step => step.name)).has(name), wanted = whatif.look[one.failed ? strong ? 'fail' : 'fail-soft' : strong ? 'ran-path' : 'ran'];
 const probe = document.createElement('canvas').getContext('2d'); probe.fillStyle = wanted; probe.fillRect(0, 0, 1, 1); const colour = probe.getImageData(0, 0, 1, 1).data;
 const copy = document.createElement('canvas'); copy.width = canvas.width; copy.height = 1; const pen = copy.getContext('2d', { willReadFrequently: true });
 pen.drawImage(canvas, 0, -Math.round(y)); const dots = pen.getImageData(0, 0, copy.width, 1).data, is = x => [0, 1, 2].every(part => dots[x * 4 + part] === colour[part]);
 let from = -1, to = -1; for (let x = Math.ceil(plot.x) - 4, begun = x; x < plot.x + plot.wide + 4; x++) if (!is(x)) begun = x + 1; else if (x + 1 - begun > to - from) [from, to] = [begun, x + 1];
-return [from, to, plot.of(one.bars.start), plot.of(one.bars.to)]; })(%s)"""
+return [from, to, plot.of(one.bars.start), plot.of(one.bars.to)]; })(%s, %d)"""
 
 
-def drawn(trial, names):
-    """The bars of these stages, by the dots of the canvas."""
+def drawn(trial, names, at=-1):
+    """The bars of these stages in one of the plots, by the dots of the canvas."""
     for name in names:
         trial.ask(f"whatif.choose(whatif.shown.model.by.get({json.dumps(name)}), true), whatif.draw()")
         trial.browser.settle()
-        came = trial.ask(BAR % json.dumps(name))
+        came = trial.ask(BAR % (json.dumps(name), at))
         if not isinstance(came, list):
             return f"{name}: {came}"
         from_, to, start, end = came
@@ -560,8 +566,41 @@ def late_reply(trial):
     yield "late reply: calm", trial.calm()
 
 
+def text_answers(trial, lines):
+    """What `serve` answers each line that is refused, as text, by the line's number."""
+    script = [line for line in lines.split("\n") if line]
+    return {at + 1: answer for at in range(len(script)) for answer in [trial.run("serve", "--quiet", "late-reply.json", stdin="\n".join(script[:at + 1]).encode()).stdout.decode().split("\n")[-2]] if answer.startswith("refused ")}
+
+
+def shown_state(state):
+    return "absent" if state is None else "pending" if state["outcome"] is None else f"{short(state['outcome'])} at {state['moment']}"
+
+
+def later(old, new):
+    by = new["moment"] - old["moment"] if old and new and None not in (old["moment"], new["moment"]) else None
+    return "-" if by is None else f"+{by}" if by > 0 else str(by)
+
+
+# The two plots: where they begin, how wide they are, where a tick lies, and how far their lines are from the middle of a row.
+PLOTS = "whatif.plotsFor(document.getElementById('scroll').clientWidth).map(plot => [plot.x, plot.wide, plot.of(40), plot.up, plot.model.version])"
+
+
+def laid_out(trial, version, against):
+    """Before and after stand one above the other on one axis, or beside each other."""
+    trial.ask("document.getElementById('how').value === 'above' || document.getElementById('how').onchange(document.getElementById('how').value = 'above')")
+    above = trial.ask(PLOTS)
+    trial.browser.key("w")
+    beside = trial.ask(PLOTS)
+    trial.browser.key("w")
+    if [it[4] for it in above] != [against, version] or [it[4] for it in beside] != [against, version]:
+        return f"plots of {above}, {beside}"
+    if above[0][:3] != above[1][:3] or not above[0][3] < 0 < above[1][3]:
+        return f"not on one axis, or not one above the other: {above}"
+    return "" if beside[0][0] + beside[0][1] < beside[1][0] and beside[0][3] == beside[1][3] == 0 and near(beside[0][2] - beside[0][0], beside[1][2] - beside[1][0]) else f"not beside each other: {beside}"
+
+
 def versions(trial):
-    """Each version of a script beside the recording, where pages show these."""
+    """Each version of a script beside the recording and beside the version that it was made of, where pages show these."""
     if not trial.takes_script():
         return
     told = trial.open("late-reply.json", "late-reply.script", "reply")
@@ -570,31 +609,87 @@ def versions(trial):
         return
     with open(os.path.join(trial.folder, "late-reply.script"), encoding="utf-8") as given:
         lines = given.read()
-    replies = trial.told("serve", "late-reply.json", stdin=lines.encode())
+    serve = lambda *asked: trial.told("serve", "late-reply.json", stdin="\n".join([lines.rstrip("\n"), *map(json.dumps, asked)]).encode())
+    replies = serve()
     committed = [it["version"] for it in replies if it.get("reply") == "committed"]
+    yield "versions: there are some", "" if len(committed) > 2 else f"{committed}"
     yield "versions: the last one is shown beside the recording", "" if trial.ask("[whatif.shown.model.version, whatif.shown.other.version]") == [committed[-1], 0] else "another one"
     rows = table(trial, "#steps")
-    yield "versions: steps", difference([str(it["line"]) for it in replies], [row[0] for row in rows], "lines")
+    yield "versions: steps", difference([[str(it["line"]), lines.split("\n")[it["line"] - 1]] for it in replies], [row[:2] for row in rows], "lines")
     yield "versions: their answers", difference([f"version {it['version']}" for it in replies if it.get("reply") == "committed"], [row[2] for row in rows if re.fullmatch(r"version \d+", row[2])], "answers")
+    refused = text_answers(trial, lines)
+    yield "versions: what was refused", difference([[str(line), FAILED + text] for line, text in refused.items()], [[row[0], row[2]] for row in rows if row[2].startswith(FAILED)], "refusals") if refused else "nothing was refused"
     trial.picture("late-reply-versions")
+    parents = {it["version"]: it["parent"] for it in (serve({"do": "report", "version": version, "what": "changes"})[-1] for version in committed)}
     for version in committed:
-        trial.ask(f"whatif.showVersion({version}, 0)")
-        trial.browser.settle()
-        asked = json.dumps({"do": "report", "version": version, "what": "changes", "against": 0})
-        report = trial.told("serve", "late-reply.json", stdin=(lines.rstrip("\n") + "\n" + asked).encode())[-1]
-        shown = lambda state: "absent" if state is None else "pending" if state["outcome"] is None else f"{short(state['outcome'])} at {state['moment']}"
-        same = lambda one, two: one and two and (one["outcome"], one["moment"]) == (two["outcome"], two["moment"])
-        wanted = [[it["name"], shown(it["old"]), shown(it["new"])] for it in report["stages"] if not same(it["old"], it["new"])]
-        came = [row[:3] for row in table(trial, "#changed") if row[2] != "absent"]
-        yield f"versions: what changed in {version}", difference(sorted(wanted), sorted(came), "rows")
-        path = trial.told("serve", "late-reply.json", stdin=(lines.rstrip("\n") + "\n" + json.dumps({"do": "report", "version": version, "what": "path", "stage": "reply"})).encode())[-1]
+        for beside, against in (("0", 0), ("parent", parents[version])):
+            name = f"{version} beside {'its parent' if beside == 'parent' else against}"
+            trial.ask(f"document.getElementById('before').onchange(document.getElementById('before').value = '{beside}'), document.getElementById('after').onchange(document.getElementById('after').value = '{version}')")
+            trial.browser.settle()
+            yield f"versions: {name} is shown", "" if trial.ask("[whatif.shown.model.version, whatif.shown.other.version, document.getElementById('before').value]") == [version, against, beside] else trial.ask("[whatif.shown.model.version, whatif.shown.other.version, document.getElementById('before').value]")
+            report = serve({"do": "report", "version": version, "what": "changes", **({} if beside == "parent" else {"against": against})})[-1]
+            same = lambda one, two: one and two and (one["outcome"], one["moment"]) == (two["outcome"], two["moment"])
+            wanted = [[it["name"], shown_state(it["old"]), shown_state(it["new"]), later(it["old"], it["new"])] for it in report["stages"] if not same(it["old"], it["new"])]
+            # The report is of the stages that are there; one that was taken away has a row too.
+            came = [row for row in table(trial, "#changed") if row[2] != "absent"]
+            yield f"versions: what changed in {name}", difference(sorted(wanted), sorted(came), "rows")
+            marked = trial.ask("[...whatif.shown.changed.keys()].filter(name => whatif.shown.model.by.has(name))")
+            yield f"versions: what is marked in {name}", difference(sorted(row[0] for row in wanted), sorted(marked), "stages")
+            counts = trial.ask("[whatif.shown.nodes.filter(node => !node.parent).reduce((sum, node) => sum + node.differ, 0), whatif.shown.changed.size]")
+            yield f"versions: groups of {name}", "" if counts[0] == counts[1] > 0 else f"{counts}"
+            yield f"versions: drawn in {name}", drawn(trial, ["prices"]) or drawn(trial, ["prices"], 0)
+            if beside == "parent":
+                continue
+            yield f"versions: how {name} is laid out", laid_out(trial, version, against)
+            before, after = serve({"do": "report", "version": against, "what": "all"}, {"do": "report", "version": version, "what": "all"})[-2:]
+            old = {it["name"]: shown_state(it) for it in before["stages"]}
+            trial.browser.key("t")
+            came = trial.ask(TABLE % 9)
+            trial.browser.key("t")
+            yield f"versions: table of {name}", difference(sorted([it["name"], old.get(it["name"], "absent")] for it in after["stages"]), sorted([row[0], row[-1]] for row in came), "rows")
+        path = serve({"do": "report", "version": version, "what": "path", "stage": "reply"})[-1]
         yield f"versions: path in {version}", difference(path_rows(path["steps"]), table(trial, "#path"), "rows")
-        yield f"versions: drawn in {version}", drawn(trial, ["prices", "basket", "request"])
+        trial.ask("whatif.choose(whatif.shown.target)")
+        changed = trial.ask("whatif.shown.changed.has('reply')")
+        yield f"versions: what is told of {version}", "" if ("before: " in trial.ask("document.getElementById('say').innerText")) == changed else trial.ask("document.getElementById('say').innerText")
+    trial.ask("document.getElementById('before').onchange(document.getElementById('before').value = '0')")
+    trial.ask("dispatchEvent(new Event('beforeprint'))")
+    paper = trial.ask("[...document.querySelectorAll('#paper canvas')].map(one => new Set(one.getContext('2d').getImageData(0, 0, one.width, one.height).data).size)")
+    trial.ask("dispatchEvent(new Event('afterprint'))")
+    yield "versions: strips for paper", "" if isinstance(paper, list) and paper and all(it > 20 for it in paper) else f"{paper}"
     trial.browser.key("v")
     yield "versions: v turns to the next", "" if trial.ask("[whatif.shown.model.version, whatif.shown.other]") == [0, None] else "another one"
     trial.browser.key("V")
     yield "versions: V turns back", "" if trial.ask("whatif.shown.model.version") == committed[-1] else "another one"
+    trial.ask("[...document.querySelectorAll('#steps button.name')].find(one => one.innerText === 'version 2').click()")
+    yield "versions: a step turns to its version", "" if trial.ask("[whatif.shown.model.version, whatif.shown.other.version]") == [2, 0] else "another one"
     yield "versions: calm", trial.calm()
+
+
+def odd_scripts(trial):
+    """Scripts of no steps, of lines that are no JSON, and of markup."""
+    if not trial.takes_script():
+        return
+    mark = '<img src=x onerror=alert(1)></script><!--'
+    scripts = {
+        "of no steps": "", "of blank lines": "\n\r\n\n", "of no versions": '{"do":"report","version":0,"what":"all"}\n',
+        "of lines that are no JSON": f'nothing\n\n{mark}\n[1\n{{"do":"open","session":1,"version":0}}\r\n"<!--"\n',
+        "of markup": json.dumps({"do": "open", "session": 1, "version": 0}) + "\n" + json.dumps({"do": "add", "session": 1, "new": {"name": "</script><script>", "op": "copy", "sources": ["reply"], "x-note": mark}}) + "\n" + json.dumps({"do": "setTimes", "session": 1, "stage": "stock-south", "queued": 3, "runs": 4, "x-note": mark}),
+    }
+    for at, (name, text) in enumerate(scripts.items()):
+        script = trial.file(f"odd-{at}<!--.script", text)
+        told = trial.open("late-reply.json", script, "reply")
+        yield f"a script {name}: opens", told
+        if told:
+            continue
+        replies = trial.told("serve", "late-reply.json", stdin=text.encode())
+        lines = text.split("\n")
+        wanted = [[str(it["line"]), lines[it["line"] - 1].strip()] for it in replies]
+        yield f"a script {name}: steps", difference(wanted, [row[:2] for row in table(trial, "#steps")], "lines") if wanted else "" if trial.ask("document.querySelectorAll('#steps tbody tr').length") == 0 else "rows"
+        count = max([0, *(it["version"] for it in replies if it.get("reply") == "committed")])
+        yield f"a script {name}: versions", "" if trial.ask("document.getElementById('after').options.length") == count + 1 else "another number"
+        yield f"a script {name}: derived", derived(trial, "late-reply.json", script)
+        yield f"a script {name}: calm", trial.calm()
 
 
 def tree_of(trial):
@@ -700,7 +795,7 @@ def results(top, program, path, folder, pictures, words, told):
     try:
         trial = Trial(top, program, browser, folder, pictures)
         groups = {
-            "examples": lambda: examples(trial), "late reply": lambda: late_reply(trial), "versions": lambda: versions(trial), "trace": lambda: traced(trial), "hostile": lambda: hostile(trial),
+            "examples": lambda: examples(trial), "late reply": lambda: late_reply(trial), "versions": lambda: versions(trial), "odd scripts": lambda: odd_scripts(trial), "trace": lambda: traced(trial), "hostile": lambda: hostile(trial),
             "at random": lambda: at_random(trial, 12), "shapes": lambda: shapes(trial, told), **{f"{count} stages": (lambda count=count: mixed(trial, count, told)) for count in (500, 5000, 16384)},
         }
         for name, group in groups.items():

@@ -1,4 +1,5 @@
 """Pictures of recordings: SVG files and trace events, held against what the reports of the same recording tell."""
+import dataclasses
 import itertools
 import json
 import re
@@ -12,13 +13,17 @@ from .run import CLOSED, Case, run, shown
 
 SVG = "{http://www.w3.org/2000/svg}"
 MOST_ROWS = 200
+MOST_BY_SERVICE = 100
 MOST_EVENTS = 2_000
 MOST_HIGH = 4_000
 SOME = 12
 NO_STAGE = "refused 10 NoStage\n"
+NO_VERSION = "refused 52 NoVersion\n"
 PENDING = recording(stage("manual"), stage("thenRun", "b", sources=["a"], action=None))
 # (what is below follows the operations of these stages alone)
 CUT_BY_ENDS = json.dumps({"form": 2, "stages": [it for it in json.loads(courses.CUT)["stages"] if it["op"] in ("async", "thenApply")]})
+ADDED = {"do": "add", "session": 1, "new": stage("copy", "c", sources=["b"])}
+S = "".join(json.dumps(it) + "\n" for it in ({"do": "open", "session": 1, "version": 0}, {"do": "setTimes", "session": 1, "stage": "a", "queued": 0, "runs": 3}, ADDED))
 STATE = re.compile(r"(\S+) \S+ rank (\d+) (.*)")
 
 
@@ -29,6 +34,19 @@ def fan(count):
         action = ["throw", "com.shop.Refused"] if at % 7 == 0 else 1
         stages.append({"name": f"stage-{at}-{'x' * (at % 50)}", "op": "thenRun", "sources": ["root"], "queued": at % 5, "runs": at % 11, "action": action})
     return json.dumps({"form": 2, "stages": stages})
+
+
+def of_services(text, unit):
+    """The same recording as if it were imported, with stages of three services."""
+    stages = json.loads(text)["stages"]
+    named = {it["name"]: f"{('shop', 'pay', 'web')[at * at % 4 % 3 if at % 5 else 2]}.{it['name']}" for at, it in enumerate(stages)}
+    named["s59"] = "web.s59"
+    scale = 700 if unit == "ns" else 1
+    scaled = lambda it, members: {member: it[member] * scale for member in members if member in it}
+    ends = lambda it: {"ends": [{**end, **scaled(end, ("at", "delay"))} for end in it["ends"]]} if "ends" in it else {}
+    times = lambda it: {**scaled(it, ("created", "queued", "runs", "pinMoment")), **ends(it)}
+    renamed = [{**it, **times(it), "name": named[it["name"]], **({"sources": [named[source] for source in it["sources"]]} if "sources" in it else {})} for it in stages]
+    return json.dumps({"form": 2, "trace": "7d1c", "unit": unit, "stages": renamed})
 
 
 def told(program, text, *words):
@@ -148,19 +166,48 @@ def wrong_svg(text, meant, path, known=(), unit=""):
     return "" if on == set(path) else f"on the path are {sorted(on)}, and not {sorted(path)}"
 
 
-def wrong_spans(stage, spans, meant):
+MICROS = {"ns": lambda tick: tick // 1000, "ms": lambda tick: tick * 1000, "s": lambda tick: tick * 1_000_000}
+
+
+def in_micros(tick, unit):
+    return MICROS.get(unit, int)(tick)
+
+
+def wrong_spans(stage, spans, meant, unit):
     """What the spans of a completed stage's row are otherwise than the stage's course."""
     came, completed = courses.course(stage, meant), courses.moment_of(meant[stage["name"]][1])
-    wanted = [("queued", came.triggered, came.queued)] * (came.queued > 0) + [(stage["name"], min(came.triggered + came.queued, completed), came.ran)]
+    started = min(came.triggered + came.queued, completed)
+    triggered, began, ended = (in_micros(it, unit) for it in (came.triggered, started, started + came.ran))
+    wanted = [("queued", triggered, began - triggered)] * (began > triggered) + [(stage["name"], began, ended - began)]
     return "" if spans == wanted else f"{stage['name']} has the spans {spans}, and not {wanted}"
 
 
-def wrong_events(text, meant, times, path, known=()):
+def wrong_processes(events, names, title, has_services):
+    """What the processes are otherwise than one, or one for each service."""
+    titles = [(it["pid"], it["args"]["name"]) for it in events if it["name"] == "process_name"]
+    numbers = {it["tid"]: it["pid"] for it in events if it["name"] == "thread_name"}
+    if any(numbers[it["tid"]] != it["pid"] for it in events if it["tid"]):
+        return "events of one row are of several processes"
+    if not has_services or not names:
+        return "" if titles == [(1, title)] and {*numbers.values()} <= {1} else f"the processes are {titles}"
+    first = {}
+    for row, name in sorted(names.items()):
+        first.setdefault(name.split(".")[0], row)
+    wanted = {row: first[name.split(".")[0]] for row, name in names.items()}
+    if numbers != wanted:
+        return f"the rows are of the processes {numbers}, and not {wanted}"
+    wanted = [(row, f"{service}: {title}") for service, row in first.items()]
+    return "" if titles == wanted else f"the processes are {titles}, and not {wanted}"
+
+
+def wrong_events(text, meant, times, path, known=(), unit="", title=None):
     """What is wrong with the trace events of a recording, or nothing."""
     events = json.loads(text)
     names = {it["tid"]: it["args"]["name"] for it in events if it["name"] == "thread_name"}
     if sorted(names) != list(range(1, min(len(meant), MOST_EVENTS) + 1)) or len({*names.values()}) != len(names):
         return "the rows are not numbered from 1 on, each with a name"
+    if title and (said := wrong_processes(events, names, *title)):
+        return said
     ran = {names[it["tid"]]: it for it in events if it["ph"] == "X" and it["cat"] != "queued"}
     pending = {names[it["tid"]] for it in events if it["ph"] == "i"}
     spans = {name: [] for name in names.values()}
@@ -175,10 +222,10 @@ def wrong_events(text, meant, times, path, known=()):
             return f"{name} tells {ran[name]['args']['about']!r}"
         if name in known and name in ran:
             about = ran[name]["args"]["about"].split("\n")
-            if said := wrong_spans(known[name], spans[name], meant) or wrong_words(about[2], about[3], known[name], meant):
+            if said := wrong_spans(known[name], spans[name], meant, unit) or wrong_words(about[2], about[3], known[name], meant):
                 return said
         start = times[name][0]
-        if start != "-" and name in ran and ran[name]["ts"] != int(start):
+        if start != "-" and name in ran and ran[name]["ts"] != in_micros(int(start), unit):
             return f"{name} started at {start}, and not at {ran[name]['ts']}"
     flows = [it for it in events if it["ph"] in ("s", "f")]
     steps = sum(meant[one][1] != "pending" and meant[other][1] != "pending" for one, other in zip(path, path[1:]))
@@ -193,10 +240,13 @@ def compared(program, text, name):
     meant, known = states(program, text), courses.known(text)
     path = [it.split(" ")[0] for it in asked(program, text, {"what": "path", "stage": name})]
     times = {found[1]: found.groups()[1:] for found in map(TIMES.fullmatch, asked(program, text, {"what": "times"})) if found}
-    said = wrong_svg(told(program, text, "draw"), meant, [], known) or wrong_svg(told(program, text, "draw", "--stage", name), meant, path, known)
+    unit = json.loads(text).get("unit", "")
+    said = wrong_svg(told(program, text, "draw"), meant, [], known, unit) or wrong_svg(told(program, text, "draw", "--stage", name), meant, path, known, unit)
     few = {it: meant[it] for it in path}
-    said = said or wrong_svg(told(program, text, "draw", "--what", "path", "--stage", name), few, path)
-    return said or wrong_events(told(program, text, "draw", "--format", "trace", "--stage", name), meant, times, path, known)
+    said = said or wrong_svg(told(program, text, "draw", "--what", "path", "--stage", name), few, path, (), unit)
+    labels = json.loads(text)
+    title = (f"Version 0, the path of {name}", "trace" in labels)
+    return said or wrong_events(told(program, text, "draw", "--format", "trace", "--stage", name), meant, times, path, known, labels.get("unit", ""), title)
 
 
 class Window(NamedTuple):
@@ -271,6 +321,89 @@ def windows(program):
         yield f"pictures of some ticks of what was cut off, {' '.join(window.words())}", wrong_window(program, CUT_BY_ENDS, window, None), set()
 
 
+def rows_of(text):
+    """The name and the classes of each row, from top to bottom."""
+    found = [it for it in tree.fromstring(text) if it.get("class", "").startswith("row ")]
+    return [(it.find(f"{SVG}title").text.split("\n")[0], it.get("class").split()) for it in found]
+
+
+def by_service(names):
+    """The names below those of their services, which stand by their first ones."""
+    services = {}
+    for name in names:
+        services.setdefault(name.split(".")[0], []).append(name)
+    return [it for service, found in services.items() for it in ((service, True), *((name, False) for name in found))]
+
+
+def wrong_groups(program, text, name):
+    """What stands otherwise than by service with `--group service`, or nothing."""
+    meant, words = states(program, text), ["--stage", name] if name else []
+    came = told(program, text, "draw", "--group", "service", *words)
+    rows = [(it, "service" in classes) for it, classes in rows_of(came)]
+    stages = [it for it, is_service in rows if not is_service]
+    if int(tree.fromstring(came).get("height")) > MOST_HIGH or len(stages) != min(len(meant), MOST_BY_SERVICE):
+        return f"{len(stages)} rows of {len(meant)} stages, {tree.fromstring(came).get('height')} units high"
+    plain = [it for it, _ in rows_of(told(program, text, "draw", *words)) if it in stages]
+    if len(meant) <= MOST_BY_SERVICE and rows != by_service(plain):
+        return f"the rows are {rows}, and not {by_service(plain)}"
+    if [it for it, is_service in rows if is_service] != list(dict.fromkeys(it.split(".")[0] for it in stages)):
+        return f"the rows {rows} are not each below its service"
+    events = json.loads(told(program, text, "draw", "--group", "service", "--format", "trace"))
+    names = {it["tid"]: it["args"]["name"] for it in events if it["name"] == "thread_name"}
+    return wrong_processes(events, names, "Version 0", True)
+
+
+def wrong_deadline(program, text, deadline, words=()):
+    """What is drawn and told of a deadline otherwise than its tick, or nothing."""
+    text = json.dumps({"deadline": deadline, **json.loads(text)})
+    root = tree.fromstring(told(program, text, "draw", *words))
+    note = next(it.text for it in root.iter(f"{SVG}text") if it.get("class") == "note")
+    lines = [it.get("d") for it in root if it.get("class") == "deadline"]
+    is_count = type(deadline) is int and deadline >= 0
+    if note.endswith(f", deadline {deadline}") != is_count:
+        return f"of the deadline {deadline!r} {note!r} is told"
+    ticks = [(int(it.text), int(it.get("x"))) for it in root.iter(f"{SVG}text") if it.get("class") == "tick"]
+    if len(lines) > is_count or len(lines) != sum(it.get("class") == "late" for it in root):
+        return f"of the deadline {deadline!r} are drawn {lines}"
+    at = [int(re.match(r"M(\d+)\.5 ", it)[1]) for it in lines]
+    if at and any((tick <= deadline and x > at[0]) or (tick >= deadline and x < at[0]) for tick, x in ticks):
+        return f"the deadline {deadline} stands at {at}, and the axis has {ticks}"
+    if not at and is_count and ticks[0][0] <= deadline <= ticks[-1][0]:
+        return f"the deadline {deadline} is not drawn"
+    marks = [it["ts"] for it in json.loads(told(program, text, "draw", "--format", "trace")) if it["name"] == "deadline"]
+    return "" if marks == [deadline] * is_count else f"of the deadline {deadline!r} the events have {marks}"
+
+
+def wrong_played(program, text, script, words=()):
+    """What a picture of the version that a script makes shows otherwise than one of the recording that `export` writes of it, or nothing."""
+    files = {"r.json": text, "s": script}
+    drawn = run(program, Case("picture", ["draw", "r.json", "--script", "s", *words], None, files=files, seconds=60))
+    fixed = run(program, Case("export", ["export", "r.json", "s"], None, files=files, seconds=60)).out.decode()
+    other = run(program, Case("picture", ["draw", "r.json", *words], None, files={"r.json": fixed}, seconds=60))
+    number = re.search(rb"Version (\d+) of r.json", drawn.out)
+    same = other.out.replace(b"Version 0 of r.json", number[0] if number else b"")
+    return "" if drawn.out == same else f"it is not {shown(same.decode())}, but {shown(drawn.out.decode())}"
+
+
+def more_pictures(top, program):
+    """The name of each case of rows by service, of deadlines and of the versions of scripts, its complaint or nothing, and no refusal."""
+    late, script = read(top, "examples/late-reply.json"), read(top, "examples/late-reply.script")
+    for name, text, stage_name in (
+        *((f"stages of services, {seed}", of_services(courses.some(seed, 60), "us"), "web.s59") for seed in range(SOME)),
+        ("stages of no service", courses.some(3, 60), "s59"),
+        ("no stages", recording(), None),
+        ("100 stages, each of a service of its own", fan(100), "stage-7-xxxxxxx"),
+        ("101 stages", fan(101), "stage-40-" + "x" * 40),
+        ("5,000 stages", fan(5_000), "stage-4-xxxx"),
+    ):
+        yield f"pictures by service of {name}", wrong_groups(program, text, stage_name), set()
+    for deadline in (0, 1, 50, 121, 150, 10_000, 2**63, 2**64 - 1, -1, 1.5, "50", None, True):
+        for words in ((), ("--to", "200"), ("--from", "60"), ("--group", "service")):
+            yield f"the deadline {deadline!r} of a picture, {' '.join(words)}", wrong_deadline(program, late, deadline, words), set()
+    for words in ((), ("--stage", "reply"), ("--format", "trace"), ("--group", "service", "--min", "10")):
+        yield f"the picture of a script's version is that of its recording, {' '.join(words)}", wrong_played(program, late, script, words), set()
+
+
 def pictures(top, program):
     """The name of each case, its complaint or nothing, and no refusal."""
     late = read(top, "examples/late-reply.json")
@@ -280,6 +413,7 @@ def pictures(top, program):
         ("no stages", recording(), None),
         ("what was cut off", courses.CUT, "while-it-runs"),
         *((f"stages that are cut off at random, {seed}", courses.some(seed, 60), "s59") for seed in range(SOME)),
+        *((f"stages of services, in {unit}", of_services(courses.some(seed, 60), unit), "web.s59") for seed, unit in enumerate(("ns", "us", "ms", "s", "hours"))),
         ("10 stages", fan(10), "stage-9-xxxxxxxxx"),
         ("100 stages", fan(100), "stage-7-xxxxxxx"),
         ("200 stages", fan(200), "stage-40-" + "x" * 40),
@@ -294,8 +428,37 @@ def pictures(top, program):
         text = json.dumps({"unit": unit, **json.loads(PENDING)})
         yield f"the axes of a picture are of the unit {unit!r}", wrong_svg(told(program, text, "draw"), states(program, text), [], (), unit), set()
     yield from windows(program)
+    yield from more_pictures(top, program)
     came = told(program, late, "draw", "--stage", "reply")
     yield "docs/late-reply.svg is the picture of the late reply", "" if came == read(top, "docs/late-reply.svg") else f"it is not {shown(came)}", set()
+
+
+def with_script(case):
+    """The case, with the script S beside its own files."""
+    return dataclasses.replace(case, files={"s": S, **case.files})
+
+
+def played_cases():
+    for what, words, title in (
+        ("the last version", [], b"Version 2 of r.json"),
+        ("version 1", ["--version", "1"], b"Version 1 of r.json"),
+        ("version 0", ["--version", "0"], b"Version 0 of r.json"),
+        ("a path in it", ["--stage", "c", "--version=2"], b"Version 2 of r.json, the path of c"),
+    ):
+        yield Case(f"draw of {what} of a script", ["draw", "r.json", "--script", "s", *words], re.compile(rb"(?s)<svg [^\n]*\n<title>" + title + rb"</title>.*"), stdin=CLOSED, err=r"\A\Z")
+    yield Case("draw of a script, from standard input", ["draw", "--script", "s"], re.compile(rb"(?s)<svg [^\n]*\n<title>Version 2</title>.*"), stdin=R)
+    yield Case("draw of no version", ["draw", "r.json", "--script", "s", "--version", "3"], NO_VERSION, 1, err=r"\Awhatif: s: no version 3, as the last one that it makes is 2\n\Z")
+    yield Case("draw of no version, quietly", ["draw", "--quiet", "r.json", "--script", "s", "--version", "3"], NO_VERSION, 1, err=r"\A\Z")
+    yield Case("draw of a version without a script", ["draw", "r.json", "--version", "0"], "", 2, err="--script <SCRIPT>")
+    yield Case("draw of a version of a word", ["draw", "r.json", "--script", "s", "--version", "last"], "", 2, err="--version")
+    yield Case("draw of a version past all", ["draw", "r.json", "--script", "s", "--version", "65536"], "", 2, err="--version")
+    yield Case("draw of no stage of a version", ["draw", "r.json", "--script", "s", "--stage", "d"], NO_STAGE, 1, err='version 2 has no stage "d"')
+    yield Case("draw of a stage that a version has not yet", ["draw", "r.json", "--script", "s", "--stage", "c", "--version", "1"], NO_STAGE, 1, err='version 1 has no stage "c"')
+    yield Case("draw of no script", ["draw", "r.json", "--script", "absent"], NO_READ, 3, err=r"\Awhatif: absent: No such file or directory\n\Z")
+    yield Case("draw of a refused step", ["draw", "r.json", "--script", "s"], re.compile(rb"(?s)<svg [^\n]*\n<title>Version 0 of r.json</title>.*"), files={"s": "{}\n"}, err="line 1: do is missing")
+    yield Case("draw of a refused step, strictly", ["draw", "--strict", "r.json", "--script", "s"], "", 5, files={"s": "{}\n"}, err="line 1: do is missing")
+    yield Case("draw of a script of a refused recording", ["draw", "--script", "s"], "refused 70 JSON\n", 1, stdin="[", err="so no step was read")
+    yield Case("draw of a script of no recording", ["draw", "absent", "--script", "s"], NO_READ, 3)
 
 
 def picture_cases():
@@ -339,6 +502,9 @@ def drawn_cases():
     yield Case("draw of a short stage", ["draw", "--min", "6", "r.json"], re.compile(rb"(?s)<svg .*1 of 2 stages, 1 left out by.*"), err="1 of the stages are left out")
     yield Case("draw of a short stage of the path", ["draw", "--min", "6", "--stage", "b", "r.json"], svg, err=r"\A\Z")
     yield Case("draw of some ticks, as trace events", ["draw", "--from", "12", "--format", "trace", "r.json"], events, err="1 of the stages are left out")
+    yield Case("draw --group service", ["draw", "--group", "service", "r.json"], re.compile(rb"(?s)<svg .*<g class='row service'>.*"), err=r"\A\Z")
+    yield Case("draw --group of another word", ["draw", "--group", "stage", "r.json"], "", 2, err="possible values: service")
+    yield from map(with_script, played_cases())
     yield Case("draw --what none", ["draw", "--what", "none", "r.json"], "", 2, err="possible values: all, path")
     yield Case("draw --format png", ["draw", "--format", "png", "r.json"], "", 2, err="possible values: svg, trace")
     yield Case("draw of two files", ["draw", "r.json", "s.json"], "", 2, err="s.json")

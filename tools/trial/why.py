@@ -40,12 +40,14 @@ Commands:
   try       Prints what would come of changes, made together
   compare   Prints what made a stage late in one run that was not late in another: its path in both, and the stages in which they differ
   draw      Writes a picture of a recording: when each stage waited, was queued, ran and completed
-  page      Writes a page that tells of a recording: one HTML file that stands alone, for the ticket of an incident
+  page      Writes a page that tells of a recording, and of what a script changes: one HTML file that stands alone, for the ticket of an incident
   check     Prints every fault of a recording, and every member that nothing reads
   serve     Answers the steps that come on standard input, one to a line, about a recording
+  console   Answers the lines that a person says, word by word, about a recording
   export    Writes the version that a script made last, as a recording
   many      Answers several scripts at once, whose clients share the sessions and versions
   import    Writes the recording that a trace makes, from OTLP/JSON, Jaeger JSON or Zipkin's
+  fleet     Prints what many traces came to: how long their replies took, which spans, if they took no time, would bring them sooner, and which failures came from where
   new       Prints a recording to begin with: one that says what each of its stages is, or the form of a retry, a timeout, a race
   help      Print this message or the help of the given subcommand(s)
 
@@ -209,6 +211,9 @@ Options:
       --from <T>         draw the ticks from T on alone, from 0 to 2^40, and the stages that completed then or later
       --to <T>           draw the ticks up to T alone, from 0 to 2^40, and the stages that were created by then
       --min <T>          leave out the stages that took less than T ticks from their trigger to their completion, from 0 to 2^40, but none of the path of --stage
+      --group <WHAT>     the rows of a service stand together below its name, which is what stands before the first dot of theirs; of an SVG file 100 at most then [possible values: service]
+      --script <SCRIPT>  draw the version that this script makes last of the recording
+      --version <N>      draw version N of those that the script makes, from 0 to 65535; 0 is the recording
       --format <FORMAT>  an SVG file, or trace events as JSON, which Perfetto and chrome://tracing open [default: svg] [possible values: svg, trace]
       --quiet            leave explanations and warnings out
       --strict           end with status 1 where there is a warning
@@ -217,29 +222,85 @@ Options:
 Examples:
   whatif draw examples/late-reply.json --stage reply > reply.svg
   whatif draw examples/late-reply.json --from 100 --to 150 --min 10 > end.svg
+  whatif draw examples/late-reply.json --script examples/late-reply.script --stage reply > fixed.svg
+  whatif import examples/order.otlp.trace | whatif draw --group service > services.svg
   whatif draw --format trace examples/late-reply.json > late-reply.trace.json
 
 What is drawn: docs/FORMATS.md, Pictures.
 """)
 HELP_OF_PAGE = help_of("""\
-Writes a page that tells of a recording: one HTML file that stands alone, for the ticket of an incident
+Writes a page that tells of a recording, and of what a script changes: one HTML file that stands alone, for the ticket of an incident
 
-Usage: PROGRAM page [OPTIONS] <FILE>
+Usage: PROGRAM page [OPTIONS] <FILE> [SCRIPT]
 
 Arguments:
-  <FILE>  the recording; - is standard input
+  <FILE>    the recording; - is standard input
+  [SCRIPT]  steps, one to a line: the page shows each version that they make beside the one that it was made of
 
 Options:
       --stage <STAGE>  the stage that the page is about; where it is left out, the one that completes last of those on which no other waits, if one does
       --quiet          leave explanations and warnings out
-      --strict         end with status 1 where there is a warning
+      --strict         end with status 1 where the recording has a warning, and with 5 at the first refused step
   -h, --help           Print help
 
 Examples:
   whatif page examples/late-reply.json --stage reply > late-reply.html
+  whatif page examples/late-reply.json examples/late-reply.script --stage reply > fixes.html
   whatif page - < examples/late-reply.json > late-reply.html
 
 What the page has: docs/PAGE.md.
+""")
+HELP_OF_CONSOLE = help_of("""\
+Answers the lines that a person says, word by word, about a recording
+
+Usage: PROGRAM console [OPTIONS] <FILE>
+
+Arguments:
+  <FILE>  the recording
+
+Options:
+      --steps   print the steps that the lines say, as a script, and tell their answers on standard error
+      --quiet   leave explanations and warnings out
+      --strict  end with status 1 where there is a warning
+  -h, --help    Print help
+
+Examples:
+  whatif console examples/late-reply.json
+  rlwrap whatif console examples/late-reply.json
+  whatif console --steps examples/late-reply.json > kept.script
+
+help, said to it, tells which commands there are. The commands and their answers: docs/FORMATS.md, The console.
+""")
+HELP_OF_FLEET = help_of("""\
+Prints what many traces came to: how long their replies took, which spans, if they took no time, would bring them sooner, and which failures came from where
+
+Usage: PROGRAM fleet [OPTIONS] <FILE>...
+
+Arguments:
+  <FILE>...  traces, in OTLP/JSON, Jaeger JSON or Zipkin's, or recordings, each on one line, at most 4096 files; - is standard input
+
+Options:
+      --reply <NAME>     the span whose end is the reply of its trace, by its name, with its service and a dot before it where that is to be told; where it is left out, the root of the trace
+      --by <WHAT>        by what spans are counted together: their service and their name, or the service alone [default: span] [possible values: span, service]
+      --slowest <P>      print also what each group did on the paths of the slowest P percent of the replies, from 1 to 100, for each of them, and for each of all
+      --part             write the summary of what was counted, which --join reads, in place of the answer
+      --join             the files hold summaries, which --part wrote, each on one line: join them
+      --unit <UNIT>      the unit of ticks [default: us] [possible values: us, ns, ms]
+      --clocks <HOW>     whether clocks that a trace contradicts are moved [default: inferred] [possible values: inferred, as-told]
+      --calls <HOW>      whether calls may have been tried again or given up [default: inferred] [possible values: inferred, as-told]
+      --quiet            leave explanations and warnings out
+      --strict           end with status 1 at the first trace that is not counted
+      --format <FORMAT>  text for people, or json for programs: a line for each answer, which is one object [default: text] [possible values: text, json]
+  -h, --help             Print help
+
+Examples:
+  whatif fleet night.jsonl
+  whatif fleet --slowest 1 --by service night/*.jsonl
+  whatif fleet --part night/1.jsonl > 1.summary
+  whatif fleet --join 1.summary 2.summary
+  ls night/*.jsonl | parallel whatif fleet --part {} | whatif fleet --join -
+
+What is counted, and what a gain means: docs/FLEET.md.
 """)
 HELP_OF_IMPORT = help_of("""\
 Writes the recording that a trace makes, from OTLP/JSON, Jaeger JSON or Zipkin's
@@ -314,10 +375,10 @@ COMMAND_LINES = [
     Case("the subcommand of help names each", ["help"], HELP),
     *[
         Case(f"help of {name}, by {' '.join(words)}", words, text)
-        for name, text in (("report", HELP_OF_REPORT), ("explain", HELP_OF_EXPLAIN), ("sweep", HELP_OF_SWEEP), ("ends", HELP_OF_ENDS), ("failures", HELP_OF_FAILURES), ("try", HELP_OF_TRY), ("draw", HELP_OF_DRAW), ("page", HELP_OF_PAGE), ("check", HELP_OF_CHECK), ("export", HELP_OF_EXPORT), ("import", HELP_OF_IMPORT))
+        for name, text in (("report", HELP_OF_REPORT), ("explain", HELP_OF_EXPLAIN), ("sweep", HELP_OF_SWEEP), ("ends", HELP_OF_ENDS), ("failures", HELP_OF_FAILURES), ("try", HELP_OF_TRY), ("draw", HELP_OF_DRAW), ("page", HELP_OF_PAGE), ("check", HELP_OF_CHECK), ("console", HELP_OF_CONSOLE), ("export", HELP_OF_EXPORT), ("import", HELP_OF_IMPORT), ("fleet", HELP_OF_FLEET))
         for words in ([name, "--help"], [name, "-h"], ["help", name])
     ],
-    Case("no word names the subcommands", [], "", 2, err="report, explain, sweep, slack, rescue, ends, failures, try, compare, draw, page, check, serve, export, many, import, new, help"),
+    Case("no word names the subcommands", [], "", 2, err="report, explain, sweep, slack, rescue, ends, failures, try, compare, draw, page, check, serve, console, export, many, import, fleet, new, help"),
     *[
         case
         for name in ("explain", "sweep")

@@ -1,4 +1,5 @@
 //! An argument of a command, as data, and as clap has it.
+use crate::fleet::GROUPINGS;
 use crate::manner::FORMATS;
 use crate::picture::{PICTURE_FORMATS, ROWS_NAMES};
 use crate::traces::{READINGS, UNITS};
@@ -17,7 +18,7 @@ pub(crate) struct Argument {
     pub(crate) takes: Takes,
 }
 
-/// What an argument takes. The first nine are options, whose name stands after two dashes, the others are told by their place.
+/// What an argument takes. The first ten are options, whose name stands after two dashes, the others are told by their place.
 #[derive(Clone, Copy)]
 pub(crate) enum Takes {
     /// Nothing: it is there or not.
@@ -30,6 +31,10 @@ pub(crate) enum Takes {
     TextIf(&'static str, &'static str, &'static str),
     /// A number; where it is bounded, from 1 to the bound, and 1 where it is left out.
     Number(&'static str, Option<u8>),
+    /// A number from 0 to the bound, where the other argument is there.
+    NumberWith(&'static str, u16, &'static str),
+    /// A number from 1 to 100.
+    Percent(&'static str),
     /// A number of ticks, no more than a recording may say.
     Ticks(&'static str),
     /// A text that may be a number below 0.
@@ -59,6 +64,8 @@ pub(crate) enum Choice {
     Rows,
     /// Which recording to begin with is printed.
     Form,
+    /// By what spans are counted together.
+    Grouping,
     /// The unit of an imported recording's ticks.
     Unit,
     /// Whether something of a trace is inferred, or taken as it is told.
@@ -81,6 +88,13 @@ pub(crate) fn arg_of<'a>(alloc: Global, argument: Argument) -> Result<Arg<'a>, A
                 .required_if_eq(other, word)?
         }
         Takes::Number(value, most) => number(arg.long(argument.name).value_name(value), most),
+        Takes::NumberWith(value, most, other) => {
+            arg.long(argument.name)
+                .value_name(value)
+                .value_parser(value_parser!(u32).range(0..=i64::from(most)))
+                .requires_arg(other)?
+        }
+        Takes::Percent(value) => percent(arg.long(argument.name).value_name(value)),
         Takes::Ticks(value) => ticks(arg.long(argument.name).value_name(value)),
         Takes::Value(value) => {
             arg.long(argument.name)
@@ -109,6 +123,10 @@ fn number<'a>(arg: Arg<'a>, most: Option<u8>) -> Arg<'a> {
     }
 }
 
+fn percent<'a>(arg: Arg<'a>) -> Arg<'a> {
+    arg.value_parser(value_parser!(u64).range(1..=100))
+}
+
 fn ticks<'a>(arg: Arg<'a>) -> Arg<'a> {
     arg.value_parser(value_parser!(u64).range(0..=LAST_TICK))
 }
@@ -119,6 +137,7 @@ fn one_of<'a>(arg: Arg<'a>, choice: Choice) -> Arg<'a> {
         Choice::Picture => arg.value_parser(&PICTURE_FORMATS[..]).default_value("svg"),
         Choice::Rows => arg.value_parser(&ROWS_NAMES[..]).default_value("all"),
         Choice::Form => arg.value_parser(&FORM_NAMES[..]).default_value("first"),
+        Choice::Grouping => arg.value_parser(&GROUPINGS[..]).default_value("span"),
         Choice::Unit => arg.value_parser(&UNITS[..]).default_value("us"),
         Choice::Reading => arg.value_parser(&READINGS[..]).default_value("inferred"),
     }

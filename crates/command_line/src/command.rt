@@ -1,7 +1,9 @@
 //! What the program is told to do.
+use crate::fleet::Fleet;
 use crate::input::Input;
 use crate::manner::Manner;
 use crate::picture::Picture;
+use crate::printed::Printed;
 use crate::scripts::Scripts;
 use crate::sweep::Sweep;
 use crate::traces::{Mapping, Wanted};
@@ -69,9 +71,11 @@ pub enum Command<'a> {
         recording: Input<'a>,
         picture: Picture<'a>,
     },
-    /// To write a page that tells of a recording, and of a stage if one is named or completes last.
+    /// To write a page that tells of a recording, of the versions that a script makes of it if one is named, and of a stage if one
+    /// is named or completes last.
     Page {
         recording: Input<'a>,
+        script: Option<&'a str>,
         stage: Option<&'a str>,
     },
     /// To print every fault of a recording.
@@ -81,6 +85,11 @@ pub enum Command<'a> {
     /// To answer the steps that come on standard input.
     Serve {
         recording: &'a str,
+    },
+    /// To answer the lines that a person says on standard input.
+    Console {
+        recording: &'a str,
+        printed: Printed,
     },
     /// To write the version that a script made last.
     Export {
@@ -97,6 +106,10 @@ pub enum Command<'a> {
         trace: Input<'a>,
         wanted: Wanted<'a>,
         mapping: Mapping,
+    },
+    /// To print what the replies of many traces came to, or to write the summary of it.
+    Fleet {
+        fleet: Fleet<'a>,
     },
     /// To print a recording to begin with.
     New {

@@ -3,12 +3,14 @@
 
 mod argument;
 mod command;
+mod fleet;
 mod input;
 mod manner;
 mod names;
 mod parsing;
 mod percent;
 mod picture;
+mod printed;
 mod scripts;
 mod subcommand;
 mod subcommand_words;
@@ -18,10 +20,12 @@ mod trial;
 mod words;
 
 pub use command::{Command, CommandLine};
+pub use fleet::{Counting, Fleet, Grouping, Held, Told};
 pub use input::Input;
 pub use manner::{Format, Manner};
 pub use parsing::{WordsFault, parsed, without_help_of_help};
-pub use picture::{Picture, PictureFormat, Rows, Ticks};
+pub use picture::{Picture, PictureFormat, PlayedVersion, Rows, Ticks};
+pub use printed::Printed;
 pub use scripts::Scripts;
 pub use subcommand_words::VERSION;
 pub use sweep::{Ending, Part, Sweep};

@@ -33,6 +33,9 @@ pub(crate) const BY: &str = "by";
 /// The value in place of an exception.
 pub(crate) const AS: &str = "as";
 
+/// Whether the steps are printed that lines say.
+pub(crate) const STEPS: &str = "steps";
+
 pub(crate) const WORKERS: &str = "workers";
 
 /// The stage whose path is drawn.
@@ -65,6 +68,15 @@ pub(crate) const TO: &str = "to";
 /// How many ticks a stage takes at least that is drawn.
 pub(crate) const LEAST: &str = "min";
 
+/// By what rows stand together.
+pub(crate) const GROUP: &str = "group";
+
+/// The script whose version is drawn.
+pub(crate) const SCRIPT_OF_PICTURE: &str = "script";
+
+/// Which of the versions that a script makes is drawn.
+pub(crate) const VERSION: &str = "version";
+
 pub(crate) const LIST: &str = "list";
 
 pub(crate) const EACH: &str = "each";
@@ -76,6 +88,21 @@ pub(crate) const UNIT: &str = "unit";
 pub(crate) const CLOCKS: &str = "clocks";
 
 pub(crate) const CALLS: &str = "calls";
+
+/// The span whose end is the reply of its trace.
+pub(crate) const REPLY: &str = "reply";
+
+/// By what spans are counted together.
+pub(crate) const GROUPED_BY: &str = "by";
+
+/// How many hundredths of the replies are the slowest.
+pub(crate) const SLOWEST: &str = "slowest";
+
+/// That the summary is written.
+pub(crate) const PART: &str = "part";
+
+/// That the files hold summaries.
+pub(crate) const JOIN: &str = "join";
 
 /// Which recording to begin with is printed.
 pub(crate) const FORM: &str = "FORM";

@@ -1,19 +1,22 @@
 //! From the words of the command line to what they ask for.
-ghost use Rattle.std.specs.Prelude.{◌≡◌, codes, None, Some, false, true, option_map, IfOk};
+ghost use Rattle.std.specs.Prelude.{◌≡◌, codes, None, Some, false, is_some, true, option_map, IfOk};
 ghost use Rattle.clap.specs.Matches.{first_value, found_of, one_text};
 ghost use Rattle.command_line.specs.Percents.{percent_asked, percent_in};
-ghost use Rattle.command_line.specs.Words.{drawn_of, ending_of, format_of, has_no_tick, path_of, picture_format_of, reading_of, rows_of, told_of, unit_of, wanted_path};
+ghost use Rattle.command_line.specs.Words.{drawn_of, ending_of, format_of, grouping_of, has_no_tick, path_of, picture_format_of, reading_of, rows_of, told_of, unit_of, wanted_path};
 ghost use Rattle.recording_forms.specs.Names.{name_of};
+ghost use Rattle.command_line.specs.declared.printed.Printed.TheVariants.{Answers, Steps};
 ghost use Rattle.command_line.specs.declared.sweep.Part.TheVariants.{Both, Queue};
 ghost use Rattle.command_line.specs.declared.traces.Wanted.TheVariants.{List, Each};
 ghost use Rattle.command_line.specs.declared.trial.Asked.TheVariants.{Recording};
 
 use crate::command::{Command, CommandLine};
+use crate::fleet::{Counting, Fleet, Grouping, Held, Told};
 use crate::input::Input;
 use crate::manner::{Format, Manner};
 use crate::names;
 use crate::percent::percent_in;
-use crate::picture::{Picture, PictureFormat, Rows, Ticks};
+use crate::picture::{Picture, PictureFormat, PlayedVersion, Rows, Ticks};
+use crate::printed::Printed;
 use crate::scripts::Scripts;
 use crate::subcommand::Subcommand;
 use crate::subcommand_words::{command, described};
@@ -132,6 +135,7 @@ fn command_of<'a>(
         },
         Subcommand::Page => Command::Page {
             recording: input_of(matches),
+            script: script_of_page(matches),
             stage: stage_of_page(matches),
         },
         Subcommand::Check => Command::Check {
@@ -139,6 +143,10 @@ fn command_of<'a>(
         },
         Subcommand::Serve => Command::Serve {
             recording: file_of(matches)?,
+        },
+        Subcommand::Console => Command::Console {
+            recording: file_of(matches)?,
+            printed: printed_of(matches),
         },
         Subcommand::Export => Command::Export {
             recording: file_of(matches)?,
@@ -152,6 +160,9 @@ fn command_of<'a>(
             trace: input_of(matches),
             wanted: wanted_of(matches),
             mapping: mapping_of(matches),
+        },
+        Subcommand::Fleet => Command::Fleet {
+            fleet: fleet_of(alloc, matches)?,
         },
         Subcommand::New => Command::New {
             form: form_of(matches)?,
@@ -308,11 +319,25 @@ fn no_ticks(alloc: Global) -> Result<WordsFault, AllocError> {
     Ok(WordsFault::Told(error))
 }
 
+fn printed_of(matches: &ArgMatches<'_>) -> Printed
+    ensures steps { one_text (found_of matches.now) (codes "steps") ≡ Some (codes "true") → result ≡ Steps }
+    ensures answers { one_text (found_of matches.now) (codes "steps") ≡ None → result ≡ Answers }
+    ensures answers_where_false { one_text (found_of matches.now) (codes "steps") ≡ Some (codes "false") → result ≡ Answers }
+{
+    if matches.get_flag(names::STEPS) {
+        Printed::Steps
+    } else {
+        Printed::Answers
+    }
+}
+
 fn picture_of<'a>(matches: &ArgMatches<'a>, ticks: Ticks) -> Picture<'a>
     ensures format { result.format ≡ picture_format_of (first_value (found_of matches.now) (codes "format")) }
     ensures rows { result.rows ≡ rows_of (first_value (found_of matches.now) (codes "what")) }
     ensures ticks { result.ticks ≡ ticks }
     ensures path { option_map (λ stage. stage.now) result.path_of ≡ first_value (found_of matches.now) (codes "stage") }
+    ensures group { result.by_service ≡ is_some (first_value (found_of matches.now) (codes "group")) }
+    ensures script { option_map (λ played. played.script.now) result.played ≡ first_value (found_of matches.now) (codes "script") }
 {
     Picture {
         format: PictureFormat::of(matches.get_str(names::FORMAT)),
@@ -320,7 +345,28 @@ fn picture_of<'a>(matches: &ArgMatches<'a>, ticks: Ticks) -> Picture<'a>
         ticks,
         least: matches.get_one::<u64>(names::LEAST).unwrap_or(0),
         path_of: matches.get_str(names::PATH_OF),
+        by_service: matches.get_str(names::GROUP).is_some(),
+        played: played_of(matches),
     }
+}
+
+/// The version that is drawn, where a script is named.
+fn played_of<'a>(matches: &ArgMatches<'a>) -> Option<PlayedVersion<'a>>
+    ensures { option_map (λ played. played.script.now) result ≡ first_value (found_of matches.now) (codes "script") }
+{
+    match matches.get_str(names::SCRIPT_OF_PICTURE) {
+        Some(script) => Some(PlayedVersion {
+            script,
+            version: matches.get_one::<u32>(names::VERSION),
+        }),
+        None => None,
+    }
+}
+
+fn script_of_page<'a>(matches: &ArgMatches<'a>) -> Option<&'a str>
+    ensures { option_map (λ script. script.now) result ≡ first_value (found_of matches.now) (codes "SCRIPT") }
+{
+    matches.get_str(names::SCRIPT)
 }
 
 fn stage_of_page<'a>(matches: &ArgMatches<'a>) -> Option<&'a str>
@@ -354,6 +400,44 @@ fn wanted_of<'a>(matches: &ArgMatches<'a>) -> Wanted<'a>
     } else {
         Wanted::One(matches.get_str(names::TRACE))
     }
+}
+
+fn fleet_of<'a>(alloc: Global, matches: &ArgMatches<'a>) -> Result<Fleet<'a>, WordsFault> {
+    let files = required(matches.get_strs(names::FILE))?;
+    required(Fleet::new(alloc, files, held_of(matches), told_of(matches))?)
+}
+
+fn held_of<'a>(matches: &ArgMatches<'a>) -> Held<'a> {
+    if matches.get_flag(names::JOIN) {
+        Held::Summaries
+    } else {
+        Held::Traces(counting_of(matches))
+    }
+}
+
+fn counting_of<'a>(matches: &ArgMatches<'a>) -> Counting<'a>
+    ensures reply { option_map (λ name. name.now) result.reply ≡ first_value (found_of matches.now) (codes "reply") }
+    ensures by { result.by ≡ grouping_of (first_value (found_of matches.now) (codes "by")) }
+{
+    Counting {
+        reply: matches.get_str(names::REPLY),
+        by: Grouping::of(matches.get_str(names::GROUPED_BY)),
+        mapping: mapping_of(matches),
+    }
+}
+
+fn told_of(matches: &ArgMatches<'_>) -> Told {
+    if matches.get_flag(names::PART) {
+        Told::Summary
+    } else {
+        Told::Answer(slowest_of(matches))
+    }
+}
+
+/// Clap sees to it that the number is no more than 100.
+fn slowest_of(matches: &ArgMatches<'_>) -> Option<u8> {
+    let percent = matches.get_one::<u64>(names::SLOWEST)?;
+    Some(percent.min(100) as u8)
 }
 
 /// Clap sees to it that the word is the name of a form.

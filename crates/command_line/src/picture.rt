@@ -63,6 +63,14 @@ impl Ticks {
     }
 }
 
+/// A version that a script makes.
+#[derive(Clone, Copy, Debug, PartialEq, Eq)]
+pub struct PlayedVersion<'a> {
+    pub script: &'a str,
+    /// Its number; that of the last one where it is left out.
+    pub version: Option<u32>,
+}
+
 /// What is asked of a picture.
 #[derive(Clone, Copy, Debug, PartialEq, Eq)]
 pub struct Picture<'a> {
@@ -73,4 +81,8 @@ pub struct Picture<'a> {
     pub least: u64,
     /// The stage whose path is drawn over the rows.
     pub path_of: Option<&'a str>,
+    /// Whether the rows of a service stand together.
+    pub by_service: bool,
+    /// The version that is drawn; that of the recording where no script is named.
+    pub played: Option<PlayedVersion<'a>>,
 }

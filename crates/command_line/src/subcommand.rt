@@ -18,13 +18,15 @@ pub(crate) enum Subcommand {
     Page,
     Check,
     Serve,
+    Console,
     Export,
     Many,
     Import,
+    Fleet,
     New,
 }
 
-pub(crate) static SUBCOMMANDS: [Subcommand; 17] = [
+pub(crate) static SUBCOMMANDS: [Subcommand; 19] = [
     Subcommand::Report,
     Subcommand::Explain,
     Subcommand::Sweep,
@@ -38,9 +40,11 @@ pub(crate) static SUBCOMMANDS: [Subcommand; 17] = [
     Subcommand::Page,
     Subcommand::Check,
     Subcommand::Serve,
+    Subcommand::Console,
     Subcommand::Export,
     Subcommand::Many,
     Subcommand::Import,
+    Subcommand::Fleet,
     Subcommand::New,
 ];
 
@@ -63,9 +67,11 @@ impl Subcommand {
             Subcommand::Page => "page",
             Subcommand::Check => "check",
             Subcommand::Serve => "serve",
+            Subcommand::Console => "console",
             Subcommand::Export => "export",
             Subcommand::Many => "many",
             Subcommand::Import => "import",
+            Subcommand::Fleet => "fleet",
             Subcommand::New => "new",
         }
     }

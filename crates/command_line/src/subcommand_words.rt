@@ -3,10 +3,11 @@ use crate::argument::{Argument, arg_of};
 use crate::subcommand::{SUBCOMMANDS, Subcommand};
 use crate::words::{
     AS, BAD, BY, BY_PERCENT, CALLS, CHANGES, CLOCKS, DRAW, DRAWN_STAGE, EACH, FORM, FORMAT, FROM,
-    GOOD, LEAST, LIST, LIST_FORMAT, ORIGIN, PICTURE, QUEUED, QUIET, QUIET_IMPORT, RECORDING,
-    RECORDING_OR_DASH, RECORDING_OR_INPUT, ROWS, SAVE, SCRIPT, SCRIPTS, STAGE, STAGE_OF_BOTH,
-    STAGE_OF_PAGE, STAGE_OF_TRIAL, STRICT, STRICT_SCRIPTS, STRICT_STEPS, TO, TOP, TOP_CHANGES,
-    TRACE, TRACE_ID, UNIT, WANT, WITHIN, WORKERS,
+    GOOD, GROUP, GROUPED_BY, JOIN, LEAST, LIST, LIST_FORMAT, ORIGIN, PART, PICTURE, PLAYED_VERSION,
+    QUEUED, QUIET, QUIET_IMPORT, RECORDING, RECORDING_OR_DASH, RECORDING_OR_INPUT, REPLY, ROWS,
+    SAVE, SCRIPT, SCRIPT_OF_PAGE, SCRIPT_OF_PICTURE, SCRIPTS, SLOWEST, STAGE, STAGE_OF_BOTH,
+    STAGE_OF_PAGE, STAGE_OF_TRIAL, STEPS, STRICT, STRICT_FLEET, STRICT_SCRIPTS, STRICT_STEPS, TO,
+    TOP, TOP_CHANGES, TRACE, TRACE_ID, TRACES, UNIT, WANT, WITHIN, WORKERS,
 };
 use clap::Command;
 use std::alloc::{AllocError, Global};
@@ -48,9 +49,11 @@ pub(crate) fn described<'a>(
         Subcommand::Page => page(alloc),
         Subcommand::Check => check(alloc),
         Subcommand::Serve => serve(alloc),
+        Subcommand::Console => console(alloc),
         Subcommand::Export => export(alloc),
         Subcommand::Many => many(alloc),
         Subcommand::Import => import(alloc),
+        Subcommand::Fleet => fleet(alloc),
         Subcommand::New => new(alloc),
     }
 }
@@ -178,13 +181,16 @@ fn draw<'a>(alloc: Global) -> Result<Command<'a>, AllocError> {
         alloc,
         Subcommand::Draw,
         "Writes a picture of a recording: when each stage waited, was queued, ran and completed",
-        "Examples:\n  whatif draw examples/late-reply.json --stage reply > reply.svg\n  whatif draw examples/late-reply.json --from 100 --to 150 --min 10 > end.svg\n  whatif draw --format trace examples/late-reply.json > late-reply.trace.json\n\nWhat is drawn: docs/FORMATS.md, Pictures.",
+        "Examples:\n  whatif draw examples/late-reply.json --stage reply > reply.svg\n  whatif draw examples/late-reply.json --from 100 --to 150 --min 10 > end.svg\n  whatif draw examples/late-reply.json --script examples/late-reply.script --stage reply > fixed.svg\n  whatif import examples/order.otlp.trace | whatif draw --group service > services.svg\n  whatif draw --format trace examples/late-reply.json > late-reply.trace.json\n\nWhat is drawn: docs/FORMATS.md, Pictures.",
         &[
             DRAWN_STAGE,
             ROWS,
             FROM,
             TO,
             LEAST,
+            GROUP,
+            SCRIPT_OF_PICTURE,
+            PLAYED_VERSION,
             PICTURE,
             QUIET,
             STRICT,
@@ -197,9 +203,15 @@ fn page<'a>(alloc: Global) -> Result<Command<'a>, AllocError> {
     told(
         alloc,
         Subcommand::Page,
-        "Writes a page that tells of a recording: one HTML file that stands alone, for the ticket of an incident",
-        "Examples:\n  whatif page examples/late-reply.json --stage reply > late-reply.html\n  whatif page - < examples/late-reply.json > late-reply.html\n\nWhat the page has: docs/PAGE.md.",
-        &[STAGE_OF_PAGE, QUIET, STRICT, RECORDING_OR_DASH],
+        "Writes a page that tells of a recording, and of what a script changes: one HTML file that stands alone, for the ticket of an incident",
+        "Examples:\n  whatif page examples/late-reply.json --stage reply > late-reply.html\n  whatif page examples/late-reply.json examples/late-reply.script --stage reply > fixes.html\n  whatif page - < examples/late-reply.json > late-reply.html\n\nWhat the page has: docs/PAGE.md.",
+        &[
+            STAGE_OF_PAGE,
+            QUIET,
+            STRICT_STEPS,
+            RECORDING_OR_DASH,
+            SCRIPT_OF_PAGE,
+        ],
     )
 }
 
@@ -220,6 +232,16 @@ fn serve<'a>(alloc: Global) -> Result<Command<'a>, AllocError> {
         "Answers the steps that come on standard input, one to a line, about a recording",
         "Examples:\n  whatif serve examples/late-reply.json < examples/late-reply.script\n  whatif serve --strict examples/late-reply.json < examples/late-reply-why.script\n  whatif serve --format json examples/late-reply.json < examples/late-reply.script\n\nThe steps and their answers: docs/FORMATS.md, Scripts.",
         &[QUIET, STRICT_STEPS, FORMAT, RECORDING],
+    )
+}
+
+fn console<'a>(alloc: Global) -> Result<Command<'a>, AllocError> {
+    told(
+        alloc,
+        Subcommand::Console,
+        "Answers the lines that a person says, word by word, about a recording",
+        "Examples:\n  whatif console examples/late-reply.json\n  rlwrap whatif console examples/late-reply.json\n  whatif console --steps examples/late-reply.json > kept.script\n\nhelp, said to it, tells which commands there are. The commands and their answers: docs/FORMATS.md, The console.",
+        &[STEPS, QUIET, STRICT, RECORDING],
     )
 }
 
@@ -259,6 +281,29 @@ fn import<'a>(alloc: Global) -> Result<Command<'a>, AllocError> {
             LIST_FORMAT,
             QUIET_IMPORT,
             TRACE,
+        ],
+    )
+}
+
+fn fleet<'a>(alloc: Global) -> Result<Command<'a>, AllocError> {
+    told(
+        alloc,
+        Subcommand::Fleet,
+        "Prints what many traces came to: how long their replies took, which spans, if they took no time, would bring them sooner, and which failures came from where",
+        "Examples:\n  whatif fleet night.jsonl\n  whatif fleet --slowest 1 --by service night/*.jsonl\n  whatif fleet --part night/1.jsonl > 1.summary\n  whatif fleet --join 1.summary 2.summary\n  ls night/*.jsonl | parallel whatif fleet --part {} | whatif fleet --join -\n\nWhat is counted, and what a gain means: docs/FLEET.md.",
+        &[
+            REPLY,
+            GROUPED_BY,
+            SLOWEST,
+            PART,
+            JOIN,
+            UNIT,
+            CLOCKS,
+            CALLS,
+            QUIET,
+            STRICT_FLEET,
+            FORMAT,
+            TRACES,
         ],
     )
 }

@@ -1,5 +1,6 @@
 //! The arguments of commands, with their help.
 use crate::argument::{Argument, Choice, Takes};
+use crate::fleet::MOST_FILES;
 use crate::names;
 use crate::scripts::MOST_SCRIPTS;
 use crate::trial::MOST_CHANGES;
@@ -121,6 +122,12 @@ pub(crate) const AS: Argument = Argument {
     takes: Takes::Value("V"),
 };
 
+pub(crate) const STEPS: Argument = Argument {
+    name: names::STEPS,
+    help: "print the steps that the lines say, as a script, and tell their answers on standard error",
+    takes: Takes::Nothing,
+};
+
 pub(crate) const WORKERS: Argument = Argument {
     name: names::WORKERS,
     help: "how many threads compute for each script, from 1 to 16",
@@ -161,6 +168,24 @@ pub(crate) const LEAST: Argument = Argument {
     name: names::LEAST,
     help: "leave out the stages that took less than T ticks from their trigger to their completion, from 0 to 2^40, but none of the path of --stage",
     takes: Takes::Ticks("T"),
+};
+
+pub(crate) const GROUP: Argument = Argument {
+    name: names::GROUP,
+    help: "the rows of a service stand together below its name, which is what stands before the first dot of theirs; of an SVG file 100 at most then",
+    takes: Takes::MaybeWord("WHAT", &["service"]),
+};
+
+pub(crate) const SCRIPT_OF_PICTURE: Argument = Argument {
+    name: names::SCRIPT_OF_PICTURE,
+    help: "draw the version that this script makes last of the recording",
+    takes: Takes::Text("SCRIPT"),
+};
+
+pub(crate) const PLAYED_VERSION: Argument = Argument {
+    name: names::VERSION,
+    help: "draw version N of those that the script makes, from 0 to 65535; 0 is the recording",
+    takes: Takes::NumberWith("N", u16::MAX, names::SCRIPT_OF_PICTURE),
 };
 
 pub(crate) const ORIGIN: Argument = Argument {
@@ -241,6 +266,54 @@ pub(crate) const TRACE: Argument = Argument {
     takes: Takes::MaybeOne,
 };
 
+pub(crate) const REPLY: Argument = Argument {
+    name: names::REPLY,
+    help: "the span whose end is the reply of its trace, by its name, with its service and a dot before it where that is to be told; where it is left out, the root of the trace",
+    takes: Takes::Text("NAME"),
+};
+
+pub(crate) const GROUPED_BY: Argument = Argument {
+    name: names::GROUPED_BY,
+    help: "by what spans are counted together: their service and their name, or the service alone",
+    takes: Takes::OneOf("WHAT", Choice::Grouping),
+};
+
+pub(crate) const SLOWEST: Argument = Argument {
+    name: names::SLOWEST,
+    help: "print also what each group did on the paths of the slowest P percent of the replies, from 1 to 100, for each of them, and for each of all",
+    takes: Takes::Percent("P"),
+};
+
+pub(crate) const PART: Argument = Argument {
+    name: names::PART,
+    help: "write the summary of what was counted, which --join reads, in place of the answer",
+    takes: Takes::NothingBeside(&[names::SLOWEST]),
+};
+
+pub(crate) const JOIN: Argument = Argument {
+    name: names::JOIN,
+    help: "the files hold summaries, which --part wrote, each on one line: join them",
+    takes: Takes::NothingBeside(&[
+        names::REPLY,
+        names::GROUPED_BY,
+        names::UNIT,
+        names::CLOCKS,
+        names::CALLS,
+    ]),
+};
+
+pub(crate) const STRICT_FLEET: Argument = Argument {
+    name: names::STRICT,
+    help: "end with status 1 at the first trace that is not counted",
+    takes: Takes::Nothing,
+};
+
+pub(crate) const TRACES: Argument = Argument {
+    name: names::FILE,
+    help: "traces, in OTLP/JSON, Jaeger JSON or Zipkin's, or recordings, each on one line, at most 4096 files; - is standard input",
+    takes: Takes::UpTo(MOST_FILES),
+};
+
 pub(crate) const FORM: Argument = Argument {
     name: names::FORM,
     help: "first: ten stages, each of which says what it is; or a form of code that docs/MODELLING.md writes down",
@@ -263,6 +336,12 @@ pub(crate) const SCRIPT: Argument = Argument {
     name: names::SCRIPT,
     help: "the steps, one to a line",
     takes: Takes::One,
+};
+
+pub(crate) const SCRIPT_OF_PAGE: Argument = Argument {
+    name: names::SCRIPT,
+    help: "steps, one to a line: the page shows each version that they make beside the one that it was made of",
+    takes: Takes::MaybeOne,
 };
 
 pub(crate) const SCRIPTS: Argument = Argument {

@@ -38,8 +38,8 @@ pub(crate) fn told(end: Result<(), ReportFault>) -> Result<(), Fault> {
     }
 }
 
-/// The end of a page.
-pub(crate) fn paged(end: Result<(), Stopped>) -> Result<(), Fault> {
+/// The end of a page, or of an answer.
+pub(crate) fn stopped(end: Result<(), Stopped>) -> Result<(), Fault> {
     match end {
         Ok(()) => Ok(()),
         Err(Stopped::Write) => Err(Fault::Write(None)),

@@ -29,7 +29,7 @@ fn unit_of(unit: command_line::Unit) -> Unit {
 }
 
 /// How the command line asks traces to be mapped.
-fn mapping_of(mapping: command_line::Mapping) -> Mapping {
+pub(crate) fn mapping_of(mapping: command_line::Mapping) -> Mapping {
     Mapping {
         unit: unit_of(mapping.unit),
         as_told: AsTold {

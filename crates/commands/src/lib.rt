@@ -1,8 +1,8 @@
-//! What `report`, `explain`, `sweep`, `slack`, `rescue`, `ends`, `failures`, `try`, `compare`, `draw`, `page`, `serve`, `export`, `import` and `new` do: from
+//! What `report`, `explain`, `sweep`, `slack`, `rescue`, `ends`, `failures`, `try`, `compare`, `draw`, `page`, `serve`, `export`, `import`, `fleet` and `new` do: from
 //! what their words ask for to what is printed.
 //!
 //! It stands on the crates that answer (`recording_reports`, `tried_changes`, `recording_pictures`, `incident_page`, `serve_script`, `recording_text`,
-//! `trace_spans`, `trace_import`, `recording_forms`) and on `console`, by which people are told of mistakes. A command's own steps belong here; what it
+//! `trace_spans`, `trace_import`, `fleet_facts`, `fleet_answer`, `recording_forms`) and on `console`, by which people are told of mistakes. A command's own steps belong here; what it
 //! answers belongs to the crate that it calls.
 #![tactic(auto)]
 
@@ -12,11 +12,17 @@ mod draw;
 mod drawing_trial;
 mod export;
 mod fault;
+mod fleet;
+mod fleet_files;
+mod fleet_joining;
+mod fleet_recording;
+mod fleet_trace;
 mod format;
 mod importing;
 mod naming;
 mod paging;
 mod place;
+mod played;
 mod printing;
 mod refusing;
 mod report;
@@ -29,6 +35,7 @@ pub use beginning::run_new;
 pub use comparing::run_compare;
 pub use draw::run_draw;
 pub use export::run_export;
+pub use fleet::run_fleet;
 pub use format::format_of;
 pub use importing::run_import;
 pub use paging::run_page;

@@ -9,7 +9,6 @@ use change_words::MakingFault;
 use command_line::{Asked, Input, Manner, Trial};
 use console::{Fault, Voice, changes_of, flushed, output, warn, why_not_made, with_reason};
 use level_pool::Runner;
-use recording_pictures::unit_of;
 use report_form::Form;
 use std::cell::Cell;
 use std::mem::forget;
@@ -30,7 +29,7 @@ pub fn run_try<'a, K: StateRepresentation, W: Runner>(
     let voice = Voice::new(rt, manner, input);
     let recording = console::recording(rt, voice, input)?;
     warn(rt.alloc(), voice, &recording)?;
-    let graph = console::graph::<K>(rt.alloc(), voice, &recording)?;
+    let (graph, told) = console::labelled_graph::<K>(rt.alloc(), voice, &recording)?;
     let before = Version::load(rt.alloc(), graph)?;
     let version = match tried(rt.alloc(), &before, changes.as_slice(), runner) {
         Ok(version) => version,
@@ -45,10 +44,10 @@ pub fn run_try<'a, K: StateRepresentation, W: Runner>(
         Asked::Recording => write_version(rt, voice, &version),
         Asked::Picture(stage) => {
             let target = target_of(rt, voice, &recording, &before, stage)?;
-            let unit = unit_of(rt.alloc(), &recording)?;
             let source = Source {
                 file: file_of(input),
-                unit: unit.as_str(),
+                unit: told.unit.as_str(),
+                deadline: told.deadline,
             };
             draw_changed(rt, voice, &version, source, changes.as_slice(), target)
         }

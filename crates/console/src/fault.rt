@@ -16,8 +16,14 @@ pub enum Fault {
     NotImported(ImportFault, Option<String>),
     /// The recording has no stage of the name.
     NoStage(Option<String>),
+    /// The script makes no version of the number.
+    NoVersion(Option<String>),
     /// Changes are no list of edits of the recording.
     NotMade(MakingFault, Option<String>),
+    /// No trace has a reply.
+    NoReply(Option<String>),
+    /// The file of this name holds something that is no summary.
+    BadSummary(String, Option<String>),
     /// A word of the command line is no change or no value, or one more is wanted for this recording. Only people are told of it.
     Word(String),
     /// A file or standard input can't be opened or read.
@@ -48,7 +54,10 @@ impl Fault {
             Fault::Refused(_, _)
             | Fault::NotImported(_, _)
             | Fault::NoStage(_)
+            | Fault::NoVersion(_)
             | Fault::NotMade(_, _)
+            | Fault::NoReply(_)
+            | Fault::BadSummary(_, _)
             | Fault::Strict => 1,
             Fault::CommandLine | Fault::Word(_) => 2,
             Fault::Read(_) | Fault::Write(_) | Fault::Missing | Fault::Torn => 3,
@@ -63,7 +72,10 @@ impl Fault {
             Fault::Refused(_, why) => why,
             Fault::NotImported(_, why) => why,
             Fault::NoStage(why) => why,
+            Fault::NoVersion(why) => why,
             Fault::NotMade(_, why) => why,
+            Fault::NoReply(why) => why,
+            Fault::BadSummary(_, why) => why,
             Fault::Word(why) => return Some(why.as_str()),
             Fault::Read(why) => why,
             Fault::Write(why) => why,
@@ -116,6 +128,9 @@ impl fmt::Display for Fault {
             Fault::Strict => f.write_str("warning: a member is read by nothing"),
             Fault::Step => f.write_str("refused: a step"),
             Fault::NoStage(_) => f.write_str("refused 10 NoStage"),
+            Fault::NoVersion(_) => f.write_str("refused 52 NoVersion"),
+            Fault::NoReply(_) => f.write_str("refused 86 NoReply"),
+            Fault::BadSummary(file, _) => write!(f, "refused 87 BadSummary {file}"),
             Fault::Read(_) => f.write_str("refused 41 ReadFault"),
             Fault::Write(_) => f.write_str("refused 40 WriteFault"),
             Fault::CommandLine => f.write_str("error: the command line is not UTF-8 text"),

@@ -6,7 +6,7 @@ use crate::explaining::why_refused;
 use crate::fault::Fault;
 use crate::voice::Voice;
 use command_line::Input;
-use recording::read_recording;
+use recording::{Told, read_labelled};
 use stage_graph::{Graph, Representation};
 use std::alloc::{AllocError, Global};
 use std::fmt;
@@ -18,6 +18,9 @@ const MOST_OF_RECORDING: u64 = 67_108_865;
 
 /// One byte more than the longest trace has.
 const MOST_OF_TRACE: u64 = 268_435_457;
+
+/// One byte more than the longest script has.
+const MOST_OF_SCRIPT: u64 = 1_073_741_824;
 
 /// What is named by a path where `-` is no standard input, which is told where there is no file of that name.
 #[derive(Clone, Copy)]
@@ -48,6 +51,11 @@ pub fn why_read_twice(alloc: Global) -> Result<String, AllocError> {
     )
 }
 
+/// That standard input is named several times, which is read once.
+pub fn why_read_again(alloc: Global) -> Result<String, AllocError> {
+    format!(in alloc; "standard input is read once, so - can be one of the files alone")
+}
+
 /// The graph of a recording, or why it is refused.
 pub fn graph<R: Representation>(
     alloc: Global,
@@ -56,8 +64,20 @@ pub fn graph<R: Representation>(
 ) -> Result<Graph<R>, Fault>
     ensures { IfOk result (λ graph. IsRanked graph.places) }
 {
-    match read_recording(alloc, recording) {
-        Ok(graph) => Ok(graph),
+    let (graph, _) = labelled_graph(alloc, voice, recording)?;
+    Ok(graph)
+}
+
+/// The graph of a recording and what its labels tell, or why it is refused.
+pub fn labelled_graph<R: Representation>(
+    alloc: Global,
+    voice: Voice<'_>,
+    recording: &[u8],
+) -> Result<(Graph<R>, Told), Fault>
+    ensures { IfOk result (λ read. IsRanked read.0.places) }
+{
+    match read_labelled(alloc, recording) {
+        Ok(read) => Ok(read),
         Err(fault) => {
             let why = why_refused(alloc, voice, recording, &fault).unwrap_or(None);
             Err(Fault::Refused(fault, why))
@@ -84,6 +104,12 @@ pub fn file(
 ) -> Result<Vec<u8>, Fault> {
     let file = opened(rt, voice, path, named)?;
     bytes_of_file(rt.alloc(), voice, file, MOST_OF_RECORDING)
+}
+
+/// The bytes of the script in a file.
+pub fn script(rt: &HostRuntime, voice: Voice<'_>, path: &str) -> Result<Vec<u8>, Fault> {
+    let file = opened(rt, voice, path, Named::Script)?;
+    bytes_of_file(rt.alloc(), voice.of_script(path), file, MOST_OF_SCRIPT)
 }
 
 /// The file that a path names.

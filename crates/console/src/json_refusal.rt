@@ -4,7 +4,8 @@ use serde_json::{Map, Value};
 use std::alloc::{AllocError, Global};
 use std::fmt::Write;
 
-/// The object of a refusal `refused NUMBER NAME`, which may end with `at PLACE`, with `in EDIT` or with the name of a member.
+/// The object of a refusal `refused NUMBER NAME`, which may end with `at PLACE`, with `in EDIT`, with the name of a member, or
+/// with that of a file.
 fn refusal(alloc: Global, text: &str) -> Result<Map<String, Value>, AllocError> {
     let mut members = Map::new(alloc);
     let words = text.strip_prefix("refused ").unwrap_or(text);
@@ -25,7 +26,7 @@ fn refusal(alloc: Global, text: &str) -> Result<Map<String, Value>, AllocError> 
     if let Ok(number) = number.parse::<u64>() {
         serde_json::put(&mut members, alloc, "number", Value::from(number))?;
     }
-    add_detail(&mut members, alloc, detail)?;
+    add_detail(&mut members, alloc, name, detail)?;
     Ok(members)
 }
 
@@ -38,10 +39,14 @@ fn number_behind(detail: &str, word: &str) -> Option<u64> {
 fn add_detail(
     members: &mut Map<String, Value>,
     alloc: Global,
+    name: &str,
     detail: &str,
 ) -> Result<(), AllocError> {
     if detail.is_empty() {
         return Ok(());
+    }
+    if name == "BadSummary" {
+        return serde_json::put(members, alloc, "file", Value::try_from_str(alloc, detail)?);
     }
     let place = number_behind(detail, "at ");
     let edit = number_behind(detail, "in ");

@@ -7,6 +7,7 @@ mod checking;
 mod explaining;
 mod fault;
 mod file_name;
+mod fleet_telling;
 mod guesses;
 mod importing;
 mod importing_each;
@@ -32,9 +33,13 @@ pub use checking::run_check;
 pub use explaining::{warn, why_no_stage, with_explanation};
 pub use fault::Fault;
 pub use file_name::FileName;
+pub use fleet_telling::{TraceAt, left_out, left_out_recording, left_out_without_reply, traces_of};
 pub use importing::{imported, listed};
 pub use importing_each::imported_each;
-pub use input::{Named, file, graph, opened, recording, trace, why_read_twice};
+pub use input::{
+    Named, file, graph, labelled_graph, opened, recording, script, trace, why_read_again,
+    why_read_twice,
+};
 pub use json_refusal::fault_line;
 pub use keeping::KeepingSink;
 pub use kept_script::{KeepingReader, KeptScript, with_unread_script};

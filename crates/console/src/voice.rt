@@ -15,6 +15,8 @@ pub struct Voice<'a> {
     script: Option<&'a str>,
     /// The trace that is told of, where there are several.
     trace: Option<&'a str>,
+    /// The line of the file that is told of, where each is a recording.
+    line: Option<usize>,
     /// Whether other files are told of beside it.
     is_of_several: bool,
     is_quiet: bool,
@@ -38,6 +40,7 @@ impl<'a> Voice<'a> {
             file,
             script: None,
             trace: None,
+            line: None,
             is_of_several: false,
             is_quiet: manner.is_quiet,
             is_strict: manner.is_strict,
@@ -56,6 +59,14 @@ impl<'a> Voice<'a> {
     pub fn of_trace(self, trace: &'a str) -> Voice<'a> {
         Voice {
             trace: Some(trace),
+            ..self
+        }
+    }
+
+    /// The same, where the recording on the line of this number is told of.
+    pub fn of_line(self, line: usize) -> Voice<'a> {
+        Voice {
+            line: Some(line),
             ..self
         }
     }
@@ -108,6 +119,16 @@ impl<'a> Voice<'a> {
         };
     }
 
+    /// Says something of the file that is never left out, by its name where other files are told of beside it.
+    pub fn tell_of_file<D: Display + Drop>(self, what: D) {
+        if self.is_of_several {
+            let file = self.file();
+            self.tell(format_args!("{file}: {what}"));
+        } else {
+            self.tell(what);
+        }
+    }
+
     /// Says something of a line of the script.
     pub fn say_of_line<D: Display + Drop>(self, number: u64, what: D) {
         match self.script {
@@ -121,7 +142,13 @@ impl<'a> Voice<'a> {
 
     /// What is to be said of the file where the program ends, unless nothing is; where memory is out nothing is.
     pub fn text<D: Display + Drop>(self, what: D) -> Option<String> {
-        self.text_of(self.file, what)
+        match self.line {
+            None => self.text_of(self.file, what),
+            Some(line) => self.text_of(
+                self.file,
+                format_args!("the recording of line {line}: {what}"),
+            ),
+        }
     }
 
     /// The same of another file.
@@ -131,6 +158,15 @@ impl<'a> Voice<'a> {
         }
         let file = FileName(file);
         let text: Result<String, AllocError> = format!(in self.rt.alloc(); "{file}: {what}");
+        text.ok()
+    }
+
+    /// What is to be said where the program ends, and is of no file, unless nothing is; where memory is out nothing is.
+    pub fn said<D: Display + Drop>(self, what: D) -> Option<String> {
+        if self.is_quiet {
+            return None;
+        }
+        let text: Result<String, AllocError> = format!(in self.rt.alloc(); "{what}");
         text.ok()
     }
 

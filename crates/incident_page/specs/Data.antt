@@ -6,8 +6,9 @@ use Rattle.act_expr.specs.declared.outcome.Value.TheVariants.{Null}
 use Rattle.version_store.specs.Plain.{PlainVersion}
 use Rattle.report_rows.specs.Swept.{plain_sweep}
 use Rattle.report_rows.specs.declared.rescue_terms.RescueTerms.{RescueTerms}
+use Rattle.report_rows.specs.declared.what.What.TheVariants.{Changes}
 use Rattle.report_form.specs.declared.form.Form.TheVariants.{Json}
-use Rattle.recording_reports.specs.Reported.{stage_text, whole_text}
+use Rattle.recording_reports.specs.Reported.{stage_text, told, whole_text}
 use Rattle.recording_reports.specs.declared.all.WholeReport.{WholeReport}
 use Rattle.recording_reports.specs.declared.stage.StageReport.{StageReport}
 use Rattle.recording_reports.specs.declared.stage.StageReport.TheVariants.{Rescue, Slack, Sweep}
@@ -19,6 +20,10 @@ text_json text = print (string text ∷ [])
 -- what is told of all stages
 abbrev pub whole_line : PlainVersion → WholeReport → List ℕ
 whole_line version asked = whole_text (Json None) asked version
+
+-- what is told of a version beside its parent
+abbrev pub changes_line : PlainVersion → List ℕ
+changes_line version = told (Json None) version Changes
 
 -- what is told of the stage at a place
 abbrev pub stage_lines : PlainVersion → ℕ → StageReport → List ℕ

@@ -2,12 +2,14 @@
 use Rattle.std.specs.Prelude.{ℕ, List, ◌++◌, codes, Option, None, Some}
 use Rattle.stage_graph.specs.Plain.{PlainGraph, name_of, stage_at}
 use Rattle.version_store.specs.Plain.{PlainVersion}
-use Rattle.recording_reports.specs.declared.all.WholeReport.TheVariants.{All, Ends, Failures}
+use Rattle.recording_reports.specs.declared.all.WholeReport.TheVariants.{Ends, Failures}
 use Rattle.recording_reports.specs.declared.stage.StageReport.TheVariants.{Explanation}
 use Rattle.incident_page.specs.declared.frame.Frame.{Frame}
 use Rattle.incident_page.specs.declared.frame.Heading.{Heading}
+use Rattle.incident_page.specs.declared.frame.Script.{Script}
 use Rattle.incident_page.specs.Data.{all_rescues, all_slacks, all_trials, stage_lines, text_json, whole_line}
 use Rattle.incident_page.specs.Escaped.{escaped}
+use Rattle.incident_page.specs.Scripts.{script_data, steps_data, versions_data}
 use Rattle.incident_page.specs.Lines.{separated}
 
 -- the program that wrote it, and the name of the file
@@ -15,9 +17,13 @@ abbrev pub heading_data : Heading → List ℕ
 heading_data heading =
     (codes "{\"form\":1,\"program\":{\"name\":\"whatif\",\"version\":" ++ text_json heading.program.now) ++ (codes "},\"file\":" ++ text_json heading.file.now)
 
--- the recording as it was read; no script is told of
+-- the recording as it was read
 abbrev pub recording_data : List ℕ → List ℕ
-recording_data recording = codes ",\"script\":null,\"recording\":" ++ recording
+recording_data recording = codes ",\"recording\":" ++ recording
+
+-- what was read
+abbrev pub read_data : Heading → List ℕ
+read_data heading = script_data heading.script ++ recording_data heading.recording.now
 
 -- what is told of all stages beside their states
 abbrev pub whole_data : PlainVersion → List ℕ
@@ -45,21 +51,17 @@ abbrev pub target_data : PlainVersion → Option ℕ → List ℕ
 target_data version None = codes ",\"stage\":null,\"explain\":null,\"sweep\":null,\"slack\":null,\"rescue\":null"
 target_data version (Some place) = explained_data version place ++ trial_data version place
 
--- the states of all stages
-abbrev pub states_data : PlainVersion → List ℕ
-states_data version = codes ",\"versions\":[" ++ whole_line version All
-
 -- what comes before what the page is about
 abbrev pub first_data : Heading → PlainVersion → List ℕ
-first_data heading version = heading_data heading ++ recording_data heading.recording.now ++ whole_data version
+first_data heading version = heading_data heading ++ read_data heading ++ whole_data version
 
--- and what comes after that; no steps are told of
-abbrev pub last_data : PlainVersion → Option ℕ → List ℕ
-last_data version target = target_data version target ++ states_data version ++ codes "],\"steps\":[]}\n"
+-- and what comes after that
+abbrev pub last_data : Option Script → PlainVersion → List PlainVersion → Option ℕ → List ℕ
+last_data script version made target = target_data version target ++ versions_data version made ++ steps_data script
 
 -- all of it: one JSON object
-abbrev pub page_data : Heading → PlainVersion → Option ℕ → List ℕ
-page_data heading version target = first_data heading version ++ last_data version target
+abbrev pub page_data : Heading → PlainVersion → List PlainVersion → Option ℕ → List ℕ
+page_data heading version made target = first_data heading version ++ last_data heading.script version made target
 
 -- the page: the data, escaped, between the fixed texts
 abbrev pub page_of : Frame → List ℕ → List ℕ

@@ -44,7 +44,7 @@ pub(crate) fn write_recording<S: Sink>(recording: &[u8], sink: &mut S) -> Result
     requires { S.failures sink.old < 2 ^ 64 - 1 }
     ensures { Writes S.held S.failures sink.old sink.new result (escaped (recording_data recording.now)) }
 {
-    write_behind(",\"script\":null,\"recording\":", recording, sink)
+    write_behind(",\"recording\":", recording, sink)
 }
 
 /// Writes what is told of all stages.

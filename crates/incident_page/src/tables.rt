@@ -3,7 +3,7 @@ ghost use Rattle.std.specs.Prelude.{◌++◌, ◌-◌, ◌^◌, ◌<◌, IfSome}
 ghost use Rattle.stage_graph.specs.Plain.{IsLive};
 ghost use Rattle.text_io.specs.Writes.{Writes};
 ghost use Rattle.incident_page.specs.Escaped.{escaped};
-ghost use Rattle.incident_page.specs.Pages.{explained_data, heading_data, states_data, target_data, trial_data, whole_data};
+ghost use Rattle.incident_page.specs.Pages.{explained_data, heading_data, target_data, trial_data, whole_data};
 
 use crate::escape::write_escaped;
 use crate::frame::Heading;
@@ -132,16 +132,4 @@ pub(crate) fn write_target<R: StateRepresentation, W: Runner, S: Sink>(
         Some(place) => write_of_stage(alloc, version, place, runner, sink),
         None => write_escaped(NO_STAGE.as_bytes(), sink),
     }
-}
-
-/// Writes the states of all stages.
-pub(crate) fn write_states<R: StateRepresentation, S: Sink>(
-    alloc: Global,
-    version: &Version<R>,
-    sink: &mut S,
-) -> Result<(), Stopped>
-    requires { S.failures sink.old < 2 ^ 64 - 1 }
-    ensures { Writes S.held S.failures sink.old sink.new result (escaped (states_data version.now)) }
-{
-    write_whole(alloc, ",\"versions\":[", version, WholeReport::All, sink)
 }

@@ -308,10 +308,12 @@ fn paged<R: StateRepresentation, W: Runner>(
     if version.stage(target).is_none() {
         bail!("no last stage");
     }
+    let made: Vec<Version<R>> = Vec::new(alloc);
     let frame = Frame { head: "", tail: "" };
     let heading = Heading {
         program: "",
         file: "-",
+        script: None,
         recording: text.as_bytes(),
     };
     let mut sink = unwritten(alloc);
@@ -320,6 +322,7 @@ fn paged<R: StateRepresentation, W: Runner>(
         frame,
         heading,
         &version,
+        made.as_slice(),
         Some(target),
         runner,
         &mut sink,

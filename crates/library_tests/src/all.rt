@@ -1,7 +1,7 @@
 //! The tests that are generic in how a graph is kept, in each representation.
 use crate::{
-    answers, commits, from_scratch, graphs, lists, orders, propagation, recordings, reports,
-    scripts, sessions, versions, workers,
+    answers, commits, from_scratch, graphs, lists, orders, propagation, recordings, replies,
+    reports, scripts, sessions, versions, words, workers,
 };
 use stage_graph::{InFlat, InShared};
 use std::alloc::Global;
@@ -21,7 +21,8 @@ fn of_graphs<R: StateRepresentation, H: Abort + Threads + Sync>(
     answers::hold::<R, H>(rt, alloc)?;
     graphs::hold::<R, H>(rt, alloc)?;
     orders::hold::<R, H>(rt, alloc)?;
-    propagation::hold::<R, H>(rt, alloc)
+    propagation::hold::<R, H>(rt, alloc)?;
+    words::hold::<R, H>(rt, alloc)
 }
 
 /// What holds of versions and reports.
@@ -30,6 +31,7 @@ fn of_versions<R: StateRepresentation, H: Abort + Threads + Clock + Sync>(
     alloc: Global,
 ) -> Result<(), Fail> {
     versions::hold::<R, H>(rt, alloc)?;
+    replies::hold::<R, H>(rt, alloc)?;
     reports::hold::<R, H>(rt, alloc)?;
     workers::hold::<R, H>(rt, alloc)?;
     from_scratch::hold::<R, H>(rt, alloc)

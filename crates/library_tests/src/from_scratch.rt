@@ -1,6 +1,7 @@
 //! Random lists of edits: each query of a drafted version answers as on the same graph evaluated from scratch.
 ghost use Rattle.stage_graph.specs.Walk.{IsRanked};
 
+use crate::replies::agree;
 use crate::versions::{edited, held_edits, opened};
 use level_pool::OneThread;
 use share_tree::Held;
@@ -226,6 +227,7 @@ fn is_accepted<R: StateRepresentation, H: Abort + Threads + Sync>(
     match edited(alloc, &OneThread::new(rt), version, edits) {
         Ok(edited) => {
             same_from_scratch(rt, alloc, version, edits, &edited)?;
+            agree(rt, alloc, &edited)?;
             *version = edited;
             Ok(true)
         }

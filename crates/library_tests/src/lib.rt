@@ -37,6 +37,8 @@ mod propagation;
 #[cfg(test)]
 mod recordings;
 #[cfg(test)]
+mod replies;
+#[cfg(test)]
 mod reports;
 #[cfg(test)]
 mod runners;
@@ -46,5 +48,7 @@ mod scripts;
 mod sessions;
 #[cfg(test)]
 mod versions;
+#[cfg(test)]
+mod words;
 #[cfg(test)]
 mod workers;

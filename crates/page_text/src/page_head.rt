@@ -6,7 +6,7 @@ pub fn head() -> &'static str {
 <html lang="en">
 <head>
 <meta charset="utf-8">
-<meta http-equiv="Content-Security-Policy" content="default-src 'none'; script-src 'sha256-uDUBtNe+zthXeU3DopZ6Ed2QK72GRm4wjozFnfKP0yc='; style-src 'sha256-z+ujiATX52bdnB0Ee3DR0vwZc2p16YDsw5uUxSiU70s='; img-src data:; base-uri 'none'; form-action 'none'">
+<meta http-equiv="Content-Security-Policy" content="default-src 'none'; script-src 'sha256-EMx+tQ5Gy/ePCCsJrmcyCKg2JtdnBJD0wcqAf+4M9d0='; style-src 'sha256-WeyWTIy9cz+0aMQqlDJHxZRvLomMFCZFbmq9kFILIyA='; img-src data:; base-uri 'none'; form-action 'none'">
 <meta name="viewport" content="width=device-width, initial-scale=1">
 <meta name="color-scheme" content="light dark">
 <link rel="icon" href="data:,">
@@ -37,7 +37,7 @@ header p { margin: 2px 0 0; font-size: 15px; }
 #facts { color: var(--soft); font-size: 12.5px; }
 #bar { display: flex; flex-wrap: wrap; gap: 4px 10px; align-items: center; padding: 7px 18px; border-bottom: 1px solid var(--line); font-size: 13px; }
 #bar input { width: 170px; }
-#bar select { max-width: 190px; }
+#bar select { max-width: 155px; }
 #found { color: var(--soft); min-width: 50px; }
 #found + * { margin-left: auto; }
 main { flex: 1; min-height: 0; display: grid; grid-template-columns: minmax(0, 1fr) 400px; background: var(--panel); }
@@ -97,7 +97,7 @@ kbd { border: 1px solid var(--line); border-radius: 4px; padding: 0 4px; }
 <noscript>What this page holds is in it as JSON; the script that draws it may not run here.</noscript>
 <div id="bar" role="toolbar" aria-label="Picture">
 <input id="find" type="search" placeholder="Find a name  ( / )" aria-label="Find a stage by its name"><span id="found" role="status"></span>
-<span id="versions" hidden><label for="after">Version</label> <select id="after"></select> <label for="before">beside</label> <select id="before"></select></span>
+<span id="versions" hidden><label for="after">Version</label> <select id="after"></select> <label for="before">beside</label> <select id="before"></select> <select id="how" aria-label="Before and after"></select></span>
 <span><label for="kind">Rows</label> <select id="kind"></select> <button data-key="o">Open all</button> <button data-key="c">Close all</button></span>
 <span><button data-key="+" aria-label="Zoom in">+</button> <button data-key="-" aria-label="Zoom out">&minus;</button> <button data-key="0">Whole run</button></span>
 <span><button data-key="t">Table</button> <button data-key="?">Keys</button></span>

@@ -27,7 +27,10 @@ const clean = (text, most = 300) => {
 // Numbers of 16 digits and more stay texts, since JSON.parse would round them.
 const parse = text => JSON.parse(/[[:,\s]-?\d{16,}/.test(text)
   ? text.replace(/"[^"\\]*(?:\\.[^"\\]*)*"|-?\d[\d.eE+-]*/g, token => /^-?\d{16,}$/.test(token) ? `"${token}"` : token) : text);
-const data = parse($("data").textContent), { recording, steps, versions } = data;
+const data = parse($("data").textContent), { recording, versions } = data;
+// The steps of the script with what they were answered; none of a line that is no JSON.
+const scriptLines = (data.text ?? "").split(/\r?\n/), stepOn = line => { try { return parse(scriptLines[line - 1]); } catch { return null; } };
+const steps = data.steps.map(reply => ({ step: stepOn(reply.line), reply }));
 const unit = isText(recording.unit) ? clean(recording.unit, 16) : "";
 const ticks = count => `${count} ${unit || (count === 1 ? "tick" : "ticks")}`;
 
@@ -212,8 +215,8 @@ const inText = parts => parts.map(part => !Array.isArray(part) ? part.name ?? pa
 
 // ---- what is shown now
 
-const now = { kind: "path", chosen: undefined, at: null, near: null, from: 0, to: 1, found: [], sought: "", order: 5, page: 0, table: false };
-let model = modelOf(0), other = null;
+const now = { kind: "path", chosen: undefined, at: null, near: null, from: 0, to: 1, found: [], sought: "", order: 5, page: 0, table: false, parent: false, beside: false };
+let model = modelOf(0), other = null, changed = new Map();
 const here = name => model.by.get(name);
 let target = here(data.stage) ?? lastOf(model);
 
@@ -303,13 +306,13 @@ const grow = () => {
   const gone = other ? other.all.filter(one => !model.by.has(one.name)) : [];
   const group = gone.length && node(null, null, { label: "Only before", open: true });
   for (const one of gone) node(one, group);
-  // How many stages and failures are in each group, and from when to when they went.
-  for (const at of nodes) Object.assign(at, { count: 0, bad: 0, low: at.from ?? Infinity, high: 0 });
-  const put = (at, count, bad, low, high) => { at.count += count; at.bad += bad; at.low = min(at.low, low); at.high = max(at.high, high); };
+  // How many stages, failures and differences are in each group, and from when to when they went.
+  for (const at of nodes) Object.assign(at, { count: 0, bad: 0, differ: 0, low: at.from ?? Infinity, high: 0 });
+  const put = (at, count, bad, differ, low, high) => { at.count += count; at.bad += bad; at.differ += differ; at.low = min(at.low, low); at.high = max(at.high, high); };
   for (const at of [...nodes].reverse()) {
     const { one, parent } = at;
-    if (one) put(at, 1, one.failed && !one.blames, one.since, one.moment ?? model.last);
-    if (parent) put(parent, at.count, at.bad, at.low, at.high);
+    if (one) put(at, 1, one.failed && !one.blames, changed.has(one.name), one.since, one.moment ?? model.last);
+    if (parent) put(parent, at.count, at.bad, at.differ, at.low, at.high);
   }
   // Open at first: all of a small run; else the path, by what the target failed, and some places where failures arose.
   if (model.all.length <= 60) for (const at of nodes) at.open ||= !at.steps;
@@ -366,11 +369,14 @@ const scale = (x, wide, from, to) => ({
   x, wide, of: tick => max(x - 20, min(x + wide + 20, x + (tick - from) / (to - from) * wide)), tick: at => round(max(from, min(to, from + (at - x) / wide * (to - from)))),
 });
 const strip = width => scale(gutter + 10, round(max(20, width - gutter - 26)), ...whole());
-// One plot, or before and after beside each other.
+// One plot, or before and after: one above the other in each row, on one axis, or beside each other. `up` is how far a plot's line is from the row's.
+const isStacked = () => other && !now.beside;
 const plotsFor = width => {
-  const { x, wide: room } = strip(width), half = (room - 30) / 2;
-  const plot = (model, x, wide, title) => ({ ...scale(x, wide, now.from, now.to), model, title, find: one => one && model.by.get(one.name) });
-  return other ? [plot(other, x, half, `before: version ${other.version}`), plot(model, x + half + 30, half, `after: version ${model.version}`)] : [plot(model, x, room, "")];
+  const { x, wide: room } = strip(width), half = (room - 30) / 2, up = pitch / 4;
+  const plot = (model, x, wide, title, up = 0) => ({ ...scale(x, wide, now.from, now.to), model, title, up, find: one => one && model.by.get(one.name) });
+  if (!other) return [plot(model, x, room, "")];
+  const before = `before: version ${other.version}`, after = `after: version ${model.version}`;
+  return now.beside ? [plot(other, x, half, before), plot(model, x + half + 30, half, after)] : [plot(other, x, room, `above, shaded, ${before}; below, ${after}`, -up), plot(model, x, room, "", up)];
 };
 // Multiples of 1, 2 or 5 times a power of ten, about one to 90 dots.
 const roundTicks = wide => {
@@ -381,7 +387,7 @@ const roundTicks = wide => {
 };
 // The course of a stage at the height y: `strong` on the path, `slim` in the row of another one.
 const drawStage = ({ x, wide, of }, one, y, strong, slim) => {
-  const high = slim ? 7 : min(13, pitch - 7), top = y - high / 2, right = x + wide, done = one.moment === null ? right : of(one.moment);
+  const high = slim ? 7 : isStacked() ? 11 : min(13, pitch - 7), top = y - high / 2, right = x + wide, done = one.moment === null ? right : of(one.moment);
   const made = of(isSpan(one) ? one.since : one.created), ran = strong ? "ran-path" : "ran";
   if (!slim) box(made, y - .5, done - made, 1, strong ? "soft" : "wait");
   if (one.bars) {
@@ -423,13 +429,17 @@ const drawLinks = ({ of }, one, yOf, strong) => {
 };
 // The rows from one to another, the first of them at the height `top`.
 const drawRows = (width, first, last, top) => {
-  const shown = rows.slice(first, last + 1), high = shown.length * pitch, half = pitch / 2, yRow = at => top + (at.row - first) * pitch + half;
+  const shown = rows.slice(first, last + 1), high = shown.length * pitch, half = pitch / 2, yMiddle = at => top + (at.row - first) * pitch + half;
   const back = at => at.one && at.one === now.chosen || at === now.at ? "chosen" : at === now.near ? "near" : "panel";
-  const looked = now.near?.one ?? now.chosen, nodeOf = one => shownFor(rowOf.has(one) ? one : here(one.name)), yOf = one => { const at = nodeOf(one); return at ? yRow(at) : -9999; };
-  for (const at of shown) box(0, yRow(at) - half, width, pitch, back(at));
+  const looked = now.near?.one ?? now.chosen, nodeOf = one => shownFor(rowOf.has(one) ? one : here(one.name));
+  for (const at of shown) {
+    box(0, yMiddle(at) - half, width, pitch, back(at));
+    if (isStacked() && back(at) === "panel") box(gutter, yMiddle(at) - half, width, half, "ground");
+  }
   for (const plot of plotsFor(width)) clipped(plot.x - 8, top, plot.wide + 20, high, () => {
-    const { of } = plot, { path, strong } = plot.model, seen = plot.find(looked), end = path[0], within = new Map();
-    for (const tick of roundTicks(plot.wide)) box(round(of(tick)), top, 1, high, "grid");
+    const { of, up } = plot, { path, strong } = plot.model, seen = plot.find(looked), end = path[0], within = new Map();
+    const yRow = at => yMiddle(at) + up, yOf = one => { const at = nodeOf(one); return at ? yRow(at) : -9999; };
+    if (up <= 0) for (const tick of roundTicks(plot.wide)) box(round(of(tick)), top, 1, high, "grid");
     // A span, or a closed group: from when to when what is in it went.
     for (const at of shown) if (at.children.length && !at.steps && (!at.open || at.from !== undefined) && plot.model === model) {
       const a = of(at.low), wide = max(2, of(at.high) - a);
@@ -462,16 +472,16 @@ const drawRows = (width, first, last, top) => {
   const found = new Set(now.found);
   clipped(0, top, gutter, high, () => {
     for (const at of shown) {
-      const y = yRow(at), { one, open } = at, strong = model.strong.has(one), bad = at.bad - !!(one?.failed && !one.blames), hidden = open || at.steps ? 0 : at.count - !!one;
+      const y = yMiddle(at), { one, open } = at, strong = model.strong.has(one), bad = at.bad - !!(one?.failed && !one.blames), hidden = open || at.steps ? 0 : at.count - !!one, change = one && changed.get(one.name), differ = at.differ - !!change;
       let x = 24 + at.depth * 13;
       if (at.children.length) write(open ? "\u25be" : "\u25b8", x - 14, y, "soft");
       if (one?.failed) { cross(x + 4, y, 3); x += 12; }
       pen.font = `${strong || !one && !at.steps ? "600 " : ""}${FONT}`;
-      const text = one?.name ?? at.label, tail = hidden ? ` +${hidden}${bad ? `, ${bad} failed` : ""}` : "", wide = widthOf(text), end = min(x + wide, gutter - 6 - widthOf(tail));
+      const text = one?.name ?? at.label, tail = (hidden ? ` +${hidden}${bad ? `, ${bad} failed` : ""}${differ ? `, ${differ} \u2260` : ""}` : "") + (change ? ` \u2260 ${later(change) || ""}` : ""), wide = widthOf(text), end = min(x + wide, gutter - 6 - widthOf(tail));
       if (found.has(one)) box(x - 2, y - 8, wide + 4, 16, "find");
       write(text, x, y, one?.failed && !strong ? "fail" : at.steps ? "soft" : "ink");
       if (tail) box(end, y - half, 999, pitch, back(at));
-      write(tail, end, y, bad ? "fail" : "soft");
+      write(tail, end, y, hidden && bad ? "fail" : change || differ ? "ink" : "soft");
     }
   });
   box(gutter, top, 1, high, "line");
@@ -561,7 +571,7 @@ const choose = (one, still) => {
   }
   showChosen();
   plan();
-  $("say").textContent = `${one.name}, ${factsOf(one).slice(0, 3).map(fact => inText(fact[1])).join(", ")}`;
+  $("say").textContent = `${one.name}, ${factsOf(one).slice(0, 3).map(fact => inText(fact[1])).join(", ")}${changed.has(one.name) ? `, before: ${shownState(changed.get(one.name).before)}` : ""}`;
 };
 const toggle = (open, list) => { for (const at of list) at.open = open; flatten(); };
 // The row at which the keys stand.
@@ -614,6 +624,7 @@ const showChosen = () => {
   const one = now.chosen;
   if (!one) return;
   const { told, created, action, sources, inner, readers } = one, facts = [...factsOf(one), ["Sources", [sources]], ["Waited for by", [readers]]];
+  if (other) facts.splice(1, 0, ["Before", [shownState(other.by.get(one.name))]]);
   if (inner.length) facts.push(["May pick", [inner]]);
   if (created) facts.push(["Created", [created]]);
   if (action !== null) facts.push(["Gives", [clean(JSON.stringify(action).replace(/"(-?\d+)"/g, "$1"))]]);
@@ -648,15 +659,24 @@ const later = ({ before, after }) => {
   const by = (after?.moment ?? NaN) - (before?.moment ?? NaN);
   return by > 0 ? `+${by}` : isNaN(by) ? "-" : by;
 };
+const shownState = told => told ? short(told.outcome) + (told.moment === null ? "" : ` at ${told.moment}`) : "absent";
+// Beside which version one is shown.
+const besideOf = version => version ? now.parent ? versions[version].parent : other?.version ?? 0 : null;
+const asBeside = beside => {
+  now.beside = beside;
+  $("how").value = beside ? "beside" : "above";
+  showVersion(model.version, other ? other.version : null);
+};
 const changes = () => {
-  const changed = differences();
-  return section("changed", `Version ${model.version} beside ${other.version}`, `${changed.length} stages differ`,
-    tableOf("Stage,before,after,#later", changed, one => [named(one.name), stateEl(one.before), stateEl(one.after), later(one)], 20));
+  return section("changed", `Version ${model.version} beside ${other.version}`, `${changed.size} stages differ`,
+    tableOf("Stage,before,after,#later", [...changed.values()], one => [named(one.name), stateEl(one.before), stateEl(one.after), later(one)], 20));
 };
 const wordsOf = version => clean(editsOf.get(version).map(one => `${one.do} ${one.stage ?? one.new.name}`).join(", "), 90);
-const script = () => section("steps", "Steps", clean(data.script), tableOf("#line,step,answer", steps, ({ step, reply: { line, reply, report, version, ...rest } }) => [line,
-  el("code", {}, step === null ? "no JSON" : clean(JSON.stringify(step), 400)),
-  reply === "committed" ? button(`version ${version}`, () => showVersion(version, other?.version ?? 0), "name") : clean(report ? `report of version ${version}` : [reply, ...Object.values(rest), version ?? ""].join(" "))], 40));
+const answerOf = ({ reply, report, version, session, number, name, dependent, head, member, at, edit }) => reply === "committed" ? button(`version ${version}`, () => showVersion(version, besideOf(version)), "name")
+  : reply === "refused" ? el("span", { className: "bad" }, clean(["\u2715 refused", number, name, dependent ?? head ?? member ?? version ?? (at === undefined ? "" : `at ${at}`), edit === undefined ? "" : `in ${edit}`].join(" ")))
+  : report ? `${report} of version ${version}` : [reply, session ?? "", version ?? ""].join(" ");
+const script = () => section("steps", "Steps", `${clean(data.script)}: ${steps.length}, ${data.steps.filter(it => it.reply === "refused").length} refused`,
+  tableOf("#line,step,answer", data.steps, it => [it.line, el("code", {}, clean(scriptLines[it.line - 1], 400)), answerOf(it)], 40));
 
 // ---- the heading: what happened, in version 0
 
@@ -684,14 +704,17 @@ const COLUMNS = [
   ["Stage", one => one.name], ["Operation", one => one.told.op], ["State", one => short(one.outcome)], ["#Completed", one => one.moment ?? "-"], ["Because", one => inText(causeOf(one))],
   ["#Start", one => one.start ?? "-"], ["#Queued", ({ bars }) => bars ? bars.start - bars.from : "-"], ["#Ran", ({ bars }) => bars ? bars.to - bars.start : "-"],
 ];
+const BEFORE = ["Before", one => shownState(other.by.get(one.name))];
 const showTable = () => {
-  const [, key] = COLUMNS[now.order], size = 200, list = (now.sought ? now.found : model.all).map(one => [key(one), one]);
-  list.sort(([a, one], [b, two]) => (a === "-") - (b === "-") || (a < b ? -1 : a > b ? 1 : 0) * (now.order > 5 ? -1 : 1) || one.place - two.place);
+  const columns = other ? [...COLUMNS, BEFORE] : COLUMNS;
+  if (!columns[now.order]) now.order = 5;
+  const [, key] = columns[now.order], size = 200, list = (now.sought ? now.found : model.all).map(one => [key(one), one]);
+  list.sort(([a, one], [b, two]) => (a === "-") - (b === "-") || (a < b ? -1 : a > b ? 1 : 0) * (now.order > 5 && now.order < 8 ? -1 : 1) || one.place - two.place);
   const pages = max(1, ceil(list.length / size)), turn = (text, by) => button(text, () => { now.page += by; showTable(); });
   now.page = max(0, min(pages - 1, now.page));
-  const [table] = tableOf(COLUMNS.map(column => column[0]).join(), list.slice(now.page * size, (now.page + 1) * size), ([, one]) => COLUMNS.map(([, of], at) => at ? of(one) : named(one.name)), size,
+  const [table] = tableOf(columns.map(column => column[0]).join(), list.slice(now.page * size, (now.page + 1) * size), ([, one]) => columns.map(([, of], at) => at ? of(one) : named(one.name)), size,
     at => { now.order = at; showTable(); });
-  table.prepend(el("caption", {}, `Stages of version ${model.version}${now.sought ? ` with ${clean(now.sought, 40)} in their names` : ""}: ${list.length}, page ${now.page + 1} of ${pages}, by ${COLUMNS[now.order][0].replace("#", "")}`));
+  table.prepend(el("caption", {}, `Stages of version ${model.version}${now.sought ? ` with ${clean(now.sought, 40)} in their names` : ""}: ${list.length}, page ${now.page + 1} of ${pages}, by ${columns[now.order][0].replace("#", "")}${other ? `; before: version ${other.version}` : ""}`));
   $("table").replaceChildren(el("div", { className: "more" }, turn("Before", -1), " ", turn("Next", 1)), table);
 };
 const asTable = on => {
@@ -713,11 +736,13 @@ const showVersion = (version, before) => {
   for (const of of [model, other]) if (of) Object.assign(of, { path: pathOf(of.by.get(target?.name)), strong: new Set(pathOf(of.by.get(target?.name))) });
   [now.from, now.to] = whole();
   Object.assign(now, { chosen: here(now.chosen?.name) ?? target, near: null, at: null, found: [], sought: "" });
+  changed = new Map((other ? differences() : []).map(one => [one.name, one]));
   $("after").value = version;
-  $("before").value = other ? before : "";
+  $("before").value = !other ? "" : now.parent ? "parent" : before;
   grow();
   for (const at of nodes) at.open ||= open.has(nameOf(at));
-  if (other) for (const { name } of differences().slice(0, 40)) reveal(here(name));
+  [...changed.keys()].slice(0, 40).forEach(name => reveal(here(name)));
+  pitch = (model.all.length > 400 ? 20 : 24) + (isStacked() ? 10 : 0);
   flatten();
   const own = { before: other?.by.get(target?.name), after: target };
   $("then").replaceChildren(...version && target ? [el("b", {}, `Version ${version}`), `, by ${lineTo(version).map(wordsOf).join(", ")}: `, named(target.name), " ", stateEl(target), own.before ? `, ${later(own)} beside version ${before}` : ""] : []);
@@ -787,7 +812,7 @@ on(area, "scroll", plan);
 
 // ---- keys
 
-const turnVersion = by => { const next = (model.version + by + versions.length) % versions.length; if (next !== model.version) showVersion(next, next ? other?.version ?? 0 : null); };
+const turnVersion = by => { const next = (model.version + by + versions.length) % versions.length; if (next !== model.version) showVersion(next, besideOf(next)); };
 const move = by => () => moveTo(stand().row + by()), screen = () => max(1, floor(area.clientHeight / pitch) - 1);
 const KEYS = [
   ["\u2191 \u2193 PgUp PgDn Home End", "the stage above, below, ..", { ArrowUp: move(() => -1), ArrowDown: move(() => 1), PageUp: move(() => -screen()), PageDown: move(screen), Home: () => moveTo(0), End: () => moveTo(rows.length) }],
@@ -799,7 +824,7 @@ const KEYS = [
   ["p b l", "what the stage waited for, what made it fail, the stage of this page", { p: () => choose(now.chosen?.by), b: () => choose(now.chosen?.blames), l: () => choose(target) }],
   ["f F", "the next failure, the one before", { f: () => step(model.arose, 1), F: () => step(model.arose, -1) }],
   ["/ n N", "find a name, the next one, the one before", { "/": () => $("find").select(), n: () => find(1), N: () => find(-1) }],
-  ["v V", "the next version, the one before", { v: () => turnVersion(1), V: () => turnVersion(-1) }],
+  ["v V w", "the next version, the one before; before and after beside each other, or one above the other", { v: () => turnVersion(1), V: () => turnVersion(-1), w: () => asBeside(!now.beside) }],
   ["t ?", "all stages as a table, these keys", { t: () => asTable(!now.table), "?": () => $("keys").showModal() }],
 ];
 const keyed = Object.assign({}, ...KEYS.map(row => row[2]));
@@ -863,23 +888,26 @@ new ResizeObserver(plan).observe(area);
 // What tools/try-page asks.
 const page = window.whatif = {
   now, look, plotsFor, shownFor, draw, zoomTo, choose, showVersion, modelOf, stepsOf, blameOf, reachOf, fateOf,
-  get shown() { return { model, other, rows, nodes, target, pitch }; },
+  get shown() { return { model, other, changed, rows, nodes, target, pitch }; },
 };
 const options = (id, list, change) => { $(id).replaceChildren(...list.map(([value, text]) => el("option", { value }, text))); $(id).onchange = () => change($(id).value); };
 const listed = versions.map((_, version) => [version, `${version}: ${version ? wordsOf(version) : "the recording"}`]), several = versions.length > 1, spans = model.all.some(isSpan);
 options("kind", Object.keys(KINDS).slice(spans ? 0 : 1).map(kind => [kind, `by ${kind}`]), kind => { now.kind = kind; grow(); choose(now.chosen); });
-options("after", listed, version => showVersion(+version, +version ? other?.version ?? 0 : null));
-options("before", [["", "nothing"], ...listed], version => showVersion(model.version, version === "" ? null : +version));
+options("after", listed, version => showVersion(+version, besideOf(+version)));
+options("before", [["", "nothing"], ["parent", "the one that it was made of"], ...listed], version => {
+  now.parent = version === "parent";
+  showVersion(model.version, now.parent ? besideOf(model.version) : version === "" ? null : +version);
+});
+options("how", [["above", "in one row"], ["beside", "side by side"]], how => asBeside(how === "beside"));
 $("versions").hidden = !several;
 $("kind").value = now.kind = spans ? "span" : "path";
 $("keys").append(el("h2", {}, "Keys"), tableOf("Key,", KEYS, ([keys, text]) => [keys.split(" ").map(key => [el("kbd", {}, key), " "]), text], 99)[0],
   el("p", { className: "soft" }, "Dragging zooms to what is selected, a double click shows the whole run; the wheel zooms with Ctrl and moves with Shift."), button("Close", () => $("keys").close()));
-pitch = model.all.length > 400 ? 20 : 24;
 setTheme(darkly.matches);
 heading();
 showVersion(several ? versions.length - 1 : 0, several ? 0 : null);
 // As wide as the names that are seen at first, within reason.
-gutter = min(320, rows.slice(0, 80).reduce((most, at) => max(most, (at.label ?? at.one.name).length * 7 + 50 + at.depth * 13), 190));
+gutter = min(320, rows.slice(0, 80).reduce((most, at) => max(most, (at.label ?? at.one.name).length * 7 + (other ? 95 : 50) + at.depth * 13), 190));
 choose(target);
 draw();
 })();

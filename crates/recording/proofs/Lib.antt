@@ -1,4 +1,5 @@
 pub mod JsonReading
+pub mod Labelled
 pub mod Operands
 pub mod ReadBack
 pub mod Sizes

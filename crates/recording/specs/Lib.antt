@@ -2,6 +2,7 @@ pub mod ExpressionOf
 pub mod FaultTexts
 pub mod Forms
 pub mod JsonTrees
+pub mod Labels
 pub mod Members
 pub mod MemberTexts
 pub mod Reads

@@ -2,11 +2,14 @@
 //!
 //! The bytes are checked in this order: their number, whether they are JSON, the members of the recording and of each
 //! stage in turn, the checks of the graph stage by stage, and last of all its cycles.
+ghost use Rattle.std.specs.Prelude.{◌≡◌, IfOk, string_bytes};
+ghost use Rattle.recording.specs.Labels.{deadline_label, graph_read, is_imported, unit_label};
 ghost use Rattle.recording.specs.RecordingOf.{form_in, mode_in, stage_of, stages_member, recording_of, recorded, graph_of, named};
-ghost use Rattle.recording.specs.Reads.{IsRead, IsNamed};
+ghost use Rattle.recording.specs.Reads.{IsRead, IsReadAs, IsNamed};
 
 use crate::from_json::FromJson;
 use crate::items::item_count;
+use crate::labels::{Told, told_in};
 use crate::object::optional;
 use crate::parse::read_json;
 use crate::stage::{FormNumber, read_spec};
@@ -96,16 +99,22 @@ fn read_value(alloc: Global, value: &Tree<'_, '_>) -> Result<Recording, Fault>
     Ok(Recording { mode, stages })
 }
 
-/// The recording that bytes are.
-fn read_recorded(alloc: Global, bytes: &[u8]) -> Result<Recording, Fault>
-    ensures { IsRead result (recorded bytes.now) }
+/// The recording that bytes are, and what its labels tell.
+fn read_told(alloc: Global, bytes: &[u8]) -> Result<(Recording, Told), Fault>
+    ensures recording { IsReadAs (λ read. read.0) result (recorded bytes.now) }
+    ensures unit { IfOk result (λ read. string_bytes read.1.unit ≡ unit_label bytes.now) }
+    ensures imported { IfOk result (λ read. read.1.is_imported ≡ is_imported bytes.now) }
+    ensures deadline { IfOk result (λ read. read.1.deadline ≡ deadline_label bytes.now) }
 {
     if bytes.len() > LONGEST {
         return Err(Fault::TooLong);
     }
     let mut room = Scratch::new(alloc);
     let document = read_json(alloc, bytes, &mut room)?;
-    read_value(alloc, &document.root())
+    let root = document.root();
+    let recording = read_value(alloc, &root)?;
+    let told = told_in(alloc, &root)?;
+    Ok((recording, told))
 }
 
 /// The graph that recorded stages make.
@@ -120,12 +129,27 @@ fn load<R: Representation>(alloc: Global, recording: &Recording) -> Result<Graph
     }
 }
 
-/// The graph of a recording in these bytes, or the first fault in them.
+/// The graph of a recording in these bytes, and what its labels tell; or the first fault in them.
 ///
 /// Time and memory grow with the number of bytes and, for at most 65,536 stages, with that of their feeds.
+pub fn read_labelled<R: Representation>(
+    alloc: Global,
+    bytes: &[u8],
+) -> Result<(Graph<R>, Told), Fault>
+    ensures graph { IsNamed (graph_read result) (named bytes.now) }
+    ensures unit { IfOk result (λ read. string_bytes read.1.unit ≡ unit_label bytes.now) }
+    ensures imported { IfOk result (λ read. read.1.is_imported ≡ is_imported bytes.now) }
+    ensures deadline { IfOk result (λ read. read.1.deadline ≡ deadline_label bytes.now) }
+{
+    let (recording, told) = read_told(alloc, bytes)?;
+    let graph = load(alloc, &recording)?;
+    Ok((graph, told))
+}
+
+/// The graph of a recording in these bytes, or the first fault in them, in the time and memory that `read_labelled` takes.
 pub fn read_recording<R: Representation>(alloc: Global, bytes: &[u8]) -> Result<Graph<R>, Fault>
     ensures { IsNamed result (named bytes.now) }
 {
-    let recording = read_recorded(alloc, bytes)?;
-    load(alloc, &recording)
+    let (graph, _) = read_labelled(alloc, bytes)?;
+    Ok(graph)
 }

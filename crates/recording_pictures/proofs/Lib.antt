@@ -1,2 +1,2 @@
-pub mod Labelled
 pub mod Pictured
+pub mod Put

@@ -1,3 +1,4 @@
-pub mod Labels
+pub mod Drawn
 pub mod Pictures
+pub mod Told
 pub mod Words

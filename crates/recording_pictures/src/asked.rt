@@ -37,14 +37,22 @@ pub fn scope_named(word: &str) -> Option<Scope>
     }
 }
 
+/// How it is drawn.
+#[derive(Clone, Copy, Debug, PartialEq, Eq)]
+pub struct Layout {
+    pub form: Form,
+    /// Whether the rows of a service stand together: in an SVG file below its name, among trace events as a process.
+    pub by_service: bool,
+    /// Which stages have a row, where there is room, and the ticks that an SVG file shows.
+    pub selection: Selection,
+}
+
 /// What is asked for.
 #[derive(Clone, Copy)]
 pub struct Asked<'a> {
     /// The file that the recording is in, where one is named.
     pub file: Option<&'a str>,
-    pub form: Form,
-    /// Which stages have a row, where there is room, and the ticks that an SVG file shows.
-    pub selection: Selection,
+    pub layout: Layout,
     /// The name of the stage whose path is drawn over the rows.
     pub stage: Option<&'a str>,
 }

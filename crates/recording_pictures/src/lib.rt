@@ -1,11 +1,9 @@
-//! The picture of a recording: of version 0 of its graph.
+//! The picture of a recording: of version 0 of its graph, or of another version of it.
 #![tactic(auto)]
 
 mod asked;
 mod drawing;
-mod labels;
 mod text;
 
-pub use asked::{Asked, Form, scope_named};
-pub use drawing::draw_recording;
-pub use labels::unit_of;
+pub use asked::{Asked, Form, Layout, scope_named};
+pub use drawing::{draw_recording, draw_version};

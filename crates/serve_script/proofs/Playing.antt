@@ -89,6 +89,12 @@ module _ (n most : ℕ) (format : Format) (s t : State) (graph : PlainGraph) (ha
   from_opening same opens all =
       subst (λ u. PlaysAll most format u t had left before after held holds) opens (subst (λ m. PlaysAll m format s t had left before after held holds) same all)
 
+  -- the same of the table that is left
+  pub plays_to_table : (u : State) → u ≡ t → n ≡ most → s ≡ opening_state graph → PlaysAll n format s t had left before after held holds
+      → PlaysAll most format (opening_state graph) u had left before after held holds
+  plays_to_table u is same opens all =
+      subst (λ v. PlaysAll most format (opening_state graph) v had left before after held holds) (sym is) (from_opening same opens all)
+
   pub plays_to : (version : PlainVersion) → n ≡ most → s ≡ opening_state graph → PlaysAll n format s t had left before after held holds → last_version t ≡ Some version
       → PlaysTo most format graph version had left before after held holds
   plays_to version same opens all last =

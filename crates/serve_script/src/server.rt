@@ -35,7 +35,7 @@ const MOST_VERSIONS: u32 = 65_536;
 
 /// Versions and sessions, and the replies to lines about them. Contracts see the state of the versions and sessions.
 #[derive(Drop)]
-pub(crate) struct Server<'a, R: StateRepresentation, W> {
+pub struct Server<'a, R: StateRepresentation, W> {
     alloc: Global,
     runner: &'a W,
     table: Table<R>,
@@ -56,7 +56,7 @@ impl<'a, R: StateRepresentation, W> Model for Server<'a, R, W> {
 
 impl<'a, R: StateRepresentation, W: Runner> Server<'a, R, W> {
     /// A server with the graph as version 0, and no session.
-    pub(crate) fn new(
+    pub fn new(
         alloc: Global,
         graph: Graph<R>,
         runner: &'a W,
@@ -74,7 +74,7 @@ impl<'a, R: StateRepresentation, W: Runner> Server<'a, R, W> {
     }
 
     /// The reply to an event.
-    fn take(&mut self, event: &Event) -> Result<Reply, AllocError>
+    pub fn take(&mut self, event: &Event) -> Result<Reply, AllocError>
         ensures { IfOk result (λ reply. step self.old event.now ≡ Some (reply, self.new)) }
     {
         match self.table.take(self.alloc, event, self.runner) {
@@ -231,7 +231,7 @@ impl<'a, R: StateRepresentation, W: Runner> Server<'a, R, W> {
     }
 
     /// Executes a step, and writes the reply or the report.
-    fn answer_step<S: Sink>(
+    pub fn answer_step<S: Sink>(
         &mut self,
         asked: Step,
         form: Form,
@@ -295,11 +295,26 @@ impl<'a, R: StateRepresentation, W: Runner> Server<'a, R, W> {
         }
     }
 
+    /// The versions and the sessions.
+    pub fn table(&self) -> &Table<R>
+        ensures { result.now.state ≡ self.now }
+    {
+        &self.table
+    }
+
     /// The version that was made last.
     pub(crate) fn last(&self) -> Result<Version<R>, AllocError>
         ensures { IfOk result (λ version. last_version self.now ≡ Some version) }
     {
         self.table.last().again()
+    }
+
+    /// The versions and the sessions.
+    pub(crate) fn into_table(self) -> Table<R>
+        ensures { result.state ≡ self.entry }
+    {
+        let Server { table, .. } = self;
+        table
     }
 
     /// Executes the step on a line, and writes the answer.

@@ -7,7 +7,7 @@ ghost use Rattle.serve_script.specs.Faults.{failed_writes, failed_writes_of_serv
 ghost use Rattle.script_lines.specs.Lines.{IsBegun, comes_after};
 ghost use Rattle.script_lines.specs.Seen.{seen};
 ghost use Rattle.serve_script.specs.Serves.{ServesAll, ServesPart};
-ghost use Rattle.serve_script.specs.Answers.{answers_from, answers_to, played_from};
+ghost use Rattle.serve_script.specs.Answers.{answers_from, answers_to, opening_state, played_from};
 ghost use Rattle.serve_script.specs.Playing.{PlaysAll, PlaysOn, PlaysTo};
 
 use crate::fault::{AnswerFault, ServeFault};
@@ -15,6 +15,7 @@ use crate::server::Server;
 use level_pool::Runner;
 use report_form::Format;
 use script_lines::{Line, LineReader};
+use session_core::Table;
 use stage_graph::Graph;
 use std::alloc::Global;
 use std::mem::forget;
@@ -97,6 +98,31 @@ pub fn play<K: StateRepresentation, W: Runner, R: Source, S: Sink>(
     let mut server = Server::new(alloc, graph, runner)?;
     answer_script(alloc, source, &mut server, format, sink)?;
     Ok(server.last()?)
+}
+
+/// Reads and answers a script, as `serve` does, and gives the table that it leaves: all versions that were made, version 0 first.
+///
+/// Errors: those of `serve`.
+pub fn serve_table<K: StateRepresentation, W: Runner, R: Source, S: Sink>(
+    alloc: Global,
+    runner: &W,
+    source: &mut R,
+    sink: &mut S,
+    graph: Graph<K>,
+    format: Format,
+) -> Result<Table<K>, ServeFault>
+    requires ranked { IsRanked graph.places }
+    requires reads { R.failures source.old < 2 ^ 64 - 1 }
+    requires writes { S.failures sink.old < 2 ^ 64 - 1 }
+    ensures ok { IfOk result (λ table. PlaysAll (2 ^ 30) format (opening_state graph) table.state (R.remaining source.old) (R.remaining source.new)
+        (R.failures source.old) (R.failures source.new) (S.held sink.old) (S.held sink.new)) }
+    ensures err { IfErr result (ServesPart (2 ^ 30) (answers_to format graph) (R.remaining source.old) (R.remaining source.new)
+        (R.failures source.old) (R.failures source.new) (S.held sink.old) (S.held sink.new)) }
+    ensures failures { S.failures sink.new ≡ S.failures sink.old + failed_writes_of_serve result }
+{
+    let mut server = Server::new(alloc, graph, runner)?;
+    answer_script(alloc, source, &mut server, format, sink)?;
+    Ok(server.into_table())
 }
 
 // Reads and answers a script.

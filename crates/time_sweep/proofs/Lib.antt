@@ -1,4 +1,5 @@
 pub mod ByKey
+pub mod ChangedStages
 pub mod Crossing
 pub mod Finding
 pub mod Further

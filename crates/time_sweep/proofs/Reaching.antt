@@ -1,5 +1,5 @@
 -- A trial that has come down to one place is over where it is known how much of what the place completes sooner reaches the target.
-use Rattle.std.proofs.Common.{◌≡◌, ◌≢◌, ℕ, zero, suc, ◌<◌, ◌≤◌, min, Bool, true, false, not, List, [], ◌∷◌, ◌++◌, Option, Some, None, refl, ap, sym, ◌∙◌, subst, arith, inl, ⊎_elim}
+use Rattle.std.proofs.Common.{◌≡◌, ℕ, zero, suc, ◌<◌, ◌≤◌, min, Bool, true, false, not, List, [], ◌∷◌, ◌++◌, Option, Some, None, refl, ap, sym, ◌∙◌, subst, arith, inl, ⊎_elim}
 use Rattle.std.specs.Prelude.{Contains, is_some, ◌==◌, ◌&&◌, ◌||◌, if◌then◌else◌}
 use Rattle.std.specs.Option.{option_map}
 use Rattle.std.proofs.lemmas.Bool.{and_from, and_parts, cases_Bool, cond-false, cond-true, eq-eqb, eqb-true, not-true, not_from_false, or_cases, or_right, true≢false}
@@ -29,14 +29,14 @@ seen_sooner ticks state = of state.done where
   of None = refl
   of (Some done) = refl
 
-module _ {step : Step} (law : ReadsDecide step) {old new : Stages} {place : ℕ} (exchange : IsExchange old new place) (ranks : List (Option ℕ))
+module _ {step : Step} (law : ReadsDecide step) {old new : Stages} {differs : ℕ → Bool} (exchange : IsExchange old new differs) (ranks : List (Option ℕ))
     (closed : IsClosed old (λ s. is_some (rank_in ranks s))) where
   abbrev known : ℕ → Bool
   known s = is_some (rank_in ranks s)
 
   -- one place is marked, and no other
   module _ {computed : List ℕ} {marked : ℕ → Bool} {states : ℕ → State} (settling : IsSettling step old new known computed marked states)
-      (calm : IsCalm step old place known computed marked states) {left : ℕ → Bool} {u : ℕ} (first : IsFirst (rank old) marked left u) (alone : (s : ℕ) → left s ≡ false) where
+      (calm : IsCalm step old differs known computed marked states) {left : ℕ → Bool} {u : ℕ} (first : IsFirst (rank old) marked left u) (alone : (s : ℕ) → left s ≡ false) where
     abbrev now : State
     now = come_to step (stage_at new u) states
 
@@ -54,7 +54,7 @@ module _ {step : Step} (law : ReadsDecide step) {old new : Stages} {place : ℕ}
     abbrev states_then : ℕ → State
     states_then s = if u == s then now else states s
 
-    -- what stands above it is not computed, and is not the place that differs
+    -- what stands above it is not computed, so it does not differ: all places that do are computed or marked, as far as they are known
     later : (s : ℕ) → rank old u < rank old s → is_among s computed ≡ false
     later s above = false_unless (is_among s computed) (λ earlier.
         ⊎_elim
@@ -62,11 +62,14 @@ module _ {step : Step} (law : ReadsDecide step) {old new : Stages} {place : ℕ}
         (λ tie. let same : rank old s ≡ rank old u = tie.0 in omega arith)
         (settling.before s u earlier first.here))
 
-    elsewhere : (s : ℕ) → rank old u < rank old s → s ≢ place
-    elsewhere s above same =
-        let least : rank old place ≤ rank old u = calm.low u first.here in
-        let as_high : rank old s ≡ rank old place = ap (rank old) same in
-        omega arith
+    elsewhere : (s : ℕ) → known s ≡ true → rank old u < rank old s → differs s ≡ false
+    elsewhere s here above = false_unless (differs s) (λ is.
+        ⊎_elim
+        (λ marks.
+        let other : (s == u) ≡ false = false_unless (s == u) (λ is. let as_high : rank old s ≡ rank old u = ap (rank old) (eqb-true s u is) in omega arith) in
+        true≢false (sym (first.rest s ∙ and_from (marked s) (not (s == u)) marks (not_from_false (s == u) other)) ∙ alone s))
+        (λ earlier. true≢false (sym earlier ∙ later s above))
+        (calm.differing s here is))
 
     reads_feed : (s : ℕ) → is_among u (reads_at step old s) ≡ true → Contains (feeds_at old s) u
     reads_feed s read = reads_are_feeds (stage_at old s) (at step old s).reads u (among_contains u (reads_at step old s) read)
@@ -74,7 +77,7 @@ module _ {step : Step} (law : ReadsDecide step) {old new : Stages} {place : ℕ}
     unread : (s : ℕ) → known s ≡ true → is_among u (feeds_at old s) ≡ true → reader s ≡ false → is_among u (reads_of (stage_at new s) (states s).reads) ≡ false
     unread s here feed deaf =
         let above : rank old u < rank old s = rank_feed old exchange.old_ranked s u (among_contains u (feeds_at old s) feed) in
-        ap (λ (here : Option Stage). is_among u (reads_of here (states s).reads)) (exchange.elsewhere s (elsewhere s above))
+        ap (λ (here : Option Stage). is_among u (reads_of here (states s).reads)) (exchange.elsewhere s (elsewhere s here above))
         ∙ ap (λ (state : State). is_among u (reads_of (stage_at old s) state.reads)) (calm.fresh s (later s above))
         ∙ deaf
 
@@ -82,7 +85,7 @@ module _ {step : Step} (law : ReadsDecide step) {old new : Stages} {place : ℕ}
     settling_then =
         settling_more law exchange known closed settling first true reader marked_then states_then unread (λ quiet. absurd (true≢false quiet)) (λ s. refl) (λ s. refl)
 
-    calm_then : IsCalm step old place known (computed ++ u ∷ []) marked_then states_then
+    calm_then : IsCalm step old differs known (computed ++ u ∷ []) marked_then states_then
     calm_then =
         calm_more law exchange known closed settling first true reader marked_then states_then unread (λ quiet. absurd (true≢false quiet)) (λ s. refl) (λ s. refl)
         calm (λ s. refl)
@@ -162,7 +165,7 @@ module _ {step : Step} (law : ReadsDecide step) {old new : Stages} {place : ℕ}
 
       comes : come_to step (stage_at new next) states_then ≡ sooner_state (min gain own) (at step old next)
       comes =
-          ap (λ (here : Option Stage). come_to step here states_then) (exchange.elsewhere next (elsewhere next above) ∙ handed.stands)
+          ap (λ (here : Option Stage). come_to step here states_then) (exchange.elsewhere next (elsewhere next handed.known above) ∙ handed.stands)
           ∙ sym (law handed.stage sooner_seen (seen_at states_then) agree)
           ∙ handed.hands_on gain
           ∙ ap (sooner_state (min gain own)) (sym was)
@@ -172,7 +175,7 @@ module _ {step : Step} (law : ReadsDecide step) {old new : Stages} {place : ℕ}
 
   -- so the target completes as many ticks sooner as reach it
   pub reached : (target between : ℕ) {computed : List ℕ} {marked : ℕ → Bool} {states : ℕ → State} (settling : IsSettling step old new known computed marked states)
-      (calm : IsCalm step old place known computed marked states) {left : ℕ → Bool} {u : ℕ} (first : IsFirst (rank old) marked left u) (alone : (s : ℕ) → left s ≡ false)
+      (calm : IsCalm step old differs known computed marked states) {left : ℕ → Bool} {u : ℕ} (first : IsFirst (rank old) marked left u) (alone : (s : ℕ) → left s ≡ false)
       (gain most : ℕ) → ReachesBy step old ranks target between u most
       → seen_of (come_to step (stage_at new u) states) ≡ option_map (sooner_completion gain) (seen_at (at step old) u)
       → at step new target ≡ sooner_state (min gain most) (at step old target)

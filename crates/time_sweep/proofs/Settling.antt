@@ -1,7 +1,7 @@
 -- The steps of a trial: which places are marked, and what the places hold.
-use Rattle.std.proofs.Common.{◌≡◌, ◌≢◌, ℕ, ◌<◌, ◌≤◌, Bool, true, false, List, [], ◌∷◌, ◌++◌, get_or, ap, sym, ◌∙◌, arith, subst, inl, inr, ⊎_elim}
+use Rattle.std.proofs.Common.{◌≡◌, ℕ, ◌<◌, ◌≤◌, Bool, true, false, List, [], ◌∷◌, ◌++◌, get_or, ap, sym, ◌∙◌, arith, subst, inl, inr, ⊎_elim}
 use Rattle.std.specs.Prelude.{Contains, AllPairs, not, ◌==◌, ◌&&◌, ◌||◌, ◌⊎◌, zero, suc, if◌then◌else◌}
-use Rattle.std.proofs.lemmas.Bool.{eqb-true, eq-eqb, and_parts, and_from, or_cases, or_parts, true≢false, cases_Bool, cond-true, cond-false, not-true, not_from_false}
+use Rattle.std.proofs.lemmas.Bool.{eqb-true, eq-eqb, and_parts, and_from, or_cases, or_left, or_parts, true≢false, cases_Bool, cond-true, cond-false, not-true, not_from_false}
 use Rattle.std.proofs.lemmas.List.Elements.{Contains-get_or}
 use Rattle.std.proofs.lemmas.List.Quantifiers.{all_pairs_push}
 use Rattle.stage_graph.specs.Plain.{stage_at, feeds_at}
@@ -17,12 +17,12 @@ use Rattle.propagate.proofs.Scratch.{reads_are_feeds, scratch_meets, same_on_fee
 use Rattle.propagate.proofs.Ranks.{rank_feed}
 use Rattle.propagate.proofs.Ascending.{IsBefore}
 
--- Two ranked graphs of the same feeds, which differ at one place only.
-pub record IsExchange (old new : Stages) (place : ℕ) : Type 0 where
+-- Two ranked graphs of the same feeds, which differ at some places only.
+pub record IsExchange (old new : Stages) (differs : ℕ → Bool) : Type 0 where
   pub old_ranked : IsRanked old
   pub new_ranked : IsRanked new
   pub feeds : (s : ℕ) → feeds_at new s ≡ feeds_at old s
-  pub elsewhere : (s : ℕ) → s ≢ place → stage_at new s ≡ stage_at old s
+  pub elsewhere : (s : ℕ) → differs s ≡ false → stage_at new s ≡ stage_at old s
 
 -- what is known of a place is known of its feeds
 abbrev pub IsClosed : Stages → (ℕ → Bool) → Type 0
@@ -38,25 +38,25 @@ pub record IsSettling (step : Step) (old new : Stages) (known : ℕ → Bool) (c
   pub each_known : (c : ℕ) → is_among c computed ≡ true → known c ≡ true
 
 -- What is not computed keeps its state. What a known place that is neither marked nor computed has read looks the same there as before. And
--- no mark is of a lower rank than the place that differs.
-pub record IsCalm (step : Step) (old : Stages) (place : ℕ) (known : ℕ → Bool) (computed : List ℕ) (marked : ℕ → Bool) (states : ℕ → State) : Type 0 where
+-- each known place that differs is marked or computed.
+pub record IsCalm (step : Step) (old : Stages) (differs known : ℕ → Bool) (computed : List ℕ) (marked : ℕ → Bool) (states : ℕ → State) : Type 0 where
   pub fresh : (s : ℕ) → is_among s computed ≡ false → states s ≡ at step old s
   pub calm : (s feed : ℕ) → known s ≡ true → marked s ≡ false → is_among s computed ≡ false → is_among feed (reads_at step old s) ≡ true
       → seen_at states feed ≡ seen_at (at step old) feed
-  pub low : (s : ℕ) → marked s ≡ true → rank old place ≤ rank old s
+  pub differing : (s : ℕ) → known s ≡ true → differs s ≡ true → (marked s ≡ true) ⊎ (is_among s computed ≡ true)
 
--- at the beginning, where at most the place that differs is marked
-pub calm_begun : {step : Step} {old : Stages} {place : ℕ} (known marked : ℕ → Bool) (states : ℕ → State) → ((s : ℕ) → marked s ≡ true → s ≡ place)
-    → ((s : ℕ) → states s ≡ at step old s) → IsCalm step old place known [] marked states
-calm_begun {step} {old} {place} known marked states only same = record {
+-- at the beginning, where the places that differ are marked as far as they are known
+pub calm_begun : {step : Step} {old : Stages} (differs known marked : ℕ → Bool) (states : ℕ → State) → ((s : ℕ) → known s ≡ true → differs s ≡ true → marked s ≡ true)
+    → ((s : ℕ) → states s ≡ at step old s) → IsCalm step old differs known [] marked states
+calm_begun {step} {old} differs known marked states each same = record {
   fresh = λ s apart. same s;
   calm = λ s feed here unmarked apart read. ap seen_of (same feed);
-  low = λ s is. let as_high : rank old s ≡ rank old place = ap (rank old) (only s is) in omega (arith, as_high);
+  differing = λ s here is. inl (each s here is);
 }
 
-module _ {step : Step} (law : ReadsDecide step) {old new : Stages} {place : ℕ} (exchange : IsExchange old new place) (known : ℕ → Bool) where
-  -- At the beginning nothing is computed. The place whose stage differs is marked, if it is known.
-  pub begun : (marked : ℕ → Bool) (states : ℕ → State) → ((s : ℕ) → known s ≡ true → marked s ≡ false → s ≢ place) → ((s : ℕ) → marked s ≡ true → known s ≡ true)
+module _ {step : Step} (law : ReadsDecide step) {old new : Stages} {differs : ℕ → Bool} (exchange : IsExchange old new differs) (known : ℕ → Bool) where
+  -- At the beginning nothing is computed. The places whose stages differ are marked, if they are known.
+  pub begun : (marked : ℕ → Bool) (states : ℕ → State) → ((s : ℕ) → known s ≡ true → marked s ≡ false → differs s ≡ false) → ((s : ℕ) → marked s ≡ true → known s ≡ true)
       → ((s : ℕ) → states s ≡ at step old s) → IsSettling step old new known [] marked states
   begun marked states other within same = record {
     meets = λ s here unmarked.
@@ -246,7 +246,7 @@ module _ {step : Step} (law : ReadsDecide step) {old new : Stages} {place : ℕ}
         }
 
         -- so the rest stays calm
-        module _ (calm : IsCalm step old place known computed marked states) (hearing : (s : ℕ) → reader s ≡ is_among u (reads_at step old s)) where
+        module _ (calm : IsCalm step old differs known computed marked states) (hearing : (s : ℕ) → reader s ≡ is_among u (reads_at step old s)) where
           earlier : (s : ℕ) → is_among s (computed ++ u ∷ []) ≡ false → (is_among s computed ≡ false) × ((u == s) ≡ false)
           earlier s apart = (
             false_unless (is_among s computed) (λ here. true≢false (sym (among_push_left s u computed here) ∙ apart)),
@@ -283,16 +283,23 @@ module _ {step : Step} (law : ReadsDecide step) {old new : Stages} {place : ℕ}
               (λ other. ap seen_of (there_then feed other) ∙ before)
               (cases_Bool (u == feed))
 
-          low_then : (s : ℕ) → marked_then s ≡ true → rank old place ≤ rank old s
-          low_then s is =
+          -- what was marked is so still, or is computed
+          differing_then : (s : ℕ) → known s ≡ true → differs s ≡ true → (marked_then s ≡ true) ⊎ (is_among s (computed ++ u ∷ []) ≡ true)
+          differing_then s here is =
               ⊎_elim
-              (λ l. calm.low s (left_marked s l).0)
-              (λ t. let least : rank old place ≤ rank old u = calm.low u first.here in let above : rank old u < rank old s = t.0 in omega arith)
-              (marked_cases s is)
+              (λ was.
+              ⊎_elim
+              (λ same. inr (subst (λ x. is_among x (computed ++ u ∷ []) ≡ true) (eqb-true u s same) (among_push_self u computed)))
+              (λ other.
+              let others : (s == u) ≡ false = false_unless (s == u) (λ is. true≢false (sym (eq-eqb u s (sym (eqb-true s u is))) ∙ other)) in
+              inl (marks s ∙ or_left (left s) (told && hears s) (first.rest s ∙ and_from (marked s) (not (s == u)) was (not_from_false (s == u) others))))
+              (cases_Bool (u == s)))
+              (λ was. inr (among_push_left s u computed was))
+              (calm.differing s here is)
 
-          pub calm_more : IsCalm step old place known (computed ++ u ∷ []) marked_then states_then
+          pub calm_more : IsCalm step old differs known (computed ++ u ∷ []) marked_then states_then
           calm_more = record {
             fresh = λ s apart. let parts = earlier s apart in there_then s parts.1 ∙ calm.fresh s parts.0;
             calm = calm_then;
-            low = low_then;
+            differing = differing_then;
           }

@@ -1,8 +1,8 @@
 -- What stands at a place that the target cannot wait for doesn't matter to it, so the place has no trial.
 use Rattle.std.proofs.Common.{◌≡◌, ℕ, Bool, true, false, List, [], ◌∷◌, Option, Some, None, cond, refl, ap, sym, ◌∙◌}
-use Rattle.std.specs.Prelude.{filter_map, is_some}
+use Rattle.std.specs.Prelude.{filter_map, is_some, ◌==◌}
 use Rattle.std.specs.List.{cons_option}
-use Rattle.std.proofs.lemmas.Bool.{true≢false, false≢true}
+use Rattle.std.proofs.lemmas.Bool.{eqb-true, true≢false, false≢true}
 use Rattle.stage_graph.specs.declared.stage.Stage.{Stage}
 use Rattle.stage_graph.specs.Plain.{PlainGraph, all_places, stage_at}
 use Rattle.stage_graph.specs.Sound.{IsSound}
@@ -12,6 +12,7 @@ use Rattle.stage_ops.specs.declared.state.State.{State}
 use Rattle.stage_ops.specs.Evaluation.{at}
 use Rattle.stage_ops.specs.Java.{java_step}
 use Rattle.stage_ops.specs.JavaLaws.{java_reads_decide}
+use Rattle.propagate.proofs.Members.{false_unless}
 use Rattle.time_sweep.specs.declared.trial.Trial.{Trial}
 use Rattle.time_sweep.specs.Known.{AreRanksFor, rank_in}
 use Rattle.time_sweep.specs.declared.haste.Haste.{Haste}
@@ -31,7 +32,7 @@ module _ (graph : PlainGraph) (ranked : IsRanked graph.places) (target : ℕ) (r
   unmarked : IsSettling (java_step graph.mode) graph.places (with_stage graph changed).places (is_known ranks) [] (λ s. false) (at (java_step graph.mode) graph.places)
   unmarked =
       begun (java_reads_decide graph.mode) (exchange graph changed fits ranked) (is_known ranks) (λ s. false) (at (java_step graph.mode) graph.places)
-      (λ s here none same. true≢false (sym here ∙ ap (is_known ranks) same ∙ unknown))
+      (λ s here none. false_unless (s == changed.place) (λ same. true≢false (sym here ∙ ap (is_known ranks) (eqb-true s changed.place same) ∙ unknown)))
       (λ s is. absurd (false≢true is))
       (λ s. refl)
 

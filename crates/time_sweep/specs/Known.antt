@@ -13,6 +13,10 @@ rank_in ranks place = slice_index_or ranks place None
 abbrev pub IsKnown : List (Option ℕ) → ℕ → Type 0
 IsKnown ranks place = IsSome (rank_in ranks place)
 
+-- each rank that is known is that of the place by this order
+abbrev pub AreRanksBy : (ℕ → ℕ) → List (Option ℕ) → Type 0
+AreRanksBy order ranks = (place known : ℕ) → rank_in ranks place ≡ Some known → known ≡ order place
+
 -- the ranks of the target and of all places that it can wait for, and maybe of others
 pub record AreRanksFor (stages : Stages) (target : ℕ) (ranks : List (Option ℕ)) : Type 0 where
   pub count : length ranks ≡ length stages

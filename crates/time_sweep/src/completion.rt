@@ -1,5 +1,5 @@
-//! How a target completes in the graph in which another stage stands at a place: a changed one, which keeps its name and its
-//! feeds.
+//! How a target completes in the graph in which other stages stand at some places: changed ones, which keep their names and
+//! their feeds.
 ghost use Rattle.std.specs.Prelude.{◌≡◌, ◌+◌, ◌<◌, ◌≤◌, ◌||◌, ◌&&◌, ◌==◌, ◌^◌, ℕ, true, All, IfOk, OnOk, Some, IfNone, IfSome, is_some, not, length, option_copied, slice_set, ◌++◌, ◌∷◌, []};
 ghost use Rattle.stage_graph.specs.Plain.{stage_at, feeds_at, dependents, IsLive};
 ghost use Rattle.stage_graph.specs.Sound.{IsSoundStage};
@@ -17,8 +17,9 @@ ghost use Rattle.time_sweep.specs.HandedOn.{handed_at, AreHandedOn, IsDoneByOne}
 ghost use Rattle.time_sweep.specs.Known.{is_below, rank_in, AreRanksFor, IsKnown};
 ghost use Rattle.time_sweep.specs.Standing.{AreStanding};
 ghost use Rattle.time_sweep.specs.Sweep.{completion_of};
-ghost use Rattle.time_sweep.specs.WithStage.{with_stage, IsFitting};
+ghost use Rattle.time_sweep.specs.WithStage.{with_stages, AreFitting};
 
+use crate::changed::{first_marks, stage_among};
 use crate::changes::{Changes, Now};
 use crate::known::{done_in, handed_at, known_rank, reads_in};
 use crate::sooner::{sooner_done, ticks_sooner};
@@ -33,21 +34,6 @@ use version_store::Version;
 /// The marker of the meter of a trial.
 #[derive(Drop)]
 pub(crate) struct OneTrial;
-
-/// The marks of a trial at its beginning: the changed stage is the only one that has to be computed.
-fn first_mark(alloc: Global, ranks: &[Option<u32>], place: u32) -> Result<Marks, AllocError>
-    requires { IsKnown ranks.now place }
-    ensures marked { IfOk result (λ marks. (order : ℕ → ℕ) → rank_in ranks.now place ≡ Some (order place)
-        → (other : ℕ) → is_marked order marks other ≡ (other == place)) }
-    ensures marks { IfOk result (λ marks. (order : ℕ → ℕ) → rank_in ranks.now place ≡ Some (order place) → AreMarks order marks) }
-{
-    let mut marks = Marks::new(alloc);
-    match known_rank(ranks, place) {
-        Some(rank) => marks.insert(rank, place)?,
-        None => unreachable!(),
-    }
-    Ok(marks)
-}
 
 /// The stage at a place whose rank is known.
 #[inline(always)]
@@ -195,26 +181,24 @@ fn tell_if<R: StateRepresentation>(
     Ok(())
 }
 
-/// The stage at a place whose rank is known, of the graph with the changed stage.
+/// The stage at a place whose rank is known, of the graph with the changed stages.
 #[inline(always)]
 fn stage_in<'a, R: StateRepresentation>(
     version: &Version<R>,
     ranks: &[Option<u32>],
     standing: &[Option<Standing<'a>>],
-    changed: &'a Stage,
+    changed: &'a [Stage],
     place: u32,
 ) -> Option<&'a Stage>
-    requires live { IsLive version.now.graph.places changed.now.place }
-    requires sound { IsSoundStage version.now.graph.places changed.now.place changed.now }
+    requires fit { AreFitting version.now.graph.places changed.now }
     requires known { IsKnown ranks.now place }
     requires standing { AreStanding version.now.graph.places ranks.now standing.now }
-    ensures stage { option_copied result ≡ stage_at (with_stage version.now.graph changed.now).places place }
+    ensures stage { option_copied result ≡ stage_at (with_stages version.now.graph changed.now).places place }
     ensures sound { IfSome result (λ stage. IsSoundStage version.now.graph.places place stage.now) }
 {
-    if place == changed.place {
-        Some(changed)
-    } else {
-        stage_at(version, ranks, standing, place)
+    match stage_among(changed, place) {
+        Some(stage) => Some(stage),
+        None => stage_at(version, ranks, standing, place),
     }
 }
 
@@ -239,7 +223,7 @@ fn state_of<R: StateRepresentation>(
     KeptState::new(alloc, &state)
 }
 
-/// The state that the stage at a place comes to, in the graph with the changed stage.
+/// The state that the stage at a place comes to, in the graph with the changed stages.
 #[inline(always)]
 fn state_in<R: StateRepresentation>(
     alloc: Global,
@@ -247,7 +231,7 @@ fn state_in<R: StateRepresentation>(
     before: &[KeptState],
     ranks: &[Option<u32>],
     standing: &[Option<Standing<'_>>],
-    changed: &Stage,
+    changed: &[Stage],
     place: u32,
     changes: &Changes,
     meter: &mut Meter<OneTrial>,
@@ -255,13 +239,12 @@ fn state_in<R: StateRepresentation>(
     requires live { IsLive version.now.graph.places place }
     requires known { IsKnown ranks.now place }
     requires standing { AreStanding version.now.graph.places ranks.now standing.now }
-    requires sound { IsSoundStage version.now.graph.places changed.now.place changed.now }
-    requires stands { IsLive version.now.graph.places changed.now.place }
+    requires fit { AreFitting version.now.graph.places changed.now }
     requires count { length before.now ≡ length version.now.graph.places }
     requires each { length changes.now.at.items ≡ length version.now.graph.places }
     requires moments { All (λ state. IsBy (2 ^ 62) (seen_of state)) (states_in before.now changes.now.at.items changes.now.list.items) }
     requires room { meter.old + 1 < 2 ^ 64 }
-    ensures state { IfOk result (λ state. state ≡ come_to (java_step version.now.graph.mode) (stage_at (with_stage version.now.graph changed.now).places place)
+    ensures state { IfOk result (λ state. state ≡ come_to (java_step version.now.graph.mode) (stage_at (with_stages version.now.graph changed.now).places place)
         (state_in before.now changes.now.at.items changes.now.list.items)) }
     ensures counted { OnOk result (meter.new ≡ meter.old + 1) }
 {
@@ -284,7 +267,7 @@ fn advance<R: StateRepresentation>(
     before: &[KeptState],
     ranks: &[Option<u32>],
     standing: &[Option<Standing<'_>>],
-    changed: &Stage,
+    changed: &[Stage],
     target: u32,
     place: u32,
     marks: &mut Marks,
@@ -296,8 +279,7 @@ fn advance<R: StateRepresentation>(
     requires ranks { AreRanksFor version.now.graph.places target ranks.now }
     requires standing { AreStanding version.now.graph.places ranks.now standing.now }
     requires marks { AreMarks (rank version.now.graph.places) marks.old }
-    requires sound { IsSoundStage version.now.graph.places changed.now.place changed.now }
-    requires stands { IsLive version.now.graph.places changed.now.place }
+    requires fit { AreFitting version.now.graph.places changed.now }
     requires count { length before.now ≡ length version.now.graph.places }
     requires each { length changes.old.at.items ≡ length version.now.graph.places }
     requires few { length changes.old.list.items < length version.now.graph.places }
@@ -306,13 +288,13 @@ fn advance<R: StateRepresentation>(
     ensures at { OnOk result (changes.new.at.items ≡ slice_set changes.old.at.items place (length changes.old.list.items)) }
     ensures list { OnOk result (changes.new.list.items ≡ changes.old.list.items ++ record {
       place = place;
-      state = come_to (java_step version.now.graph.mode) (stage_at (with_stage version.now.graph changed.now).places place)
+      state = come_to (java_step version.now.graph.mode) (stage_at (with_stages version.now.graph changed.now).places place)
           (state_in before.now changes.old.at.items changes.old.list.items);
     } ∷ []) }
     ensures marked { OnOk result ((other : ℕ) → is_marked (rank version.now.graph.places) marks.new other
         ≡ (is_marked (rank version.now.graph.places) marks.old other
         || (differ (seen_of (state_in before.now changes.old.at.items changes.old.list.items place))
-        (seen_of (come_to (java_step version.now.graph.mode) (stage_at (with_stage version.now.graph changed.now).places place)
+        (seen_of (come_to (java_step version.now.graph.mode) (stage_at (with_stages version.now.graph changed.now).places place)
         (state_in before.now changes.old.at.items changes.old.list.items)))
         && (is_among place (feeds_at version.now.graph.places other) && (is_some (rank_in ranks.now other) && has_read version.now.graph.places (state_at before.now) place other))))) }
     ensures marks { OnOk result (AreMarks (rank version.now.graph.places) marks.old → AreMarks (rank version.now.graph.places) marks.new) }
@@ -398,7 +380,7 @@ fn is_below(ranks: &[Option<u32>], one: u32, other: u32) -> bool
     }
 }
 
-/// Computes the stages that can be reached from the changed one, as far as their ranks are known: by rank, so each of them
+/// Computes the stages that can be reached from the changed ones, as far as their ranks are known: by rank, so each of them
 /// once, and no more of them once the target's state is found. Where all that is left to compute comes of one place, and it is
 /// known how much of what that completes sooner reaches the target, gives how the target completes, and computes no more. The
 /// meter counts them.
@@ -409,13 +391,12 @@ fn settle<R: StateRepresentation>(
     ranks: &[Option<u32>],
     standing: &[Option<Standing<'_>>],
     handed: &[Option<u64>],
-    changed: &Stage,
+    changed: &[Stage],
     target: u32,
     changes: &mut Changes,
     meter: &mut Meter<OneTrial>,
 ) -> Result<Option<Done>, AllocError>
-    requires fits { IsFitting version.now.graph.places changed.now }
-    requires known { IsKnown ranks.now changed.now.place }
+    requires fit { AreFitting version.now.graph.places changed.now }
     requires states { AreStates (java_step version.now.graph.mode) version.now.graph.places before.now }
     requires ranks { AreRanksFor version.now.graph.places target ranks.now }
     requires standing { AreStanding version.now.graph.places ranks.now standing.now }
@@ -424,8 +405,8 @@ fn settle<R: StateRepresentation>(
     requires room { meter.old ≤ 2 ^ 63 }
     ensures each { OnOk result (length changes.new.at.items ≡ length version.now.graph.places) }
     ensures settled { IfOk result (λ early. IfNone early (state_in before.now changes.new.at.items changes.new.list.items target
-        ≡ at (java_step version.now.graph.mode) (with_stage version.now.graph changed.now).places target)) }
-    ensures early { IfOk result (λ early. IfSome early (λ done. Some done ≡ completion_of (with_stage version.now.graph changed.now) target)) }
+        ≡ at (java_step version.now.graph.mode) (with_stages version.now.graph changed.now).places target)) }
+    ensures early { IfOk result (λ early. IfSome early (λ done. Some done ≡ completion_of (with_stages version.now.graph changed.now) target)) }
     ensures once { OnOk result (IsEachOnce changes.new.list.items) }
     ensures counted { OnOk result (meter.new ≡ meter.old + length changes.new.list.items) }
 {
@@ -433,7 +414,7 @@ fn settle<R: StateRepresentation>(
     // With its length a graph says that it is sound, as every graph is.
     let _ = graph.len();
     changes.clear();
-    let mut marks = first_mark(alloc, ranks, changed.place)?;
+    let mut marks = first_marks(alloc, ranks, changed)?;
     let mut is_sought = true;
     while let Some(place) = marks.pop_first() {
         if is_below(ranks, target, place) {
@@ -457,7 +438,7 @@ fn settle<R: StateRepresentation>(
     Ok(None)
 }
 
-/// How the target completes in the graph with the changed stage; none where it would be pending. No stage is computed
+/// How the target completes in the graph with the changed stages; none where it would be pending. No stage is computed
 /// twice: the meter counts the computed ones, and these are as many places as the changes have.
 pub(crate) fn changed_completion<R: StateRepresentation>(
     alloc: Global,
@@ -466,14 +447,13 @@ pub(crate) fn changed_completion<R: StateRepresentation>(
     ranks: &[Option<u32>],
     standing: &[Option<Standing<'_>>],
     handed: &[Option<u64>],
-    changed: &Stage,
+    changed: &[Stage],
     target: u32,
     changes: &mut Changes,
     meter: &mut Meter<OneTrial>,
 ) -> Result<Option<Done>, AllocError>
     requires live { IsLive version.now.graph.places target }
-    requires fits { IsFitting version.now.graph.places changed.now }
-    requires known { IsKnown ranks.now changed.now.place }
+    requires fit { AreFitting version.now.graph.places changed.now }
     requires states { AreStates (java_step version.now.graph.mode) version.now.graph.places before.now }
     requires ranks { AreRanksFor version.now.graph.places target ranks.now }
     requires standing { AreStanding version.now.graph.places ranks.now standing.now }
@@ -481,7 +461,7 @@ pub(crate) fn changed_completion<R: StateRepresentation>(
     requires each { length changes.old.at.items ≡ length version.now.graph.places }
     requires room { meter.old ≤ 2 ^ 63 }
     ensures each { OnOk result (length changes.new.at.items ≡ length version.now.graph.places) }
-    ensures done { IfOk result (λ done. done ≡ completion_of (with_stage version.now.graph changed.now) target) }
+    ensures done { IfOk result (λ done. done ≡ completion_of (with_stages version.now.graph changed.now) target) }
     ensures once { OnOk result (IsEachOnce changes.new.list.items) }
     ensures counted { OnOk result (meter.new ≡ meter.old + length changes.new.list.items) }
 {

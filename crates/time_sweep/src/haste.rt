@@ -53,7 +53,7 @@ impl Haste {
     }
 
     /// The stage, with an action that is so much faster.
-    pub(crate) fn hastened(self, stage: &Stage) -> Result<Stage, AllocError>
+    pub fn hastened(self, stage: &Stage) -> Result<Stage, AllocError>
         requires { IsLawful stage.now }
         ensures { IfOk result (λ made. made ≡ hastened_stage self stage.now) }
     {

@@ -1,6 +1,6 @@
-//! Trials: how a target completes in the graph in which one stage has changed, but for its name and its feeds. A trial keeps
-//! nothing: it computes only the stages that the changed one can reach, and of those only the ones that the target can wait
-//! for, where these are soon found, over the states of the version.
+//! Trials: how a target completes in the graph in which one stage has changed, or several, but for their names and their feeds.
+//! A trial keeps nothing: it computes only the stages that the changed ones can reach, and of those only the ones that the target
+//! can wait for, where these are soon found, over the states of the version.
 //!
 //! And by such trials, which stages are worth making faster: for each stage with an action, how the target would complete if
 //! that action took no time, or less time. A runner makes parts of these trials beside each other.
@@ -8,6 +8,7 @@
 
 mod ancestors;
 mod as_it_is;
+mod changed;
 mod changes;
 mod completion;
 mod handed;

@@ -4,19 +4,19 @@ ghost use Rattle.stage_graph.specs.Plain.{stage_at, IsLive};
 ghost use Rattle.time_sweep.specs.Known.{AreRanksFor};
 ghost use Rattle.time_sweep.specs.Starts.{IsStart};
 ghost use Rattle.time_sweep.specs.Sweep.{completion_of};
-ghost use Rattle.time_sweep.specs.WithStage.{with_stage, IsFitting};
+ghost use Rattle.time_sweep.specs.WithStage.{with_stage, with_stages, AreFitting, IsFitting};
 
 use crate::ancestors::ranks_of;
-use crate::as_it_is::completion_of;
 use crate::changes::Changes;
 use crate::completion::{OneTrial, changed_completion};
 use crate::handed::handed_on;
-use crate::known::{known_rank, states_of};
+use crate::known::states_of;
 use crate::standing::{Standing, standing_of};
 use propagate::{KeptState, StateRepresentation};
 use stage_graph::Stage;
 use stage_ops::{Done, Meter};
 use std::alloc::{AllocError, Global};
+use std::slice;
 use version_store::{QueryFault, Version};
 
 /// What all trials of a target start from: the states of the version, and what stands at the places that the target can
@@ -115,12 +115,24 @@ impl<'a> TrialStart<'a> {
         ensures done { IfOk result (λ done. done ≡ completion_of (with_stage version.now.graph changed.now) self.now.target) }
         ensures room { OnOk result (length changes.new.at.items ≡ length self.now.before.items) }
     {
-        // With it a graph says that no stage waits for itself, as in every version.
-        let _ = version.graph();
-        // What stands at a place that the target can't wait for doesn't matter to it.
-        if known_rank(self.ranks.as_slice(), changed.place).is_none() {
-            return Ok(completion_of(version, self.target));
-        }
+        self.completion_with_all(alloc, version, slice::from_ref(changed), changes)
+    }
+
+    /// The same with several changed stages at once, each in place of the one that stands there. They are in the order of their
+    /// places.
+    pub fn completion_with_all<R: StateRepresentation>(
+        &self,
+        alloc: Global,
+        version: &Version<R>,
+        changed: &[Stage],
+        changes: &mut Changes,
+    ) -> Result<Option<Done>, AllocError>
+        requires start { IsStart version.now.graph self.now }
+        requires fit { AreFitting version.now.graph.places changed.now }
+        requires room { length changes.old.at.items ≡ length self.now.before.items }
+        ensures done { IfOk result (λ done. done ≡ completion_of (with_stages version.now.graph changed.now) self.now.target) }
+        ensures room { OnOk result (length changes.new.at.items ≡ length self.now.before.items) }
+    {
         let mut meter = Meter::new(OneTrial);
         let done = changed_completion(
             alloc,

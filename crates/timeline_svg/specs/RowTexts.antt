@@ -5,7 +5,7 @@ use Rattle.timeline.specs.declared.scale.Bar.{Bar}
 use Rattle.timeline.specs.declared.scale.Scale.{Scale}
 use Rattle.timeline.specs.Places.{bar_of, x_of}
 use Rattle.timeline_svg.specs.declared.row.Course.{Course}
-use Rattle.timeline_svg.specs.declared.row.Course.TheVariants.{Pending, Completed}
+use Rattle.timeline_svg.specs.declared.row.Course.TheVariants.{Service, Pending, Completed}
 use Rattle.timeline_svg.specs.declared.row.Row.{Row}
 use Rattle.timeline_svg.specs.declared.row.Run.{Run}
 use Rattle.timeline_svg.specs.Escape.{cut, element_text}
@@ -66,8 +66,13 @@ abbrev pub pending_text : ℕ → ℕ → ℕ → List ℕ
 pending_text y from right =
     wait_text y from right ++ (codes "<path class='open' d='M" ++ decimal right ++ codes " " ++ decimal y ++ codes ".5m-7-5l7 5l-7 5'/>")
 
--- from the creation on, about a height
+-- a line from end to end
+abbrev pub rule_text : ℕ → ℕ → ℕ → List ℕ
+rule_text y left right = codes "<path class='axis' d='M" ++ decimal left ++ codes " " ++ decimal y ++ codes ".5H" ++ decimal right ++ codes "'/>"
+
+-- from the creation on, about a height; a line, where it is a service
 abbrev pub course_text : Scale → ℕ → ℕ → Course → List ℕ
+course_text scale y created Service = rule_text y scale.left (scale.left + scale.width)
 course_text scale y created Pending = pending_text y (x_of scale created) (scale.left + scale.width)
 course_text scale y created (Completed run) = run_text scale y (x_of scale created) run
 
@@ -76,6 +81,7 @@ ended_text true = codes "failed"
 ended_text false = codes "complete"
 
 abbrev pub state_text : Course → List ℕ
+state_text Service = codes "service"
 state_text Pending = codes "pending"
 state_text (Completed run) = ended_text run.has_failed
 

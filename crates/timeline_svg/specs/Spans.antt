@@ -3,15 +3,17 @@ use Rattle.std.specs.Prelude.{ℕ, ◌≡◌, ◌+◌, ◌-◌, ◌*◌, ◌^◌
 use Rattle.std.specs.Str.{chars}
 use Rattle.timeline.specs.declared.scale.Scale.{Scale}
 use Rattle.timeline_svg.specs.declared.row.Course.{Course}
-use Rattle.timeline_svg.specs.declared.row.Course.TheVariants.{Pending, Completed}
+use Rattle.timeline_svg.specs.declared.row.Course.TheVariants.{Service, Pending, Completed}
 use Rattle.timeline_svg.specs.declared.row.Row.{Row}
 use Rattle.timeline_svg.specs.declared.window.Window.{Window}
 
 abbrev pub first_of : ℕ → Course → ℕ
+first_of created Service = created
 first_of created Pending = created
 first_of created (Completed run) = min (min (min (min created run.triggered) run.started) run.ended) run.completed
 
 abbrev pub last_of : ℕ → Course → ℕ
+last_of created Service = created
 last_of created Pending = created
 last_of created (Completed run) = max (max (max (max created run.triggered) run.started) run.ended) run.completed
 

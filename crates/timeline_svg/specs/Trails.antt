@@ -4,12 +4,13 @@ use Rattle.std.specs.Fmt.{decimal}
 use Rattle.timeline.specs.declared.scale.Scale.{Scale}
 use Rattle.timeline.specs.Places.{x_of}
 use Rattle.timeline_svg.specs.declared.row.Course.{Course}
-use Rattle.timeline_svg.specs.declared.row.Course.TheVariants.{Pending, Completed}
+use Rattle.timeline_svg.specs.declared.row.Course.TheVariants.{Service, Pending, Completed}
 use Rattle.timeline_svg.specs.declared.row.Row.{Row}
 use Rattle.timeline_svg.specs.Frames.{row_y}
 
 -- where a row completes: at the right end while it is pending
 abbrev pub course_end : Scale → Course → ℕ
+course_end scale Service = scale.left + scale.width
 course_end scale Pending = scale.left + scale.width
 course_end scale (Completed run) = x_of scale run.completed
 
@@ -18,6 +19,7 @@ end_of scale row = course_end scale row.course
 
 -- where a row's own share begins
 abbrev pub course_begin : Scale → ℕ → Course → ℕ
+course_begin scale created Service = x_of scale created
 course_begin scale created Pending = x_of scale created
 course_begin scale created (Completed run) = x_of scale run.since
 

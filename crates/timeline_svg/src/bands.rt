@@ -1,10 +1,12 @@
 //! The axes: what they name, and the lines down from it.
 ghost use Rattle.std.specs.Prelude.{◌≡◌, ◌^◌, ◌≤◌, ◌++◌, IfOk, OnOk, string_bytes};
 ghost use Rattle.std.specs.List.{flat_map};
+ghost use Rattle.timeline_svg.specs.Deadlines.{deadline_line, deadline_text};
 ghost use Rattle.timeline_svg.specs.Frames.{axis_text, band_text, bands_text, grid_text, tick_at, tick_text, unit_text};
 
 use crate::escape::push_cut;
 use crate::frame::band_y;
+use crate::window::shows;
 use std::alloc::{AllocError, Global};
 use std::fmt::Write;
 use timeline::Scale;
@@ -37,6 +39,33 @@ fn push_grid_line(
 {
     let x = scale.x(tick);
     writeln!(line, "<path class='grid' d='M{x}.5 104V{bottom}'/>")
+}
+
+/// A line down the picture at the deadline, and its name above, where the scale has its tick.
+pub(crate) fn push_deadline(
+    line: &mut String,
+    scale: &Scale,
+    deadline: Option<u64>,
+    bottom: u32,
+) -> Result<(), AllocError>
+    ensures { OnOk result (string_bytes line.new ≡ string_bytes line.old ++ deadline_text scale.now bottom deadline) }
+{
+    let Some(tick) = deadline else {
+        return Ok(());
+    };
+    if !shows(scale, tick, tick) {
+        return Ok(());
+    }
+    push_deadline_at(line, scale.x(tick), bottom)
+}
+
+fn push_deadline_at(line: &mut String, x: u32, bottom: u32) -> Result<(), AllocError>
+    ensures { OnOk result (string_bytes line.new ≡ string_bytes line.old ++ deadline_line x bottom) }
+{
+    writeln!(
+        line,
+        "<path class='deadline' d='M{x}.5 84V{bottom}'/><text class='late' x='{x}' y='81'>deadline</text>"
+    )
 }
 
 /// What a tick is, as it stands behind the number of each.

@@ -32,6 +32,8 @@ text{fill:#1f2937}\
 .heading{font-size:15px;font-weight:600}\
 .note,.tick,.key{font-size:11px;fill:#4b5563}\
 .tick{text-anchor:middle}\
+.deadline{stroke:#b45309;stroke-width:1.5;stroke-dasharray:6 3;fill:none}\
+.late{text-anchor:middle;font-size:11px;fill:#b45309}\
 .grid{stroke:#e5e7eb;fill:none}\
 .axis{stroke:#9ca3af;fill:none}\
 .hit{fill:#fff;fill-opacity:0}\
@@ -46,6 +48,7 @@ g.row:hover .hit{fill:#dbeafe;fill-opacity:.6}\
 .cut{fill:url(#hatch);stroke:#64748b;stroke-width:.8}\
 .done{fill:#fff;stroke:#1e3a5f;stroke-width:1.5}\
 .cross{stroke:#991b1b;stroke-width:2.5;fill:none}\
+.service text{fill:#1e3a5f;font-weight:600}\
 .failed text{fill:#991b1b}\
 .pending text{fill:#6b7280;font-style:italic}\
 .on text{font-weight:700}\

@@ -13,5 +13,5 @@ mod window;
 
 pub use escape::push_escaped;
 pub use picture::{Heading, timeline_svg};
-pub use row::{Course, Row, Run};
+pub use row::{Course, Row, Run, service_of};
 pub use window::Window;

@@ -2,7 +2,7 @@
 ghost use Rattle.std.specs.Prelude.{◌≡◌, ◌≤◌, ◌+◌, ◌<◌, ◌^◌, IfOk, length, string_bytes};
 ghost use Rattle.timeline_svg.specs.Pictures.{IsPicture, picture};
 
-use crate::bands::{push_bands, push_grid, unit_of};
+use crate::bands::{push_bands, push_deadline, push_grid, unit_of};
 use crate::frame::{BAND, MARGIN, ROWS_OF_BAND, push_head, row_y};
 use crate::row::Row;
 use crate::rows::push_rows;
@@ -20,6 +20,8 @@ pub struct Heading {
     pub note: String,
     /// What a tick is; empty where that is not told.
     pub unit: String,
+    /// The tick of a line, by which there was to be a reply.
+    pub deadline: Option<u64>,
 }
 
 /// The most ticks that an axis names, so that the longest numbers have room beside each other.
@@ -67,6 +69,7 @@ fn draw(
         bottom + BAND,
     )?;
     push_grid(&mut text, scale, ticks, bottom)?;
+    push_deadline(&mut text, scale, heading.deadline, bottom)?;
     push_bands(
         &mut text,
         scale,

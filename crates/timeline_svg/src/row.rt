@@ -1,4 +1,6 @@
 //! What a row shows.
+ghost use Rattle.std.specs.Prelude.{◌≡◌};
+ghost use Rattle.timeline_svg.specs.Services.{service_of};
 
 /// When a stage that has completed did what. What its action did not come to before the completion was cut off by that.
 #[derive(Clone, Copy, Debug, PartialEq, Eq)]
@@ -20,6 +22,8 @@ pub struct Run {
 /// What became of a stage.
 #[derive(Clone, Copy, Debug, PartialEq, Eq)]
 pub enum Course {
+    /// It is no stage, but a service, whose stages have the rows below.
+    Service,
     Pending,
     Completed(Run),
 }
@@ -33,4 +37,14 @@ pub struct Row {
     pub created: u64,
     pub course: Course,
     pub is_on_path: bool,
+}
+
+/// The service of a stage of an imported recording: what stands before the first dot of its name.
+pub fn service_of(name: &str) -> &str
+    ensures { result.now ≡ service_of name.now }
+{
+    match name.split_once('.') {
+        Some(parts) => parts.0,
+        None => name,
+    }
 }

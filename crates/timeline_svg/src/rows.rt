@@ -1,6 +1,6 @@
 //! The rows of a picture.
 ghost use Rattle.std.specs.Prelude.{◌≡◌, ◌+◌, ◌≤◌, ◌^◌, ◌++◌, OnOk, length, string_bytes};
-ghost use Rattle.timeline_svg.specs.RowTexts.{action_text, circle_text, course_text, cross_text, cut_text, end_text, ended_text, group_text, hatched_text, hit_text, label_text, mark_text, name_text, pending_text, place_text, queue_text, queued_text, ran_text, row_text, rows_text, run_text, state_text, told_text, wait_text};
+ghost use Rattle.timeline_svg.specs.RowTexts.{action_text, circle_text, course_text, cross_text, cut_text, end_text, ended_text, group_text, hatched_text, hit_text, label_text, mark_text, name_text, pending_text, place_text, queue_text, queued_text, ran_text, row_text, rows_text, rule_text, run_text, state_text, told_text, wait_text};
 
 use crate::escape::{push_cut, push_element};
 use crate::frame::row_y;
@@ -94,6 +94,7 @@ fn state_of(course: Course) -> &'static str
     ensures { result.now ≡ state_text course }
 {
     match course {
+        Course::Service => "service",
         Course::Pending => "pending",
         Course::Completed(run) => ended_as(run.has_failed),
     }
@@ -111,7 +112,7 @@ fn place_of(is_on_path: bool) -> &'static str
     if is_on_path { " on" } else { "" }
 }
 
-// What became of a stage from its creation on, about the height `y`.
+// What became of a stage from its creation on, about the height `y`; a line, where it is a service.
 fn push_course(
     line: &mut String,
     scale: &Scale,
@@ -124,9 +125,17 @@ fn push_course(
 {
     let from = scale.x(created);
     match course {
+        Course::Service => push_rule(line, y, scale.left, scale.left + scale.width),
         Course::Pending => push_pending(line, y, from, scale.left + scale.width),
         Course::Completed(run) => push_run(line, scale, y, from, run),
     }
+}
+
+// A line from end to end.
+fn push_rule(line: &mut String, y: u32, left: u32, right: u32) -> Result<(), AllocError>
+    ensures { OnOk result (string_bytes line.new ≡ string_bytes line.old ++ rule_text y left right) }
+{
+    write!(line, "<path class='axis' d='M{left} {y}.5H{right}'/>")
 }
 
 // A dashed line to the right end, and an open arrow.

@@ -53,7 +53,7 @@ fn first_of(row: &Row) -> u64
     ensures { result ≡ first_of row.now.created row.now.course }
 {
     match row.course {
-        Course::Pending => row.created,
+        Course::Service | Course::Pending => row.created,
         Course::Completed(run) => row
             .created
             .min(run.triggered)
@@ -78,7 +78,7 @@ fn last_of(row: &Row) -> u64
     ensures { result ≡ last_of row.now.created row.now.course }
 {
     match row.course {
-        Course::Pending => row.created,
+        Course::Service | Course::Pending => row.created,
         Course::Completed(run) => row
             .created
             .max(run.triggered)

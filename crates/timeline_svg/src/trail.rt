@@ -116,7 +116,7 @@ fn end_of(scale: &Scale, row: &Row) -> u32
     ensures { result ≡ end_of scale.now row.now }
 {
     match row.course {
-        Course::Pending => scale.left + scale.width,
+        Course::Service | Course::Pending => scale.left + scale.width,
         Course::Completed(run) => scale.x(run.completed),
     }
 }
@@ -126,7 +126,7 @@ fn begin_of(scale: &Scale, row: &Row) -> u32
     ensures { result ≡ begin_of scale.now row.now }
 {
     match row.course {
-        Course::Pending => scale.x(row.created),
+        Course::Service | Course::Pending => scale.x(row.created),
         Course::Completed(run) => scale.x(run.since),
     }
 }

@@ -6,6 +6,7 @@ ghost use Rattle.serde_json.specs.Written.{compact_text, has_float};
 ghost use Rattle.timeline_trace.specs.Held.{held};
 ghost use Rattle.timeline_trace.specs.Json.{count, event_members, line_of, text, with};
 
+use crate::labels::Track;
 use serde_json::{Map, Value};
 use std::alloc::{AllocError, Global};
 
@@ -27,19 +28,19 @@ impl Object {
         }
     }
 
-    /// What every event has: its phase, its row's number from 1 on, and its name.
+    /// What every event has: its phase, where its row stands, and its name.
     pub(crate) fn event(
         alloc: Global,
         phase: &str,
-        row: u64,
+        track: Track,
         name: &str,
     ) -> Result<Object, AllocError>
-        ensures { IfOk result (λ object. held object ≡ with no_members (event_members phase.now row name.now)) }
+        ensures { IfOk result (λ object. held object ≡ with no_members (event_members phase.now track name.now)) }
     {
         let mut object = Object::new(alloc);
         object.text("ph", phase)?;
-        object.count("pid", 1)?;
-        object.count("tid", row)?;
+        object.count("pid", track.process)?;
+        object.count("tid", track.row)?;
         object.text("name", name)?;
         Ok(object)
     }

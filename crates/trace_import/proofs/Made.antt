@@ -1,5 +1,5 @@
 -- What a trace makes, put together from what each call says.
-use Rattle.std.proofs.Common.{◌≡◌, ◌≤◌, ℕ, List, length, Ok, Err, Vec, ap, subst, sym}
+use Rattle.std.proofs.Common.{◌≡◌, ◌≤◌, ◌∙◌, ℕ, List, length, Ok, Err, Vec, ap, subst}
 use Rattle.std.specs.declared.alloc.Global.{Global}
 use Rattle.trace_relations.specs.Ancestry.{most_spans}
 use Rattle.trace_relations.specs.Relations.{AreRelations, AreRelationsOf, plain}
@@ -9,12 +9,14 @@ use Rattle.trace_spans.specs.declared.trace.Trace.{Trace}
 use Rattle.trace_stages.specs.Names.{names}
 use Rattle.trace_stages.specs.StagesOf.{AreStages}
 use Rattle.trace_stages.specs.declared.stage.Stages.{Stages}
-use Rattle.trace_import.specs.Imported.{IsMadeFrom, IsNotMade, IsReadingOf, IsRecordingOf, IsTextOf, IsTextOfReading, text_of}
+use Rattle.trace_import.specs.Imported.{IsMadeFrom, IsNotMade, IsReadingOf, IsRecordingOf, IsTextOf, IsTextOfReading, IsTracedFrom, text_of}
+use Rattle.trace_import.specs.Limits.{longest}
 use Rattle.trace_import.specs.Texts.{TellsTexts}
 use Rattle.trace_import.specs.declared.fault.ImportFault.{ImportFault}
 use Rattle.trace_import.specs.declared.fault.ImportFault.TheVariants.{Refused, Unticked, TooManyStages, TooLong, Write, Memory}
 use Rattle.trace_import.specs.declared.options.Mapping.{Mapping}
 use Rattle.trace_import.specs.declared.reading.Reading.{Reading}
+use Rattle.trace_import.specs.declared.traced.TraceRecording.{TraceRecording}
 
 pub made_from : (mapping : Mapping) (trace : Trace) (spans : List Span) (relations : Relations) (stages : Stages)
     → spans ≡ trace.spans → TellsTexts trace → AreRelations mapping.unit mapping.as_told spans (Ok relations) → AreStages spans (plain relations) mapping.as_told stages
@@ -39,10 +41,15 @@ text_made : (mapping : Mapping) (trace : Trace) (reading : Reading) → IsReadin
 text_made mapping trace reading from = (plain reading.relations, reading.stages, from.1, from.2, ap (λ (it : Trace). text_of mapping it (plain reading.relations) reading.stages) from.0)
 
 -- the text of what was made is that of the trace
-pub recorded : (mapping : Mapping) (trace : Trace) (reading : Reading) (named : List (List ℕ)) (text : Vec ℕ Global)
+pub traced : (mapping : Mapping) (trace : Trace) (reading : Reading) (named : List (List ℕ)) (text : Vec ℕ Global)
     → IsReadingOf mapping trace (Ok reading) → named ≡ names reading.trace.spans (plain reading.relations).order → IsTextOfReading mapping reading named (Ok text)
-    → IsRecordingOf mapping trace text.items
-recorded mapping trace reading named text from so told = (subst (IsTextOf mapping trace) (sym (told.0 (from.3, so))) (text_made mapping trace reading from), told.1)
+    → (text.items ≡ text_of mapping trace (plain reading.relations) reading.stages) × (length text.items ≤ longest)
+traced mapping trace reading named text from so told =
+    (told.0 (from.3, so) ∙ ap (λ (it : Trace). text_of mapping it (plain reading.relations) reading.stages) from.0, told.1)
+
+-- so it is the trace's recording
+pub recorded : (mapping : Mapping) (trace : Trace) (made : TraceRecording) → IsTracedFrom mapping trace (Ok made) → IsRecordingOf mapping trace made.text.items
+recorded mapping trace made from = ((plain made.reading.relations, made.reading.stages, from.0.1, from.0.2, from.1), from.2)
 
 -- why what was made has no text, as the trace has none
 pub not_told : (mapping : Mapping) (trace : Trace) (reading : Reading) (named : List (List ℕ)) (fault : ImportFault)

@@ -27,6 +27,7 @@ use Rattle.trace_import.specs.declared.note.Note.{Note}
 use Rattle.trace_import.specs.declared.options.Mapping.{Mapping}
 use Rattle.trace_import.specs.declared.recorded.Recorded.{Recorded}
 use Rattle.trace_import.specs.declared.reading.Reading.{Reading}
+use Rattle.trace_import.specs.declared.traced.TraceRecording.{TraceRecording}
 
 abbrev pub count_of : Stages → ℕ
 count_of stages = length stages.0.items
@@ -105,6 +106,12 @@ IsTextOfReading mapping reading named (Err TooLong) =
     HasNames mapping reading named → longest < length (text_of mapping reading.trace (plain reading.relations) reading.stages)
 IsTextOfReading mapping reading named (Err Memory) = Unit {0}
 IsTextOfReading mapping reading named (Err other) = ⊥
+
+-- what is made of a trace and the text of its recording, or why there is none
+abbrev pub IsTracedFrom : Mapping → Trace → Result TraceRecording ImportFault → Type 0
+IsTracedFrom mapping trace (Ok made) =
+    IsReadingOf mapping trace (Ok made.reading) × (made.text.items ≡ text_of mapping trace (plain made.reading.relations) made.reading.stages) × (length made.text.items ≤ longest)
+IsTracedFrom mapping trace (Err fault) = IsNotMade mapping trace fault
 
 -- the recording of a trace, or why there is none
 abbrev pub IsRecordedFrom : Mapping → Trace → Result Recorded ImportFault → Type 0

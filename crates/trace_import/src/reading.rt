@@ -14,7 +14,7 @@ const MOST_STAGES: usize = 65_536;
 
 /// A trace, how its spans stand to each other, and its stages.
 #[derive(Drop)]
-pub(crate) struct Reading {
+pub struct Reading {
     pub trace: Trace,
     pub relations: Relations,
     pub stages: Stages,

@@ -1,2 +1,3 @@
 pub mod Collecting
 pub mod Few
+pub mod Lined

@@ -7,7 +7,7 @@ use Rattle.rank_order.specs.Lists.{is_among}
 use Rattle.stage_graph.specs.declared.stage.Stage.{Stage}
 use Rattle.stage_graph.specs.Plain.{PlainGraph, all_places, stage_at}
 use Rattle.timeline_svg.specs.declared.row.Course.{Course}
-use Rattle.timeline_svg.specs.declared.row.Course.TheVariants.{Pending, Completed}
+use Rattle.timeline_svg.specs.declared.row.Course.TheVariants.{Service, Pending, Completed}
 use Rattle.timeline_svg.specs.declared.window.Window.{Window}
 use Rattle.version_rows.specs.declared.candidate.Candidate.{Candidate}
 use Rattle.version_rows.specs.declared.candidate.Scope.{Scope}
@@ -23,6 +23,7 @@ is_wanted Path is_on_path = is_on_path
 
 -- it completes in the window or after its first tick, and is created no later than in its last one
 abbrev pub is_before_end : Window → Course → Bool
+is_before_end window Service = true
 is_before_end window Pending = true
 is_before_end window (Completed run) = nat_le (unwrap_or window.first 0) run.completed
 
@@ -31,6 +32,7 @@ is_in window created course = nat_le created (unwrap_or window.last (2 ^ 64 - 1)
 
 -- from its trigger to its completion it takes so many ticks, or is pending
 abbrev pub is_long : ℕ → Course → Bool
+is_long least Service = true
 is_long least Pending = true
 is_long least (Completed run) = nat_le least (run.completed - run.triggered)
 
@@ -53,6 +55,7 @@ candidate_of graph selection is_on_path place stage = record {
   is_asked = is_asked selection is_on_path stage.created (course_at graph place stage);
   order = order_of (start_of (course_at graph place stage)) place;
   rest = rest_of is_on_path (course_at graph place stage);
+  service = 0;
 }
 
 abbrev pub candidate_in : PlainGraph → Selection → Bool → ℕ → Option Stage → Option Candidate

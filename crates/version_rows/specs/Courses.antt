@@ -10,7 +10,7 @@ use Rattle.scratch_eval.specs.Path.{reason_at}
 use Rattle.version_store.specs.Queries.{state_of}
 use Rattle.version_store.specs.Starts.{action_start_at}
 use Rattle.timeline_svg.specs.declared.row.Course.{Course}
-use Rattle.timeline_svg.specs.declared.row.Course.TheVariants.{Pending, Completed}
+use Rattle.timeline_svg.specs.declared.row.Course.TheVariants.{Service, Pending, Completed}
 use Rattle.timeline_svg.specs.declared.row.Run.{Run}
 
 abbrev pub has_failed : Outcome → Bool
@@ -78,10 +78,12 @@ course_at graph place stage =
 
 -- a pending stage comes after all that started
 abbrev pub start_of : Course → ℕ
+start_of Service = 2 ^ 64 - 1
 start_of Pending = 2 ^ 64 - 1
 start_of (Completed run) = run.started
 
 -- how long its action was queued and ran until it completed
 abbrev pub own_ticks : Course → ℕ
+own_ticks Service = 0
 own_ticks Pending = 0
 own_ticks (Completed run) = run.ended - run.triggered

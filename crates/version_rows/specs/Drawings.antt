@@ -1,5 +1,5 @@
 -- What is drawn of a version.
-use Rattle.std.specs.Prelude.{ℕ, ◌≡◌, ◌-◌, ◌==◌, List, [], ◌++◌, Option, None, Some, codes, filter_map, length, map, min, nat_le, nat_lt, position, string_bytes, if◌then◌else◌}
+use Rattle.std.specs.Prelude.{ℕ, ◌≡◌, ◌-◌, ◌==◌, Bool, false, List, [], ◌++◌, Option, None, Some, codes, filter_map, length, map, min, nat_le, nat_lt, position, string_bytes, if◌then◌else◌}
 use Rattle.std.specs.Fmt.{decimal}
 use Rattle.stage_graph.specs.Plain.{PlainGraph, stage_at, name_of}
 use Rattle.scratch_eval.specs.Path.{path}
@@ -7,9 +7,12 @@ use Rattle.version_store.specs.Plain.{PlainVersion}
 use Rattle.version_rows.specs.declared.candidate.Candidate.{Candidate}
 use Rattle.version_rows.specs.declared.drawing.Drawing.{Drawing}
 use Rattle.version_rows.specs.declared.left_out.LeftOut.{LeftOut}
+use Rattle.version_rows.specs.declared.line.Line.{Line}
+use Rattle.version_rows.specs.declared.line.Line.TheVariants.{Stage, Service}
 use Rattle.version_rows.specs.declared.room.Room.{Room}
 use Rattle.version_rows.specs.declared.selection.Selection.{Selection}
 use Rattle.version_rows.specs.Candidates.{IsChosen, asked, candidates}
+use Rattle.version_rows.specs.Lines.{IsLaidOut}
 use Rattle.version_rows.specs.Rooms.{most_rows}
 use Rattle.version_rows.specs.Rows.{plain, row_of}
 
@@ -23,9 +26,14 @@ abbrev pub IsMissing : PlainGraph → Option ℕ → Type 0
 IsMissing graph None = ⊥
 IsMissing graph (Some place) = stage_at graph.places place ≡ None
 
+-- a row is that of the stage at a place
+abbrev pub is_at : ℕ → Line → Bool
+is_at place (Stage candidate) = candidate.place == place
+is_at place (Service candidate) = false
+
 -- the row of the stage at a place
-abbrev pub row_index : List Candidate → ℕ → Option ℕ
-row_index chosen place = position (λ candidate. candidate.place == place) chosen
+abbrev pub row_index : List Line → ℕ → Option ℕ
+row_index lines place = position (is_at place) lines
 
 abbrev pub path_title : PlainGraph → Option ℕ → List ℕ
 path_title graph None = []
@@ -54,6 +62,15 @@ note_text room count asked =
     if nat_le count (shown room asked) then decimal count ++ codes " stages"
     else decimal (shown room asked) ++ codes " of " ++ decimal count ++ codes " stages" ++ unasked_note (count - asked) ++ room_note room asked
 
+-- the tick by which there was to be a reply, where that is told
+abbrev pub deadline_note : Option ℕ → List ℕ
+deadline_note None = []
+deadline_note (Some deadline) = codes ", deadline " ++ decimal deadline
+
+-- how many stages there are and have a row, and the deadline
+abbrev pub heading_note : Room → ℕ → ℕ → Option ℕ → List ℕ
+heading_note room count asked deadline = note_text room count asked ++ deadline_note deadline
+
 -- how many of so many stages have no row, as their ticks are not asked for, and as there is no room for them
 abbrev pub left_out : Room → ℕ → ℕ → LeftOut
 left_out room count asked = record { unasked = count - asked; for_room = asked - most_rows room }
@@ -62,13 +79,16 @@ left_out room count asked = record { unasked = count - asked; for_room = asked -
 abbrev pub in_scope : PlainGraph → Selection → Option ℕ → List Candidate
 in_scope graph selection target = candidates graph selection (path_to graph target)
 
--- a row for each chosen candidate, and the rows of the path; above them which version of which file it is, and on the axis the unit
-pub record IsDrawing (version : PlainVersion) (file : Option (List ℕ)) (unit : List ℕ) (room : Room) (selection : Selection) (target : Option ℕ) (drawing : Drawing) : Type 0 where
+-- a row for each chosen candidate, where that is asked for by service, and the rows of the path; above them which version of which file it is, on the axis the unit, and over them the deadline
+pub record IsDrawing (version : PlainVersion) (file : Option (List ℕ)) (unit : List ℕ) (deadline : Option ℕ) (room : Room) (selection : Selection) (target : Option ℕ) (drawing : Drawing) : Type 0 where
   pub chosen : List Candidate
   pub of_them : IsChosen room (asked (in_scope version.graph selection target)) chosen
-  pub rows : map plain drawing.rows.items ≡ map (row_of version.graph) chosen
-  pub path : drawing.path.items ≡ filter_map (row_index chosen) (path_to version.graph target)
+  pub lines : List Line
+  pub laid_out : IsLaidOut room version.graph chosen lines
+  pub rows : map plain drawing.rows.items ≡ map (row_of version.graph) lines
+  pub path : drawing.path.items ≡ filter_map (row_index lines) (path_to version.graph target)
   pub title : string_bytes drawing.heading.title ≡ title_text version file target
   pub on_axis : string_bytes drawing.heading.unit ≡ unit
-  pub note : string_bytes drawing.heading.note ≡ note_text room (length (in_scope version.graph selection target)) (length (asked (in_scope version.graph selection target)))
+  pub late : drawing.heading.deadline ≡ deadline
+  pub note : string_bytes drawing.heading.note ≡ heading_note room (length (in_scope version.graph selection target)) (length (asked (in_scope version.graph selection target))) deadline
   pub left_out : drawing.left_out ≡ left_out room (length (in_scope version.graph selection target)) (length (asked (in_scope version.graph selection target)))

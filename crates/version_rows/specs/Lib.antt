@@ -1,5 +1,6 @@
 pub mod Candidates
 pub mod Courses
 pub mod Drawings
+pub mod Lines
 pub mod Rooms
 pub mod Rows

@@ -12,11 +12,14 @@ use Rattle.stage_ops.specs.declared.reason.Cause.TheVariants.{Created, After, In
 use Rattle.stage_ops.specs.Texts.{state_text}
 use Rattle.scratch_eval.specs.Path.{reason_at}
 use Rattle.version_store.specs.Queries.{state_of}
+use Rattle.timeline_svg.specs.Services.{service_of}
 use Rattle.timeline_svg.specs.declared.row.Course.{Course}
-use Rattle.timeline_svg.specs.declared.row.Course.TheVariants.{Pending, Completed}
+use Rattle.timeline_svg.specs.declared.row.Course.TheVariants.{Service, Pending, Completed}
 use Rattle.timeline_svg.specs.declared.row.Row.{Row}
 use Rattle.timeline_svg.specs.declared.row.Run.{Run}
 use Rattle.version_rows.specs.declared.candidate.Candidate.{Candidate}
+use Rattle.version_rows.specs.declared.line.Line.{Line}
+use Rattle.version_rows.specs.declared.line.Line.TheVariants as line
 use Rattle.version_rows.specs.Courses.{course_at}
 
 -- how an end acts, by its name in recordings, and how long after it was set
@@ -56,6 +59,7 @@ abbrev pub run_text : Run → List ℕ
 run_text run = codes "queued " ++ decimal (run.started - run.triggered) ++ codes ", ran " ++ decimal (run.ended - run.started) ++ cut_text run.completed run.missed_end
 
 abbrev pub own_text : Course → List ℕ
+own_text Service = codes "queued 0, ran 0"
 own_text Pending = codes "queued 0, ran 0"
 own_text (Completed run) = run_text run
 
@@ -82,8 +86,11 @@ plain row = record {
   is_on_path = row.is_on_path;
 }
 
+abbrev pub no_row : PlainRow
+no_row = record { name = []; about = []; created = 0; course = Pending; is_on_path = false }
+
 abbrev pub row_in : PlainGraph → Candidate → Option Stage → PlainRow
-row_in graph candidate None = record { name = []; about = []; created = 0; course = Pending; is_on_path = false }
+row_in graph candidate None = no_row
 row_in graph candidate (Some stage) = record {
   name = stage.name;
   about = about_text graph candidate.place stage (course_at graph candidate.place stage);
@@ -92,6 +99,12 @@ row_in graph candidate (Some stage) = record {
   is_on_path = candidate.is_on_path;
 }
 
--- the row of the stage at a candidate's place
-abbrev pub row_of : PlainGraph → Candidate → PlainRow
-row_of graph candidate = row_in graph candidate (stage_at graph.places candidate.place)
+-- the row of the service of a stage
+abbrev pub service_row : Option Stage → PlainRow
+service_row None = no_row
+service_row (Some stage) = record { name = service_of stage.name; about = []; created = stage.created; course = Service; is_on_path = false }
+
+-- the row of the stage at a candidate's place, or of its service
+abbrev pub row_of : PlainGraph → Line → PlainRow
+row_of graph (line.Stage candidate) = row_in graph candidate (stage_at graph.places candidate.place)
+row_of graph (line.Service candidate) = service_row (stage_at graph.places candidate.place)

@@ -100,7 +100,7 @@ fn push_own(line: &mut String, course: Course) -> Result<(), AllocError>
     ensures { OnOk result (string_bytes line.new ≡ string_bytes line.old ++ own_text course) }
 {
     match course {
-        Course::Pending => line.push_str("queued 0, ran 0"),
+        Course::Service | Course::Pending => line.push_str("queued 0, ran 0"),
         Course::Completed(run) => push_run(line, run),
     }
 }

@@ -32,6 +32,8 @@ pub(crate) struct Candidate {
     /// Where there are too many, those where this is least are left: 0 on the path, else the less the longer the stage's
     /// own action took.
     pub(crate) rest: u64,
+    /// Where the rows stand by service: which candidate is the first of its service.
+    pub(crate) service: usize,
 }
 
 /// The stages in scope, by place.
@@ -108,6 +110,7 @@ fn candidate_of<R: StateRepresentation>(
         is_asked: is_asked(selection, is_on_path, view.stage.created, course),
         order: u128::from(start_of(course)) * (1 << 32) + u128::from(place),
         rest: rest_of(is_on_path, course),
+        service: 0,
     }
 }
 

@@ -1,8 +1,9 @@
 //! Which of the candidates have a row, and in which order.
-ghost use Rattle.std.specs.Prelude.{◌≡◌, ◌≤◌, IfOk, IsPermutation, length, take};
+ghost use Rattle.std.specs.Prelude.{◌≤◌, IfOk, IsPermutation, length};
 ghost use Rattle.std.specs.List.Sorted.{IsNonDecreasingBy, IsStableByKey};
 ghost use Rattle.std.specs.Ordering.{nat_cmp};
 ghost use Rattle.version_rows.specs.Candidates.{IsChosen, order_in, rest_in};
+ghost use Rattle.version_rows.specs.Rooms.{most_rows};
 
 use crate::candidate::Candidate;
 use crate::room::Room;
@@ -11,7 +12,7 @@ use std::alloc::AllocError;
 /// Those of the candidates that have a row, by start and place.
 pub(crate) fn chosen(candidates: Vec<Candidate>, room: Room) -> Result<Vec<Candidate>, AllocError>
     ensures chosen { IfOk result (λ chosen. IsChosen room candidates.items chosen.items) }
-    ensures few { IfOk result (λ chosen. length chosen.items ≤ 2000) }
+    ensures few { IfOk result (λ chosen. length chosen.items ≤ most_rows room) }
 {
     let mut ranked = by_rest(candidates)?;
     let most = room.most_rows();

@@ -97,7 +97,7 @@ pub(crate) fn start_of(course: Course) -> u64
     ensures { result ≡ start_of course }
 {
     match course {
-        Course::Pending => u64::MAX,
+        Course::Service | Course::Pending => u64::MAX,
         Course::Completed(run) => run.started,
     }
 }
@@ -107,7 +107,7 @@ pub(crate) fn own_ticks(course: Course) -> u64
     ensures { result ≡ own_ticks course }
 {
     match course {
-        Course::Pending => 0,
+        Course::Service | Course::Pending => 0,
         Course::Completed(run) => run.ended.saturating_sub(run.triggered),
     }
 }

@@ -8,6 +8,7 @@ use crate::candidate::candidates;
 use crate::chosen::chosen;
 use crate::heading::{Source, heading_of};
 use crate::left_out::{LeftOut, left_out};
+use crate::line::lines_of;
 use crate::room::Room;
 use crate::rows::{indices_of, rows_of};
 use crate::selection::{Selection, asked};
@@ -37,7 +38,7 @@ pub fn drawing_of<R: StateRepresentation>(
     selection: Selection,
     target: Option<u32>,
 ) -> Result<Drawing, QueryFault>
-    ensures drawn { IfOk result (λ drawing. IsDrawing version.now (option_copied source.entry.file) source.entry.unit.now room selection target drawing) }
+    ensures drawn { IfOk result (λ drawing. IsDrawing version.now (option_copied source.entry.file) source.entry.unit.now source.entry.deadline room selection target drawing) }
     ensures few { IfOk result (λ drawing. length drawing.rows.items ≤ 2000) }
     ensures no_stage { (result ≡ Err QueryFault.NoStage) ↔ IsMissing version.now.graph target }
 {
@@ -48,8 +49,9 @@ pub fn drawing_of<R: StateRepresentation>(
     let heading = heading_of(alloc, version, source, target, room, count, asked.len())?;
     let left_out = left_out(room, count, asked.len());
     let chosen = chosen(asked, room)?;
-    let rows = rows_of(alloc, version, chosen.as_slice())?;
-    let path = indices_of(alloc, chosen.as_slice(), path.as_slice())?;
+    let lines = lines_of(alloc, version, room, chosen.as_slice())?;
+    let rows = rows_of(alloc, version, lines.as_slice())?;
+    let path = indices_of(alloc, lines.as_slice(), path.as_slice())?;
     Ok(Drawing {
         heading,
         rows,

@@ -1,6 +1,6 @@
 //! What stands above the rows.
 ghost use Rattle.std.specs.Prelude.{◌≡◌, IfOk, option_copied, string_bytes, ◌++◌, OnOk};
-ghost use Rattle.version_rows.specs.Drawings.{file_title, note_text, path_title, room_note, title_text, unasked_note};
+ghost use Rattle.version_rows.specs.Drawings.{deadline_note, file_title, heading_note, note_text, path_title, room_note, title_text, unasked_note};
 
 use crate::room::Room;
 use propagate::StateRepresentation;
@@ -16,9 +16,11 @@ pub struct Source<'a> {
     pub file: Option<&'a str>,
     /// What a tick is; empty where that is not told.
     pub unit: &'a str,
+    /// The tick by which there was to be a reply.
+    pub deadline: Option<u64>,
 }
 
-/// Which version and whose path it is, how many stages there are and how many of them are asked for, and the unit.
+/// Which version and whose path it is, how many stages there are and how many of them are asked for, the unit, and the deadline.
 pub(crate) fn heading_of<R: StateRepresentation>(
     alloc: Global,
     version: &Version<R>,
@@ -29,14 +31,30 @@ pub(crate) fn heading_of<R: StateRepresentation>(
     asked: usize,
 ) -> Result<Heading, AllocError>
     ensures title { IfOk result (λ heading. string_bytes heading.title ≡ title_text version.now (option_copied source.entry.file) target) }
-    ensures note { IfOk result (λ heading. string_bytes heading.note ≡ note_text room count asked) }
+    ensures note { IfOk result (λ heading. string_bytes heading.note ≡ heading_note room count asked source.entry.deadline) }
     ensures unit { IfOk result (λ heading. string_bytes heading.unit ≡ source.entry.unit.now) }
+    ensures deadline { IfOk result (λ heading. heading.deadline ≡ source.entry.deadline) }
 {
     let title = title_of(alloc, version, source.file, target)?;
-    let note = note_of(alloc, room, count, asked)?;
+    let mut note = note_of(alloc, room, count, asked)?;
+    push_deadline(&mut note, source.deadline)?;
     let mut unit = String::new(alloc);
     unit.push_str(source.unit)?;
-    Ok(Heading { title, note, unit })
+    Ok(Heading {
+        title,
+        note,
+        unit,
+        deadline: source.deadline,
+    })
+}
+
+fn push_deadline(note: &mut String, deadline: Option<u64>) -> Result<(), AllocError>
+    ensures { OnOk result (string_bytes note.new ≡ string_bytes note.old ++ deadline_note deadline) }
+{
+    match deadline {
+        Some(deadline) => write!(note, ", deadline {deadline}"),
+        None => Ok(()),
+    }
 }
 
 fn title_of<R: StateRepresentation>(

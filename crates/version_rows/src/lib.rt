@@ -8,6 +8,7 @@ mod course;
 mod drawing;
 mod heading;
 mod left_out;
+mod line;
 mod room;
 mod rows;
 mod selection;

@@ -7,6 +7,8 @@ ghost use Rattle.version_rows.specs.Rooms.{most_rows};
 pub enum Room {
     /// A picture that is no higher than viewers take.
     Picture,
+    /// Such a picture, in which the rows of a service stand together below its name. Each may be of a service of its own.
+    Services,
     /// Trace events.
     Events,
 }
@@ -19,6 +21,7 @@ impl Room {
     {
         match self {
             Room::Picture => 200,
+            Room::Services => 100,
             Room::Events => 2000,
         }
     }

@@ -32,7 +32,7 @@ fn is_before_end(window: Window, course: Course) -> bool
     ensures { result ≡ is_before_end window course }
 {
     match course {
-        Course::Pending => true,
+        Course::Service | Course::Pending => true,
         Course::Completed(run) => window.first.unwrap_or(0) <= run.completed,
     }
 }
@@ -41,7 +41,7 @@ fn is_long(least: u64, course: Course) -> bool
     ensures { result ≡ is_long least course }
 {
     match course {
-        Course::Pending => true,
+        Course::Service | Course::Pending => true,
         Course::Completed(run) => least <= run.completed.saturating_sub(run.triggered),
     }
 }

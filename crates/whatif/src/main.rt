@@ -8,10 +8,11 @@ use at_once::run_many;
 use command_help::told;
 use command_line::{Command, CommandLine, Manner, WordsFault, parsed, without_help_of_help};
 use commands::{
-    RescueWords, refuse, run_compare, run_draw, run_export, run_import, run_new, run_page,
-    run_report, run_report_stage, run_rescue, run_serve, run_try, swept_as,
+    RescueWords, refuse, run_compare, run_draw, run_export, run_fleet, run_import, run_new,
+    run_page, run_report, run_report_stage, run_rescue, run_serve, run_try, swept_as,
 };
 use console::{Fault, run_check};
+use conversation::run_console;
 use level_pool::{OneThread, Runner};
 use recording_reports::{StageReport, WholeReport};
 use stage_graph::InShared;
@@ -107,12 +108,19 @@ fn answer<'a, K: StateRepresentation, H: Threads + Wait + Copy + Drop + Send + S
             run_try::<K, _>(rt, runner, manner, recording, &trial)?
         }
         Command::Compare { good, bad, stage } => { run_compare::<K>(rt, manner, good, bad, stage)? }
-        Command::Draw { recording, picture } => run_draw::<K>(rt, manner, recording, picture)?,
-        Command::Page { recording, stage } => {
-            run_page::<K, _>(rt, threads, manner, recording, stage)?
+        Command::Draw { recording, picture } => {
+            run_draw::<K, _>(rt, runner, manner, recording, picture)?
         }
+        Command::Page {
+            recording,
+            script,
+            stage,
+        } => run_page::<K, _, _>(rt, threads, runner, manner, recording, script, stage)?,
         Command::Check { recording } => return run_check(rt, manner, recording),
         Command::Serve { recording } => run_serve::<K, _>(rt, runner, manner, recording)?,
+        Command::Console { recording, printed } => {
+            run_console::<K, _>(rt, runner, manner, recording, printed)?
+        }
         Command::Export { recording, script } => {
             run_export::<K, _>(rt, runner, manner, recording, script)?
         }
@@ -122,6 +130,7 @@ fn answer<'a, K: StateRepresentation, H: Threads + Wait + Copy + Drop + Send + S
             wanted,
             mapping,
         } => return run_import(rt, manner, trace, wanted, mapping),
+        Command::Fleet { fleet } => run_fleet::<K>(rt, manner, &fleet)?,
         Command::New { form } => run_new(rt, manner, form)?,
     }
     Ok(ExitCode::SUCCESS)

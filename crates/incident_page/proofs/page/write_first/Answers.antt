@@ -8,11 +8,11 @@ returns-in_err-write_heading g c =
     let p = err_from_is_err_and c.from_residual.result c.from_residual.ensures.1 in
     stops_in_first g.S.Sink.held g.S.Sink.failures _ _ c.from_residual.result p.0 _ _ _ _ _ p.1 p.2 refl c.in_err-write_heading.ensures
 
-pub returns-in_err-write_recording : goal.returns-in_err-write_recording
-returns-in_err-write_recording g c =
-    let p = err_from_is_err_and c.from_residual-in_err-write_recording.result c.from_residual-in_err-write_recording.ensures.1 in
-    stops_in_second g.S.Sink.held g.S.Sink.failures _ _ _ _ c.from_residual-in_err-write_recording.result p.0 _ _ _ _ _ _ p.1 p.2 refl refl c.in_ok-write_heading.ensures c.in_err-write_recording.ensures
+pub returns-in_err-write_read : goal.returns-in_err-write_read
+returns-in_err-write_read g c =
+    let p = err_from_is_err_and c.from_residual-in_err-write_read.result c.from_residual-in_err-write_read.ensures.1 in
+    stops_in_second g.S.Sink.held g.S.Sink.failures _ _ _ _ c.from_residual-in_err-write_read.result p.0 _ _ _ _ _ _ p.1 p.2 refl refl c.in_ok-write_heading.ensures c.in_err-write_read.ensures
 
 pub returns : goal.returns
 returns g c =
-    ends_by_third g.S.Sink.held g.S.Sink.failures _ _ _ _ _ _ _ _ _ _ _ _ _ refl refl refl c.in_ok-write_heading.ensures c.in_ok-write_recording.ensures c.write_wholes.ensures
+    ends_by_third g.S.Sink.held g.S.Sink.failures _ _ _ _ _ _ _ _ _ _ _ _ _ refl refl refl c.in_ok-write_heading.ensures c.in_ok-write_read.ensures c.write_wholes.ensures

@@ -1,9 +1,15 @@
-use Rattle.std.proofs.Common.{option_copied}
-use Rattle.std.specs.Prelude.{string_bytes}
-use Rattle.recording_pictures.proofs.Pictured.{shown_of}
+use Rattle.std.proofs.Common.{◌≡◌, Some, option_copied, subst}
+use Rattle.stage_graph.specs.Plain.{PlainGraph}
+use Rattle.recording_pictures.specs.Pictures.{target_of}
+use Rattle.recording_pictures.proofs.Pictured.{live_target}
 use Rattle.recording_pictures.proofs.text.version_text.Goals as goal
 
-pub returns-in_ok-text-in-Ok : goal.returns-in_ok-text-in-Ok
-returns-in_ok-text-in-Ok g c =
-    shown_of c.args.version.now (option_copied c.args.source.file) c.args.source.unit.now c.args.form c.args.selection c.args.target c.in-Ok.drawing c.room_of.result
-    (string_bytes c.in_ok-text-in-Ok.text) c.room_of.ensures c.in-Ok.ensures.drawn c.in_ok-text-in-Ok.ensures
+pub target_text-requires-after_bounds : goal.target_text-requires-after_bounds
+target_text-requires-after_bounds g c κs within =
+    let P : PlainGraph → Type 0 = λ graph. target_of graph (option_copied c.args.asked.stage) ≡ Some c.in_ok-target.target in
+    live_target c.args.version.now.graph (option_copied c.args.asked.stage) c.in_ok-target.target (subst P c.graph.ensures.graph c.in_ok-target.ensures)
+
+pub returns-in-Ok : goal.returns-in-Ok
+returns-in-Ok g c =
+    let P : PlainGraph → Type 0 = λ graph. target_of graph (option_copied c.args.asked.stage) ≡ Some c.in_ok-target.target in
+    record { target = c.in_ok-target.target; found = subst P c.graph.ensures.graph c.in_ok-target.ensures; shown = c.in-Ok.ensures }

@@ -11,8 +11,7 @@ use Rattle.stage_ops.specs.declared.state.State.{State}
 use Rattle.time_sweep.specs.declared.changes.Change.{Change}
 use Rattle.time_sweep.specs.Changed.{changed_places}
 use Rattle.time_sweep.specs.Sooner.{sooner_done}
-use Rattle.time_sweep.proofs.Exchanging.{fits_live}
-use Rattle.time_sweep.proofs.Knowing.{ranks_below, rank_known}
+use Rattle.time_sweep.proofs.Knowing.{ranks_below}
 use Rattle.time_sweep.proofs.TrialTurns.{ended, ended_before, ended_here, first_calm, first_turn, handed_target, next_calm, next_turn, turn_few, turn_live, turn_known, turn_moments}
 use Rattle.time_sweep.proofs.completion.settle.Goals as goal
 
@@ -21,13 +20,13 @@ loop-place-init g c =
     let graph = c.args.version.now.graph in
     let changed = c.args.changed.now in
     let sound = subst IsSound c.graph-graph.ensures.graph c.len.ensures.sound in
-    let own = rank_known graph.places c.args.target c.args.ranks.now c.requires.ranks changed.place c.requires.known in
+    let marks = c.in_ok-marks.ensures.marked (rank graph.places) c.requires.ranks.rank in
     record {
-      settling = first_turn graph c.graph-graph.ensures.ranked sound changed c.requires.fits c.args.target c.args.ranks.now c.requires.ranks c.args.before.now c.requires.states
-          c.clear.new.self.at.items c.clear.new.self.list.items (is_marked (rank graph.places) c.in_ok-marks.marks) c.clear.ensures.list c.requires.known (c.in_ok-marks.ensures.marked (rank graph.places) own);
-      calm = first_calm graph c.graph-graph.ensures.ranked sound changed c.requires.fits c.args.target c.args.ranks.now c.requires.ranks c.args.before.now c.requires.states
-          c.clear.new.self.at.items c.clear.new.self.list.items (is_marked (rank graph.places) c.in_ok-marks.marks) c.clear.ensures.list (c.in_ok-marks.ensures.marked (rank graph.places) own);
-      marks = c.in_ok-marks.ensures.marks (rank graph.places) own;
+      settling = first_turn graph c.graph-graph.ensures.ranked sound changed c.requires.fit c.args.target c.args.ranks.now c.requires.ranks c.args.before.now c.requires.states
+          c.clear.new.self.at.items c.clear.new.self.list.items (is_marked (rank graph.places) c.in_ok-marks.marks) c.clear.ensures.list marks;
+      calm = first_calm graph c.graph-graph.ensures.ranked sound changed c.requires.fit c.args.target c.args.ranks.now c.requires.ranks c.args.before.now c.requires.states
+          c.clear.new.self.at.items c.clear.new.self.list.items (is_marked (rank graph.places) c.in_ok-marks.marks) c.clear.ensures.list marks;
+      marks = c.in_ok-marks.ensures.marks (rank graph.places) c.requires.ranks.rank;
       each = ap (λ at. length at.items) c.clear.ensures.at ∙ c.requires.each;
       counted = omega (arith, ap length c.clear.ensures.list);
     }
@@ -37,7 +36,7 @@ advance-requires-clause-live g c κs inside =
     let graph = c.args.version.now.graph in
     let sound = subst IsSound c.graph-graph.ensures.graph c.len.ensures.sound in
     let inv = c.loop-place.invariant in
-    turn_live graph c.graph-graph.ensures.ranked sound c.args.changed.now c.requires.fits c.args.target c.args.ranks.now c.requires.ranks c.args.before.now c.requires.states
+    turn_live graph c.graph-graph.ensures.ranked sound c.args.changed.now c.requires.fit c.args.target c.args.ranks.now c.requires.ranks c.args.before.now c.requires.states
     c.loop-place.changes.at.items c.loop-place.changes.list.items (is_marked (rank graph.places) c.loop-place.marks) inv.each inv.settling (c.in-Some.ensures.first (rank graph.places) inv.marks)
 
 pub advance-requires-clause-known : goal.advance-requires-clause-known
@@ -45,7 +44,7 @@ advance-requires-clause-known g c κs inside =
     let graph = c.args.version.now.graph in
     let sound = subst IsSound c.graph-graph.ensures.graph c.len.ensures.sound in
     let inv = c.loop-place.invariant in
-    turn_known graph c.graph-graph.ensures.ranked sound c.args.changed.now c.requires.fits c.args.target c.args.ranks.now c.requires.ranks c.args.before.now c.requires.states
+    turn_known graph c.graph-graph.ensures.ranked sound c.args.changed.now c.requires.fit c.args.target c.args.ranks.now c.requires.ranks c.args.before.now c.requires.states
     c.loop-place.changes.at.items c.loop-place.changes.list.items (is_marked (rank graph.places) c.loop-place.marks) inv.each inv.settling (c.in-Some.ensures.first (rank graph.places) inv.marks)
 
 pub advance-requires-clause-few : goal.advance-requires-clause-few
@@ -53,7 +52,7 @@ advance-requires-clause-few g c κs inside =
     let graph = c.args.version.now.graph in
     let sound = subst IsSound c.graph-graph.ensures.graph c.len.ensures.sound in
     let inv = c.loop-place.invariant in
-    turn_few graph c.graph-graph.ensures.ranked sound c.args.changed.now c.requires.fits c.args.target c.args.ranks.now c.requires.ranks c.args.before.now c.requires.states
+    turn_few graph c.graph-graph.ensures.ranked sound c.args.changed.now c.requires.fit c.args.target c.args.ranks.now c.requires.ranks c.args.before.now c.requires.states
     c.loop-place.changes.at.items c.loop-place.changes.list.items (is_marked (rank graph.places) c.loop-place.marks) inv.each inv.settling (c.in-Some.ensures.first (rank graph.places) inv.marks)
 
 pub advance-requires-clause-room : goal.advance-requires-clause-room
@@ -61,7 +60,7 @@ advance-requires-clause-room g c κs inside =
     let graph = c.args.version.now.graph in
     let sound = subst IsSound c.graph-graph.ensures.graph c.len.ensures.sound in
     let inv = c.loop-place.invariant in
-    let few = turn_few graph c.graph-graph.ensures.ranked sound c.args.changed.now c.requires.fits c.args.target c.args.ranks.now c.requires.ranks c.args.before.now c.requires.states
+    let few = turn_few graph c.graph-graph.ensures.ranked sound c.args.changed.now c.requires.fit c.args.target c.args.ranks.now c.requires.ranks c.args.before.now c.requires.states
     c.loop-place.changes.at.items c.loop-place.changes.list.items (is_marked (rank graph.places) c.loop-place.marks) inv.each inv.settling (c.in-Some.ensures.first (rank graph.places) inv.marks) in
     let most = sound.few in
     omega (arith, few, most, inv.counted, c.requires.room)
@@ -71,18 +70,12 @@ advance-requires-clause-moments g c κs inside =
     let graph = c.args.version.now.graph in
     let sound = subst IsSound c.graph-graph.ensures.graph c.len.ensures.sound in
     let inv = c.loop-place.invariant in
-    turn_moments graph c.graph-graph.ensures.ranked sound c.args.changed.now c.requires.fits c.args.target c.args.ranks.now c.requires.ranks c.args.before.now c.requires.states
+    turn_moments graph c.graph-graph.ensures.ranked sound c.args.changed.now c.requires.fit c.args.target c.args.ranks.now c.requires.ranks c.args.before.now c.requires.states
     c.loop-place.changes.at.items c.loop-place.changes.list.items (is_marked (rank graph.places) c.loop-place.marks) inv.each inv.settling
 
 pub advance-requires-clause-marks : goal.advance-requires-clause-marks
 advance-requires-clause-marks g c κs inside =
     marks_left c.loop-place.marks c.pop_first.new.self c.in-Some.ensures.left (rank c.args.version.now.graph.places) c.loop-place.invariant.marks
-
-pub advance-requires-clause-sound : goal.advance-requires-clause-sound
-advance-requires-clause-sound g c κs inside = c.requires.fits.sound
-
-pub advance-requires-clause-stands : goal.advance-requires-clause-stands
-advance-requires-clause-stands g c κs inside = fits_live c.args.version.now.graph c.args.changed.now c.requires.fits
 
 pub loop-place-preserved : goal.loop-place-preserved
 loop-place-preserved g c =
@@ -91,10 +84,10 @@ loop-place-preserved g c =
     let inv = c.loop-place.invariant in
     let done = c.in_ok-advance.ensures in
     record {
-      settling = next_turn graph c.graph-graph.ensures.ranked sound c.args.changed.now c.requires.fits c.args.target c.args.ranks.now c.requires.ranks c.args.before.now c.requires.states
+      settling = next_turn graph c.graph-graph.ensures.ranked sound c.args.changed.now c.requires.fit c.args.target c.args.ranks.now c.requires.ranks c.args.before.now c.requires.states
           c.loop-place.changes.at.items c.loop-place.changes.list.items (is_marked (rank graph.places) c.loop-place.marks) inv.each inv.settling (c.in-Some.ensures.first (rank graph.places) inv.marks)
           c.advance.new.changes.at.items c.advance.new.changes.list.items (is_marked (rank graph.places) c.advance.new.marks) done.at done.list done.marked;
-      calm = next_calm graph c.graph-graph.ensures.ranked sound c.args.changed.now c.requires.fits c.args.target c.args.ranks.now c.requires.ranks c.args.before.now c.requires.states
+      calm = next_calm graph c.graph-graph.ensures.ranked sound c.args.changed.now c.requires.fit c.args.target c.args.ranks.now c.requires.ranks c.args.before.now c.requires.states
           c.loop-place.changes.at.items c.loop-place.changes.list.items (is_marked (rank graph.places) c.loop-place.marks) inv.each inv.settling (c.in-Some.ensures.first (rank graph.places) inv.marks)
           c.advance.new.changes.at.items c.advance.new.changes.list.items (is_marked (rank graph.places) c.advance.new.marks) done.at done.list done.marked inv.calm;
       marks = done.marks (marks_left c.loop-place.marks c.pop_first.new.self c.in-Some.ensures.left (rank graph.places) inv.marks);
@@ -107,7 +100,7 @@ loop-place-smaller g c =
     let graph = c.args.version.now.graph in
     let sound = subst IsSound c.graph-graph.ensures.graph c.len.ensures.sound in
     let inv = c.loop-place.invariant in
-    let few = turn_few graph c.graph-graph.ensures.ranked sound c.args.changed.now c.requires.fits c.args.target c.args.ranks.now c.requires.ranks c.args.before.now c.requires.states
+    let few = turn_few graph c.graph-graph.ensures.ranked sound c.args.changed.now c.requires.fit c.args.target c.args.ranks.now c.requires.ranks c.args.before.now c.requires.states
     c.loop-place.changes.at.items c.loop-place.changes.list.items (is_marked (rank graph.places) c.loop-place.marks) inv.each inv.settling (c.in-Some.ensures.first (rank graph.places) inv.marks) in
     omega (arith, few, ap length c.in_ok-advance.ensures.list, length-append {A = Change})
 
@@ -117,9 +110,9 @@ returns-then-is_below-clause-settled g c =
     let sound = subst IsSound c.graph-graph.ensures.graph c.len.ensures.sound in
     let inv = c.loop-place.invariant in
     let first = c.in-Some.ensures.first (rank graph.places) inv.marks in
-    let known = turn_known graph c.graph-graph.ensures.ranked sound c.args.changed.now c.requires.fits c.args.target c.args.ranks.now c.requires.ranks c.args.before.now c.requires.states
+    let known = turn_known graph c.graph-graph.ensures.ranked sound c.args.changed.now c.requires.fit c.args.target c.args.ranks.now c.requires.ranks c.args.before.now c.requires.states
     c.loop-place.changes.at.items c.loop-place.changes.list.items (is_marked (rank graph.places) c.loop-place.marks) inv.each inv.settling first in
-    ended_before graph c.graph-graph.ensures.ranked sound c.args.changed.now c.requires.fits c.args.target c.args.ranks.now c.requires.ranks c.args.before.now c.requires.states
+    ended_before graph c.graph-graph.ensures.ranked sound c.args.changed.now c.requires.fit c.args.target c.args.ranks.now c.requires.ranks c.args.before.now c.requires.states
     c.loop-place.changes.at.items c.loop-place.changes.list.items (is_marked (rank graph.places) c.loop-place.marks) inv.each inv.settling first
     (ranks_below graph.places c.args.target c.args.ranks.now c.requires.ranks c.args.target c.in-Some.place c.requires.ranks.own known (sym c.is_below.ensures ∙ c.if-is_below.true))
 
@@ -136,7 +129,7 @@ returns-then-place-target-clause-settled g c =
     let sound = subst IsSound c.graph-graph.ensures.graph c.len.ensures.sound in
     let inv = c.loop-place.invariant in
     let done = c.in_ok-advance.ensures in
-    ended_here graph c.graph-graph.ensures.ranked sound c.args.changed.now c.requires.fits c.args.target c.args.ranks.now c.requires.ranks c.args.before.now c.requires.states
+    ended_here graph c.graph-graph.ensures.ranked sound c.args.changed.now c.requires.fit c.args.target c.args.ranks.now c.requires.ranks c.args.before.now c.requires.states
     c.loop-place.changes.at.items c.loop-place.changes.list.items (is_marked (rank graph.places) c.loop-place.marks) inv.each inv.settling (c.in-Some.ensures.first (rank graph.places) inv.marks)
     c.advance.new.changes.at.items c.advance.new.changes.list.items (is_marked (rank graph.places) c.advance.new.marks) done.at done.list done.marked c.if-place-target.true
 
@@ -146,7 +139,7 @@ returns-then-place-target-clause-once g c =
     let sound = subst IsSound c.graph-graph.ensures.graph c.len.ensures.sound in
     let inv = c.loop-place.invariant in
     let done = c.in_ok-advance.ensures in
-    let turn = next_turn graph c.graph-graph.ensures.ranked sound c.args.changed.now c.requires.fits c.args.target c.args.ranks.now c.requires.ranks c.args.before.now c.requires.states
+    let turn = next_turn graph c.graph-graph.ensures.ranked sound c.args.changed.now c.requires.fit c.args.target c.args.ranks.now c.requires.ranks c.args.before.now c.requires.states
     c.loop-place.changes.at.items c.loop-place.changes.list.items (is_marked (rank graph.places) c.loop-place.marks) inv.each inv.settling (c.in-Some.ensures.first (rank graph.places) inv.marks)
     c.advance.new.changes.at.items c.advance.new.changes.list.items (is_marked (rank graph.places) c.advance.new.marks) done.at done.list done.marked in
     distinct_from_before graph.places (changed_places c.advance.new.changes.list.items) turn.ascending
@@ -168,7 +161,7 @@ returns-clause-settled g c =
     let graph = c.args.version.now.graph in
     let sound = subst IsSound c.graph-graph.ensures.graph c.len.ensures.sound in
     let inv = c.loop-place.invariant in
-    ended graph c.graph-graph.ensures.ranked sound c.args.changed.now c.requires.fits c.args.target c.args.ranks.now c.requires.ranks c.args.before.now c.requires.states
+    ended graph c.graph-graph.ensures.ranked sound c.args.changed.now c.requires.fit c.args.target c.args.ranks.now c.requires.ranks c.args.before.now c.requires.states
     c.loop-place.changes.at.items c.loop-place.changes.list.items (is_marked (rank graph.places) c.loop-place.marks) inv.each inv.settling (λ m. none_marked c.loop-place.marks c.in_default.ensures.none (rank graph.places m) m)
 
 -- ---- the end before the target is computed
@@ -179,7 +172,7 @@ done_by_one-requires g c =
     let sound = subst IsSound c.graph-graph.ensures.graph c.len.ensures.sound in
     let inv = c.loop-place.invariant in
     let within = live_within graph.places c.in-Some.place
-    (turn_live graph c.graph-graph.ensures.ranked sound c.args.changed.now c.requires.fits c.args.target c.args.ranks.now c.requires.ranks c.args.before.now c.requires.states
+    (turn_live graph c.graph-graph.ensures.ranked sound c.args.changed.now c.requires.fit c.args.target c.args.ranks.now c.requires.ranks c.args.before.now c.requires.states
     c.loop-place.changes.at.items c.loop-place.changes.list.items (is_marked (rank graph.places) c.loop-place.marks) inv.each inv.settling (c.in-Some.ensures.first (rank graph.places) inv.marks)) in
     omega (arith, within, c.requires.states.count)
 
@@ -191,7 +184,7 @@ returns-in-Some-done_by_one-clause-early g c =
     let done = c.in_ok-advance.ensures in
     let by = c.in-Some-done_by_one.ensures.done in
     let none = c.is_empty-is_alone.ensures.0 c.in-Some-done_by_one.ensures.alone in
-    let new = handed_target graph c.graph-graph.ensures.ranked sound c.args.changed.now c.requires.fits c.args.target c.args.ranks.now c.requires.ranks c.args.before.now c.requires.states
+    let new = handed_target graph c.graph-graph.ensures.ranked sound c.args.changed.now c.requires.fit c.args.target c.args.ranks.now c.requires.ranks c.args.before.now c.requires.states
     c.loop-place.changes.at.items c.loop-place.changes.list.items (is_marked (rank graph.places) c.loop-place.marks) inv.each inv.settling (c.in-Some.ensures.first (rank graph.places) inv.marks)
     c.advance.new.changes.at.items c.advance.new.changes.list.items (is_marked (rank graph.places) c.advance.new.marks) done.at done.list done.marked inv.calm
     (λ s. none_marked c.pop_first.new.self none (rank graph.places s) s) by.gain by.most (c.requires.handed c.in-Some.place by.most by.known) by.sees in
@@ -205,7 +198,7 @@ returns-in-Some-done_by_one-clause-once g c =
     let sound = subst IsSound c.graph-graph.ensures.graph c.len.ensures.sound in
     let inv = c.loop-place.invariant in
     let done = c.in_ok-advance.ensures in
-    let turn = next_turn graph c.graph-graph.ensures.ranked sound c.args.changed.now c.requires.fits c.args.target c.args.ranks.now c.requires.ranks c.args.before.now c.requires.states
+    let turn = next_turn graph c.graph-graph.ensures.ranked sound c.args.changed.now c.requires.fit c.args.target c.args.ranks.now c.requires.ranks c.args.before.now c.requires.states
     c.loop-place.changes.at.items c.loop-place.changes.list.items (is_marked (rank graph.places) c.loop-place.marks) inv.each inv.settling (c.in-Some.ensures.first (rank graph.places) inv.marks)
     c.advance.new.changes.at.items c.advance.new.changes.list.items (is_marked (rank graph.places) c.advance.new.marks) done.at done.list done.marked in
     distinct_from_before graph.places (changed_places c.advance.new.changes.list.items) turn.ascending

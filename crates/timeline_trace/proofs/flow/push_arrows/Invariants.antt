@@ -7,7 +7,7 @@ use Rattle.timeline_trace.proofs.flow.push_arrows.Given as goal
 abbrev pub invariant-loop-first : goal.invariant-loop-first
 invariant-loop-first l = record {
   numbered : l.number + length l.rest ≡ 1 + length l.path;
-  written : string_bytes l.text ++ arrows l.rows l.number l.rest ≡ string_bytes l.fn.text ++ arrows l.rows 1 l.path;
+  written : string_bytes l.text ++ arrows l.labels l.rows l.number l.rest ≡ string_bytes l.fn.text ++ arrows l.labels l.rows 1 l.path;
 }
 
 abbrev pub decreases-loop-first : goal.decreases-loop-first

@@ -5,4 +5,4 @@ use Rattle.version_rows.proofs.rows.indices_of.Given as goal
 
 -- what was found and what is left make the whole
 abbrev pub invariant-loop-place : goal.invariant-loop-place
-invariant-loop-place l = l.indices.items ++ filter_map (row_index l.chosen) (drop l.place-index l.path) ≡ filter_map (row_index l.chosen) l.path
+invariant-loop-place l = l.indices.items ++ filter_map (row_index l.lines) (drop l.place-index l.path) ≡ filter_map (row_index l.lines) l.path

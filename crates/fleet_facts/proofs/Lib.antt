@@ -1,0 +1,4 @@
+pub mod Counting
+pub mod Gathering
+pub mod Hurrying
+pub mod Telling
