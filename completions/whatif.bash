@@ -27,10 +27,21 @@ _whatif_words() {
   for ((at = 1; at < COMP_CWORD; at++)); do
     case $closed${COMP_WORDS[at]} in
       --) closed=after- ;;
-      --top | --want | --within | --by | --as | --workers | --trace | --unit | --reply | --slowest | --stage | --origin | --what | --from | --to | --min | --group | --script | --format)
+      --top | --want | --within | --by | --as | --workers | --trace | --unit | --reply | --try | --stage | --origin | --what | --from | --to | --min | --group | --script | --format)
         option=${COMP_WORDS[at]}
         if [ "${COMP_WORDS[at + 1]}" = = ]; then at=$((at + 1)); fi
         at=$((at + 1))
+        ;;
+      --slowest)
+        # (its number may be left out)
+        if [ "${COMP_WORDS[at + 1]}" = = ]; then at=$((at + 1)); fi
+        case ${COMP_WORDS[at + 1]} in
+          -*) ;;
+          *)
+            option=--slowest
+            at=$((at + 1))
+            ;;
+        esac
         ;;
       --version)
         # (without a command it takes no number)
@@ -87,7 +98,7 @@ _whatif_words() {
       page) echo --stage --quiet --strict -h --help ;;
       many) echo --workers --quiet --strict --format -h --help ;;
       check) echo --strict -h --help ;;
-      fleet) echo --reply --by --slowest --part --join --unit --clocks --calls --quiet --strict --format -h --help ;;
+      fleet) echo --reply --by --try --slowest --workers --part --join --unit --clocks --calls --quiet --strict --format -h --help ;;
       import) echo --list --each --trace --unit --clocks --calls --format --quiet -h --help ;;
       console) echo --steps --quiet --strict -h --help ;;
       export) echo --quiet --strict -h --help ;;

@@ -7,10 +7,11 @@ from .schema import Schemas
 GROUP = {"name": "db", "traces": 1, "spans": 2, "paths": 1, "sooner": 150, "ran": [[164, 40]], "queued": [[164, 10]], "times": [[164, 1]], "timesThen": [[50, 1]]}
 FAILURE = {"exception": "java.io.IOException", "group": "db", "replies": 1}
 SUMMARY = {
-    "whatif-fleet": 1,
+    "whatif-fleet": 2,
     "by": "span",
     "reply": "GET /cart",
     "unit": None,
+    "try": None,
     "replies": {"count": 1, "failed": 1, "times": [[164, 1]]},
     "groups": [GROUP],
     "failures": [FAILURE],
@@ -32,6 +33,7 @@ TAKEN = [
     ("no trace", NOTHING),
     ("two groups", {**SUMMARY, "groups": [GROUP, {**GROUP, "name": "db2"}]}),
     ("the greatest numbers", {**SUMMARY, "replies": {"count": 2**64 - 1, "failed": 2**64 - 1, "times": [[3775, 2**64 - 1]]}}),
+    ("what was tried", {**SUMMARY, "try": "db runs=0", "groups": []}),
     ("a member that is not listed", {**SUMMARY, "x-host": "a"}),
 ]
 # Each name, a summary that is refused, and whether a schema sees it.
@@ -42,7 +44,7 @@ REFUSED = [
     *((f"a group without {name}", {**SUMMARY, "groups": [without(name, GROUP)]}, True) for name in GROUP),
     *((f"a failure without {name}", {**SUMMARY, "failures": [without(name, FAILURE)]}, True) for name in FAILURE),
     *((f"replies without {name}", {**SUMMARY, "replies": without(name, SUMMARY["replies"])}, True) for name in SUMMARY["replies"]),
-    ("another form", {**SUMMARY, "whatif-fleet": 2}, True),
+    ("another form", {**SUMMARY, "whatif-fleet": 1}, True),
     ("another grouping", {**SUMMARY, "by": "trace"}, True),
     ("a unit that is no text", {**SUMMARY, "unit": 1000}, True),
     ("a group of no trace", counted(traces=0), True),

@@ -216,7 +216,7 @@ Options:
       --version <N>      draw version N of those that the script makes, from 0 to 65535; 0 is the recording
       --format <FORMAT>  an SVG file, or trace events as JSON, which Perfetto and chrome://tracing open [default: svg] [possible values: svg, trace]
       --quiet            leave explanations and warnings out
-      --strict           end with status 1 where there is a warning
+      --strict           end with status 1 where the recording has a warning, and with 5 at the first refused step
   -h, --help             Print help
 
 Examples:
@@ -282,7 +282,9 @@ Arguments:
 Options:
       --reply <NAME>     the span whose end is the reply of its trace, by its name, with its service and a dot before it where that is to be told; where it is left out, the root of the trace
       --by <WHAT>        by what spans are counted together: their service and their name, or the service alone [default: span] [possible values: span, service]
-      --slowest <P>      print also what each group did on the paths of the slowest P percent of the replies, from 1 to 100, for each of them, and for each of all
+      --try <CHANGE>     print also what the replies come to where a change is made to each span of a group: a word in quotes, the group's name and assignments as of try, as 'shop.GET /order runs=50%'; it may be told several times
+      --slowest [<P>]    print also what each group did on the paths of the slowest P percent of the replies, from 1 to 100, or 1 where none is told, for each of them, and for each of all
+      --workers <N>      how many threads count traces at once, from 1 to 16 [default: 1]
       --part             write the summary of what was counted, which --join reads, in place of the answer
       --join             the files hold summaries, which --part wrote, each on one line: join them
       --unit <UNIT>      the unit of ticks [default: us] [possible values: us, ns, ms]
@@ -296,11 +298,12 @@ Options:
 Examples:
   whatif fleet night.jsonl
   whatif fleet --slowest 1 --by service night/*.jsonl
+  whatif fleet --try 'stock.GET /items runs=50%' --workers 4 night/*.jsonl
   whatif fleet --part night/1.jsonl > 1.summary
   whatif fleet --join 1.summary 2.summary
   ls night/*.jsonl | parallel whatif fleet --part {} | whatif fleet --join -
 
-What is counted, and what a gain means: docs/FLEET.md.
+What is counted, what a gain means, and what is tried: docs/FLEET.md.
 """)
 HELP_OF_IMPORT = help_of("""\
 Writes the recording that a trace makes, from OTLP/JSON, Jaeger JSON or Zipkin's

@@ -69,7 +69,7 @@ nothing_assigned word = Err (record { text = word; reason = NothingAssigned })
 abbrev pub if_assigns : List ℕ → Change → Result Change WrongPart
 if_assigns word change = if assigns change then Ok change else nothing_assigned word
 
--- the change of the stage of a name, in a word, behind which these parts stand
+-- the change of a name, in a word, behind which these parts stand
 abbrev pub of_parts : List ℕ → List ℕ → List ℕ → Result Change WrongPart
 of_parts word name parts = then_on (with_parts (slice_split is_space parts) (begun name)) (if_assigns word)
 

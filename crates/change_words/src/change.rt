@@ -43,7 +43,7 @@ impl Change {
     }
 
     /// Whether something is assigned.
-    fn assigns(&self) -> bool
+    pub fn assigns(&self) -> bool
         ensures { result ≡ assigns self.now }
     {
         self.queued.is_some()
@@ -142,8 +142,10 @@ impl Change {
         Err(ReadFault::Misread(Misread { part: word, wrong }))
     }
 
-    /// The change of the stage of a name, in a word, behind which these parts stand.
-    fn of_parts<'a>(
+    /// The change of a name, in a word, behind which these parts stand: assignments, with spaces between them.
+    ///
+    /// Errors: as of [`Change::of`].
+    pub fn of_parts<'a>(
         alloc: Global,
         word: &'a str,
         name: &str,

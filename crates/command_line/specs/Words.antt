@@ -1,8 +1,8 @@
 -- What the words of the command line ask for. Where an option is left out it has no word.
 use Rattle.std.specs.Prelude.{ℕ, ◌-◌, ◌^◌, Bool, List, Option, None, Some, bytes_eq, codes, nat_lt, unwrap_or, if◌then◌else◌}
 use Rattle.std.specs.Option.{option_map}
-use Rattle.command_line.specs.declared.fleet.Grouping.{Grouping}
-use Rattle.command_line.specs.declared.fleet.Grouping.TheVariants as grouping
+use Rattle.fleet_summary.specs.declared.group_by.GroupBy.{GroupBy}
+use Rattle.fleet_summary.specs.declared.group_by.GroupBy.TheVariants as grouping
 use Rattle.command_line.specs.declared.input.Input.{Input}
 use Rattle.command_line.specs.declared.input.Input.TheVariants.{Standard, File}
 use Rattle.command_line.specs.declared.manner.Format.{Format}
@@ -62,9 +62,9 @@ abbrev pub reading_of : Option (List ℕ) → Reading
 reading_of None = Inferred
 reading_of (Some word) = if bytes_eq word (codes "as-told") then AsTold else Inferred
 
-abbrev pub grouping_of : Option (List ℕ) → Grouping
-grouping_of None = grouping.Span
-grouping_of (Some word) = if bytes_eq word (codes "service") then grouping.Service else grouping.Span
+abbrev pub grouped_by : Option (List ℕ) → GroupBy
+grouped_by None = grouping.Span
+grouped_by (Some word) = if bytes_eq word (codes "service") then grouping.Service else grouping.Span
 
 -- the stage that is reported on, where reports are asked for; none where no stage is named
 abbrev pub told_of : Asked → Option (Option (List ℕ))

@@ -18,7 +18,7 @@ pub(crate) struct Argument {
     pub(crate) takes: Takes,
 }
 
-/// What an argument takes. The first ten are options, whose name stands after two dashes, the others are told by their place.
+/// What an argument takes. The first eleven are options, whose name stands after two dashes, the others are told by their place.
 #[derive(Clone, Copy)]
 pub(crate) enum Takes {
     /// Nothing: it is there or not.
@@ -27,13 +27,15 @@ pub(crate) enum Takes {
     NothingBeside(&'static [&'static str]),
     /// A text, by the name that help has for it.
     Text(&'static str),
-    /// The same, required where the other argument is the word.
+    /// The same, and any number of them.
+    Texts(&'static str),
+    /// A text, required where the other argument is the word.
     TextIf(&'static str, &'static str, &'static str),
     /// A number; where it is bounded, from 1 to the bound, and 1 where it is left out.
     Number(&'static str, Option<u8>),
     /// A number from 0 to the bound, where the other argument is there.
     NumberWith(&'static str, u16, &'static str),
-    /// A number from 1 to 100.
+    /// A number from 1 to 100, 1 where the option stands without one.
     Percent(&'static str),
     /// A number of ticks, no more than a recording may say.
     Ticks(&'static str),
@@ -82,6 +84,11 @@ pub(crate) fn arg_of<'a>(alloc: Global, argument: Argument) -> Result<Arg<'a>, A
             .action(ArgAction::SetTrue)
             .conflicts_with_all(others)?,
         Takes::Text(value) => arg.long(argument.name).value_name(value),
+        Takes::Texts(value) => {
+            arg.long(argument.name)
+                .value_name(value)
+                .action(ArgAction::Append)
+        }
         Takes::TextIf(value, other, word) => {
             arg.long(argument.name)
                 .value_name(value)
@@ -125,6 +132,8 @@ fn number<'a>(arg: Arg<'a>, most: Option<u8>) -> Arg<'a> {
 
 fn percent<'a>(arg: Arg<'a>) -> Arg<'a> {
     arg.value_parser(value_parser!(u64).range(1..=100))
+        .num_args(0..=1)
+        .default_missing_value("1")
 }
 
 fn ticks<'a>(arg: Arg<'a>) -> Arg<'a> {

@@ -1,33 +1,23 @@
 //! What is asked of many traces.
 ghost use Rattle.std.specs.Prelude.{◌≡◌, ◌≤◌, length, option_map};
-ghost use Rattle.command_line.specs.Words.{grouping_of};
+ghost use Rattle.command_line.specs.Words.{grouped_by};
 
 use crate::traces::Mapping;
-use std::alloc::{AllocError, Global};
+use fleet_summary::GroupBy;
+use level_pool::Workers;
 
 /// The most files that are read.
 pub(crate) const MOST_FILES: usize = 4_096;
 
-/// By what spans are counted together.
-#[derive(Clone, Copy, Debug, PartialEq, Eq)]
-pub enum Grouping {
-    /// By their service and their name.
-    Span,
-    /// By their service alone.
-    Service,
-}
-
 pub(crate) static GROUPINGS: [&str; 2] = ["span", "service"];
 
-impl Grouping {
-    /// What the word asks for; by service and name where there is none.
-    pub fn of(word: Option<&str>) -> Grouping
-        ensures { result ≡ grouping_of (option_map (λ word. word.now) word.entry) }
-    {
-        match word {
-            Some("service") => Grouping::Service,
-            _ => Grouping::Span,
-        }
+/// By what spans are counted together, as the word asks for it; by service and name where there is none.
+pub fn grouped_by(word: Option<&str>) -> GroupBy
+    ensures { result ≡ grouped_by (option_map (λ word. word.now) word.entry) }
+{
+    match word {
+        Some("service") => GroupBy::Service,
+        _ => GroupBy::Span,
     }
 }
 
@@ -36,7 +26,7 @@ impl Grouping {
 pub struct Counting<'a> {
     /// The span whose end is the reply of its trace; the root where there is none.
     pub reply: Option<&'a str>,
-    pub by: Grouping,
+    pub by: GroupBy,
     pub mapping: Mapping,
 }
 
@@ -63,24 +53,34 @@ pub enum Told {
 pub struct Fleet<'a> {
     files: Vec<&'a str>,
     pub held: Held<'a>,
+    /// The changes of groups that are tried in each trace, each as one word.
+    pub tries: Vec<&'a str>,
+    /// How many threads count at once.
+    pub workers: Workers,
     pub told: Told,
     ghost some: { 1 ≤ length files.items },
     ghost few: { length files.items ≤ 4096 },
 }
 
 impl<'a> Fleet<'a> {
-    /// A fleet in the files of these paths, unless there are none or too many.
+    /// A fleet in the files of these paths, in which these changes are tried, unless there are no files or too many.
     pub(crate) fn new(
-        alloc: Global,
-        files: &[&'a str],
+        files: Vec<&'a str>,
         held: Held<'a>,
+        tries: Vec<&'a str>,
+        workers: Workers,
         told: Told,
-    ) -> Result<Option<Fleet<'a>>, AllocError> {
+    ) -> Option<Fleet<'a>> {
         if files.is_empty() || files.len() > MOST_FILES {
-            return Ok(None);
+            return None;
         }
-        let files = Vec::from_slice(alloc, files)?;
-        Ok(Some(Fleet { files, held, told }))
+        Some(Fleet {
+            files,
+            held,
+            tries,
+            workers,
+            told,
+        })
     }
 
     /// The paths, as they were given.

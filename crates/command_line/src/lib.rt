@@ -20,7 +20,7 @@ mod trial;
 mod words;
 
 pub use command::{Command, CommandLine};
-pub use fleet::{Counting, Fleet, Grouping, Held, Told};
+pub use fleet::{Counting, Fleet, Held, Told, grouped_by};
 pub use input::Input;
 pub use manner::{Format, Manner};
 pub use parsing::{WordsFault, parsed, without_help_of_help};

@@ -98,6 +98,9 @@ pub(crate) const GROUPED_BY: &str = "by";
 /// How many hundredths of the replies are the slowest.
 pub(crate) const SLOWEST: &str = "slowest";
 
+/// A change of a group that is tried in each trace.
+pub(crate) const TRY: &str = "try";
+
 /// That the summary is written.
 pub(crate) const PART: &str = "part";
 

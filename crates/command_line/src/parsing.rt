@@ -2,7 +2,7 @@
 ghost use Rattle.std.specs.Prelude.{◌≡◌, codes, None, Some, false, is_some, true, option_map, IfOk};
 ghost use Rattle.clap.specs.Matches.{first_value, found_of, one_text};
 ghost use Rattle.command_line.specs.Percents.{percent_asked, percent_in};
-ghost use Rattle.command_line.specs.Words.{drawn_of, ending_of, format_of, grouping_of, has_no_tick, path_of, picture_format_of, reading_of, rows_of, told_of, unit_of, wanted_path};
+ghost use Rattle.command_line.specs.Words.{drawn_of, ending_of, format_of, grouped_by, has_no_tick, path_of, picture_format_of, reading_of, rows_of, told_of, unit_of, wanted_path};
 ghost use Rattle.recording_forms.specs.Names.{name_of};
 ghost use Rattle.command_line.specs.declared.printed.Printed.TheVariants.{Answers, Steps};
 ghost use Rattle.command_line.specs.declared.sweep.Part.TheVariants.{Both, Queue};
@@ -10,7 +10,7 @@ ghost use Rattle.command_line.specs.declared.traces.Wanted.TheVariants.{List, Ea
 ghost use Rattle.command_line.specs.declared.trial.Asked.TheVariants.{Recording};
 
 use crate::command::{Command, CommandLine};
-use crate::fleet::{Counting, Fleet, Grouping, Held, Told};
+use crate::fleet::{Counting, Fleet, Held, Told, grouped_by};
 use crate::input::Input;
 use crate::manner::{Format, Manner};
 use crate::names;
@@ -403,8 +403,14 @@ fn wanted_of<'a>(matches: &ArgMatches<'a>) -> Wanted<'a>
 }
 
 fn fleet_of<'a>(alloc: Global, matches: &ArgMatches<'a>) -> Result<Fleet<'a>, WordsFault> {
-    let files = required(matches.get_strs(names::FILE))?;
-    required(Fleet::new(alloc, files, held_of(matches), told_of(matches))?)
+    let files = Vec::from_slice(alloc, required(matches.get_strs(names::FILE))?)?;
+    let tries = match matches.get_strs(names::TRY) {
+        Some(tries) => Vec::from_slice(alloc, tries)?,
+        None => Vec::new(alloc),
+    };
+    let workers = workers_of(matches)?;
+    let held = held_of(matches);
+    required(Fleet::new(files, held, tries, workers, told_of(matches)))
 }
 
 fn held_of<'a>(matches: &ArgMatches<'a>) -> Held<'a> {
@@ -417,11 +423,11 @@ fn held_of<'a>(matches: &ArgMatches<'a>) -> Held<'a> {
 
 fn counting_of<'a>(matches: &ArgMatches<'a>) -> Counting<'a>
     ensures reply { option_map (λ name. name.now) result.reply ≡ first_value (found_of matches.now) (codes "reply") }
-    ensures by { result.by ≡ grouping_of (first_value (found_of matches.now) (codes "by")) }
+    ensures by { result.by ≡ grouped_by (first_value (found_of matches.now) (codes "by")) }
 {
     Counting {
         reply: matches.get_str(names::REPLY),
-        by: Grouping::of(matches.get_str(names::GROUPED_BY)),
+        by: grouped_by(matches.get_str(names::GROUPED_BY)),
         mapping: mapping_of(matches),
     }
 }

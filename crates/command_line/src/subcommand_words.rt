@@ -7,7 +7,7 @@ use crate::words::{
     QUEUED, QUIET, QUIET_IMPORT, RECORDING, RECORDING_OR_DASH, RECORDING_OR_INPUT, REPLY, ROWS,
     SAVE, SCRIPT, SCRIPT_OF_PAGE, SCRIPT_OF_PICTURE, SCRIPTS, SLOWEST, STAGE, STAGE_OF_BOTH,
     STAGE_OF_PAGE, STAGE_OF_TRIAL, STEPS, STRICT, STRICT_FLEET, STRICT_SCRIPTS, STRICT_STEPS, TO,
-    TOP, TOP_CHANGES, TRACE, TRACE_ID, TRACES, UNIT, WANT, WITHIN, WORKERS,
+    TOP, TOP_CHANGES, TRACE, TRACE_ID, TRACES, TRY, UNIT, WANT, WITHIN, WORKERS, WORKERS_OF_FLEET,
 };
 use clap::Command;
 use std::alloc::{AllocError, Global};
@@ -193,7 +193,7 @@ fn draw<'a>(alloc: Global) -> Result<Command<'a>, AllocError> {
             PLAYED_VERSION,
             PICTURE,
             QUIET,
-            STRICT,
+            STRICT_STEPS,
             RECORDING_OR_INPUT,
         ],
     )
@@ -290,11 +290,13 @@ fn fleet<'a>(alloc: Global) -> Result<Command<'a>, AllocError> {
         alloc,
         Subcommand::Fleet,
         "Prints what many traces came to: how long their replies took, which spans, if they took no time, would bring them sooner, and which failures came from where",
-        "Examples:\n  whatif fleet night.jsonl\n  whatif fleet --slowest 1 --by service night/*.jsonl\n  whatif fleet --part night/1.jsonl > 1.summary\n  whatif fleet --join 1.summary 2.summary\n  ls night/*.jsonl | parallel whatif fleet --part {} | whatif fleet --join -\n\nWhat is counted, and what a gain means: docs/FLEET.md.",
+        "Examples:\n  whatif fleet night.jsonl\n  whatif fleet --slowest 1 --by service night/*.jsonl\n  whatif fleet --try 'stock.GET /items runs=50%' --workers 4 night/*.jsonl\n  whatif fleet --part night/1.jsonl > 1.summary\n  whatif fleet --join 1.summary 2.summary\n  ls night/*.jsonl | parallel whatif fleet --part {} | whatif fleet --join -\n\nWhat is counted, what a gain means, and what is tried: docs/FLEET.md.",
         &[
             REPLY,
             GROUPED_BY,
+            TRY,
             SLOWEST,
+            WORKERS_OF_FLEET,
             PART,
             JOIN,
             UNIT,

@@ -5,7 +5,7 @@ use crate::names;
 use crate::scripts::MOST_SCRIPTS;
 use crate::trial::MOST_CHANGES;
 
-/// The most workers that compute for one script.
+/// The most workers that compute at once.
 pub(crate) const MOST_WORKERS: usize = 16;
 
 pub(crate) const QUIET: Argument = Argument {
@@ -280,8 +280,20 @@ pub(crate) const GROUPED_BY: Argument = Argument {
 
 pub(crate) const SLOWEST: Argument = Argument {
     name: names::SLOWEST,
-    help: "print also what each group did on the paths of the slowest P percent of the replies, from 1 to 100, for each of them, and for each of all",
+    help: "print also what each group did on the paths of the slowest P percent of the replies, from 1 to 100, or 1 where none is told, for each of them, and for each of all",
     takes: Takes::Percent("P"),
+};
+
+pub(crate) const TRY: Argument = Argument {
+    name: names::TRY,
+    help: "print also what the replies come to where a change is made to each span of a group: a word in quotes, the group's name and assignments as of try, as 'shop.GET /order runs=50%'; it may be told several times",
+    takes: Takes::Texts("CHANGE"),
+};
+
+pub(crate) const WORKERS_OF_FLEET: Argument = Argument {
+    name: names::WORKERS,
+    help: "how many threads count traces at once, from 1 to 16",
+    takes: Takes::Number("N", Some(MOST_WORKERS as u8)),
 };
 
 pub(crate) const PART: Argument = Argument {
@@ -296,6 +308,8 @@ pub(crate) const JOIN: Argument = Argument {
     takes: Takes::NothingBeside(&[
         names::REPLY,
         names::GROUPED_BY,
+        names::TRY,
+        names::WORKERS,
         names::UNIT,
         names::CLOCKS,
         names::CALLS,

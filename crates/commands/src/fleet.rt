@@ -3,53 +3,70 @@ ghost use Rattle.std.specs.Prelude.{◌≡◌, ◌+◌, ◌-◌, ◌^◌, ◌<�
 ghost use Rattle.text_io.specs.Writes.{failures_in};
 
 use crate::fault::stopped;
+use crate::fleet_counts::{Counts, tried_replies};
 use crate::fleet_files::count_files;
 use crate::fleet_joining::join_files;
 use crate::format::format_of;
 use crate::printing::print_text;
 use command_line::{Fleet, Held, Input, Manner, Told};
 use console::{Fault, Voice, flushed, output, why_read_again, with_reason};
-use fleet_answer::{Answer, AnswerFault, answer_of, print_json, print_text as print_lines};
+use fleet_answer::{Answer, AnswerFault, Tried, answer_of, print_json, print_text as print_lines};
 use fleet_summary::Summary;
 use fleet_text::{PartSummary, WriteFault, write_summary};
 use report_form::Format;
 use std::alloc::Global;
 use std::cell::Cell;
+use std::thread::Threads;
 use text_io::{Sink, Stopped};
 use version_store::StateRepresentation;
 
-/// Counts the traces of files, or joins the summaries of files, and writes the summary, or what it answers.
-pub fn run_fleet<'a, K: StateRepresentation>(
+/// Counts the traces of files, or joins the summaries of files, and writes the summaries, or what they answer.
+pub fn run_fleet<'a, K: StateRepresentation, H: Threads + Copy + Sync>(
     rt: &'a HostRuntime,
+    threads: &'a H,
     manner: Manner,
-    fleet: &Fleet<'a>,
+    fleet: &'a Fleet<'a>,
 ) -> Result<(), Fault> {
     let files = fleet.files();
     if files.iter().filter(|path| **path == "-").count() > 1 {
         return Err(Fault::Word(why_read_again(rt.alloc())?));
     }
     let voice = Voice::new(rt, manner, Input::of(files.first().copied()));
-    let part = match fleet.held {
-        Held::Traces(counting) => Some(count_files::<K>(rt, manner, files, counting)?),
+    let counts = match fleet.held {
+        Held::Traces(counting) => Some(count_files::<K, H>(
+            rt, threads, manner, files, counting, fleet,
+        )?),
         Held::Summaries => join_files(rt, manner, files)?,
     };
-    let Some(part) = part else {
+    let Some(counts) = counts else {
         return Err(Fault::NoReply(voice.said("there is no summary")));
     };
     match fleet.told {
-        Told::Summary => print_summary(rt, voice, &part),
-        Told::Answer(slowest) => print_answer(rt, voice, manner, &part.summary, slowest),
+        Told::Summary => print_summaries(rt, voice, &counts),
+        Told::Answer(slowest) => print_answer(rt, voice, manner, counts, slowest),
     }
 }
 
-/// Writes a summary on a line.
-fn print_summary(rt: &HostRuntime, voice: Voice<'_>, part: &PartSummary) -> Result<(), Fault> {
-    let mut text = match write_summary(rt.alloc(), part) {
-        Ok(text) => text,
+/// Adds the line of a summary.
+fn push_summary(alloc: Global, text: &mut String, part: &PartSummary) -> Result<(), Fault> {
+    match write_summary(alloc, part) {
+        Ok(line) => {
+            text.push_str(&line)?;
+            text.push('\n')?;
+            Ok(())
+        }
         // (each name is a text)
-        Err(WriteFault::NotText | WriteFault::Memory) => return Err(Fault::Memory),
-    };
-    text.push('\n')?;
+        Err(WriteFault::NotText | WriteFault::Memory) => Err(Fault::Memory),
+    }
+}
+
+/// Writes the summary of the traces as they are, and that of each change, each on a line.
+fn print_summaries(rt: &HostRuntime, voice: Voice<'_>, counts: &Counts) -> Result<(), Fault> {
+    let mut text = String::new(rt.alloc());
+    push_summary(rt.alloc(), &mut text, &counts.whole)?;
+    for part in &counts.tries {
+        push_summary(rt.alloc(), &mut text, part)?;
+    }
     print_text(rt, voice, text.as_str())
 }
 
@@ -58,9 +75,10 @@ fn answered(
     alloc: Global,
     voice: Voice<'_>,
     summary: &Summary,
+    tries: &[Tried],
     slowest: Option<u8>,
 ) -> Result<Answer, Fault> {
-    match answer_of(alloc, summary, slowest) {
+    match answer_of(alloc, summary, tries, slowest) {
         Ok(answer) => Ok(answer),
         Err(AnswerFault::NoReply) => Err(Fault::NoReply(voice.said("no trace has a reply"))),
         // (each name is a text)
@@ -84,15 +102,17 @@ fn write_answer<S: Sink>(
     }
 }
 
-/// Prints what a summary answers.
+/// Prints what was counted answers.
 fn print_answer(
     rt: &HostRuntime,
     voice: Voice<'_>,
     manner: Manner,
-    summary: &Summary,
+    counts: Counts,
     slowest: Option<u8>,
 ) -> Result<(), Fault> {
-    let answer = answered(rt.alloc(), voice, summary, slowest)?;
+    let Counts { whole, tries } = counts;
+    let tries = tried_replies(rt.alloc(), tries)?;
+    let answer = answered(rt.alloc(), voice, &whole.summary, tries.as_slice(), slowest)?;
     let reason = Cell::new(None);
     let mut sink = output(rt, &reason)?;
     let end = write_answer(rt.alloc(), &answer, format_of(manner), &mut sink);

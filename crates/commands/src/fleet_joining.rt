@@ -1,8 +1,10 @@
 //! The summaries of files, joined.
-use crate::fleet_files::whole;
+use crate::fleet_counts::Counts;
+use crate::fleet_files::{push_part, whole};
 use crate::fleet_recording::lines_of;
 use command_line::{Input, Manner};
 use console::{Fault, TraceAt, Voice};
+use fleet_summary::Name;
 use fleet_text::{Basis, JoinFault, PartSummary, ReadFault, join_parts, read_summary};
 use std::alloc::{AllocError, Global};
 use std::fmt::Display;
@@ -27,7 +29,7 @@ struct PartAt<'a> {
     line: usize,
 }
 
-/// Summaries that were read.
+/// Summaries that were read, of traces as they are, or of one change that was tried in them.
 #[derive(Drop)]
 struct Parts<'a> {
     /// Those in which replies are counted.
@@ -56,6 +58,42 @@ impl<'a> Parts<'a> {
         } else if self.empty.is_none() {
             self.empty = Some(part);
         }
+        Ok(())
+    }
+
+    /// Whether they are of this change, or where there is none of traces as they are.
+    fn are_of(&self, tried: Option<&Name>) -> bool {
+        let own = match self.counted.first() {
+            Some(part) => Some(part),
+            None => self.empty.as_ref(),
+        };
+        match own {
+            Some(part) => part.basis.tried.as_ref() == tried,
+            None => false,
+        }
+    }
+}
+
+/// The summaries of some files: those of traces as they are, and those of each change that was tried, in the order of their first ones.
+#[derive(Drop)]
+struct Kinds<'a> {
+    kinds: Vec<Parts<'a>>,
+    alloc: Global,
+}
+
+impl<'a> Kinds<'a> {
+    /// One summary more.
+    fn push(&mut self, part: PartSummary, at: PartAt<'a>) -> Result<(), AllocError> {
+        for number in 0..self.kinds.len() {
+            if let Some(parts) = self.kinds.get_mut(number) {
+                if parts.are_of(part.basis.tried.as_ref()) {
+                    return parts.push(part, at);
+                }
+            }
+        }
+        let mut parts = Parts::new(self.alloc);
+        parts.push(part, at)?;
+        self.kinds.push(parts)?;
         Ok(())
     }
 }
@@ -89,12 +127,12 @@ fn read_file<'a>(
     voice: Voice<'_>,
     path: &'a str,
     bytes: &[u8],
-    parts: &mut Parts<'a>,
+    kinds: &mut Kinds<'a>,
 ) -> Result<(), Fault> {
     let lines = lines_of(alloc, bytes)?;
     for (line, text) in &lines {
         let part = summary_of(alloc, voice, *line, text)?;
-        parts.push(part, PartAt { path, line: *line })?;
+        kinds.push(part, PartAt { path, line: *line })?;
     }
     Ok(())
 }
@@ -121,20 +159,12 @@ fn of_other(
     bad_summary(rt.alloc(), voice, line(at.line), why)
 }
 
-/// The summaries of files, joined, if there are some.
-pub(crate) fn join_files<'a>(
-    rt: &'a HostRuntime,
+/// Summaries of one kind, joined, if there are some; where each is empty, that is one of them.
+fn join_kind(
+    rt: &HostRuntime,
     manner: Manner,
-    files: &[&'a str],
+    parts: Parts<'_>,
 ) -> Result<Option<PartSummary>, Fault> {
-    let alloc = rt.alloc();
-    let mut parts = Parts::new(alloc);
-    for path in files {
-        let input = Input::of(Some(*path));
-        let voice = Voice::new(rt, manner, input);
-        let bytes = whole(rt, voice, input)?;
-        read_file(alloc, voice, *path, &bytes, &mut parts)?;
-    }
     let Parts {
         counted,
         places,
@@ -143,7 +173,7 @@ pub(crate) fn join_files<'a>(
     let Some((first, others)) = counted.as_slice().split_first() else {
         return Ok(empty);
     };
-    match join_parts(alloc, first, others) {
+    match join_parts(rt.alloc(), first, others) {
         Ok(joined) => Ok(Some(joined)),
         Err(JoinFault::Memory) => Err(Fault::Memory),
         Err(JoinFault::OtherBasis(index)) => {
@@ -154,8 +184,123 @@ pub(crate) fn join_files<'a>(
                     Err(of_other(rt, manner, *at, why)?)
                 }
                 // (each summary stands somewhere)
-                _ => Err(Fault::BadSummary(String::new(alloc), None)),
+                _ => Err(Fault::BadSummary(String::new(rt.alloc()), None)),
             }
         }
     }
+}
+
+/// Where the first of some summaries stands in which replies are counted.
+fn first_of<'a>(parts: &Parts<'a>, files: &[&'a str]) -> PartAt<'a> {
+    match (parts.places.first(), files.first()) {
+        (Some(at), _) => *at,
+        (None, Some(path)) => PartAt { path, line: 1 },
+        (None, None) => PartAt { path: "-", line: 1 },
+    }
+}
+
+/// What is wrong with the summary of a change beside that of the traces as they are, if something is.
+fn mismatch(whole: &PartSummary, tried: &PartSummary) -> Option<&'static str> {
+    if whole.summary.replies.count != tried.summary.replies.count {
+        return Some("a change was tried in other traces than the summaries count");
+    }
+    let counts = whole.summary.replies.count > 0;
+    let is_same = whole.basis.by == tried.basis.by
+        && whole.basis.unit == tried.basis.unit
+        && whole.basis.reply == tried.basis.reply;
+    if counts && !is_same {
+        return Some(difference(&whole.basis, &tried.basis));
+    }
+    None
+}
+
+/// The joined summaries of each kind.
+#[derive(Drop)]
+struct Joined<'a> {
+    whole: Option<PartSummary>,
+    tries: Vec<PartSummary>,
+    /// Where the first summary of each change stands.
+    places: Vec<PartAt<'a>>,
+}
+
+impl<'a> Joined<'a> {
+    /// None.
+    fn new(alloc: Global) -> Joined<'a> {
+        Joined {
+            whole: None,
+            tries: Vec::new(alloc),
+            places: Vec::new(alloc),
+        }
+    }
+
+    /// One more.
+    fn push(&mut self, part: PartSummary, at: PartAt<'a>) -> Result<(), AllocError> {
+        if part.basis.tried.is_none() {
+            self.whole = Some(part);
+            return Ok(());
+        }
+        self.tries.push(part)?;
+        self.places.push(at)?;
+        Ok(())
+    }
+
+    /// What was counted, if something was: in each change as in the traces as they are.
+    fn counts(self, rt: &HostRuntime, manner: Manner) -> Result<Option<Counts>, Fault> {
+        let Joined {
+            whole,
+            tries,
+            places,
+        } = self;
+        let Some(whole) = whole else {
+            return match places.first() {
+                Some(at) => Err(of_other(rt, manner, *at, UNFOUNDED)?),
+                None => Ok(None),
+            };
+        };
+        let mut counted = Vec::new(rt.alloc());
+        for (tried, at) in tries.into_iter().zip(places) {
+            if tried.summary.replies.count == 0 && whole.summary.replies.count > 0 {
+                continue;
+            }
+            if let Some(why) = mismatch(&whole, &tried) {
+                return Err(of_other(rt, manner, at, why)?);
+            }
+            push_part(&mut counted, tried)?;
+        }
+        Ok(Some(Counts {
+            whole,
+            tries: counted,
+        }))
+    }
+}
+
+/// Why a change alone is not answered of.
+const UNFOUNDED: &str = "a change was tried, and no summary is of the traces as they are";
+
+/// The summaries of files, joined, if there are some: those of the traces as they are, and those of each change that was tried.
+pub(crate) fn join_files<'a>(
+    rt: &'a HostRuntime,
+    manner: Manner,
+    files: &[&'a str],
+) -> Result<Option<Counts>, Fault> {
+    let alloc = rt.alloc();
+    let mut kinds = Kinds {
+        kinds: Vec::new(alloc),
+        alloc,
+    };
+    for path in files {
+        let input = Input::of(Some(*path));
+        let voice = Voice::new(rt, manner, input);
+        let bytes = whole(rt, voice, input)?;
+        read_file(alloc, voice, *path, &bytes, &mut kinds)?;
+    }
+    let Kinds { kinds, .. } = kinds;
+    let mut joined = Joined::new(alloc);
+    for parts in kinds {
+        let at = first_of(&parts, files);
+        if let Some(part) = join_kind(rt, manner, parts)? {
+            joined.push(part, at)?;
+        }
+    }
+    joined.counts(rt, manner)
 }

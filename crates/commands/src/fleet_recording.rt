@@ -1,26 +1,10 @@
-//! What a recording of a fleet came to. The groups of its stages are by their names, as an import gives them: a service, a dot, the
-//! name of a span, and where there are several a dot and a number; and behind these a dot and an ending, but for the stage that ends
-//! when its span did.
-ghost use Rattle.stage_graph.specs.Walk.{IsRanked};
-
-use crate::fleet_trace::{Recorded, facts_at};
-use command_line::{Counting, Grouping as By};
-use fleet_summary::Name;
-use recording::{Fault as ReadingFault, Told, read_labelled};
+//! The recordings of a fleet's files: each on one line, or a file that is one.
+use crate::fleet_lines::{MOST_LINES, read_line};
+use console::{Fault, Voice};
 use serde_json::{Category, Value};
-use span_groups::{Grouping, StageOf, grouping_of};
-use stage_graph::Graph;
 use std::alloc::{AllocError, Global};
-use std::collections::BTreeMap;
+use std::io::BufRead;
 use std::str;
-use tried_changes::last_stage;
-use version_store::{StateRepresentation, Version};
-
-/// What the name of each stage but one has behind that of its span.
-const ENDINGS: [&str; 6] = ["start", "join", "work", "tried", "limit", "answer"];
-
-/// The ending of a stage that is a limit to its span, and no work of it.
-const LIMIT: &str = "limit";
 
 /// Whether a text is a recording.
 fn is_recording(alloc: Global, text: &[u8]) -> Result<bool, AllocError> {
@@ -76,140 +60,19 @@ pub(crate) fn recordings_in<'b>(
     Ok(None)
 }
 
-/// The name of a stage up to its first dot, and up to its second one.
-fn parts_of(name: &str) -> (&str, &str) {
-    let Some((service, rest)) = name.split_once('.') else {
-        return (name, name);
-    };
-    let Some((_, behind)) = rest.split_once('.') else {
-        return (service, name);
-    };
-    match name.strip_suffix(behind) {
-        Some(base) => (service, base.strip_suffix('.').unwrap_or(base)),
-        None => (service, name),
-    }
-}
-
-/// The ending of a name, without its number; none where there is none.
-fn ending_of(name: &str) -> Option<&str> {
-    let (_, base) = parts_of(name);
-    let behind = name.strip_prefix(base)?.rsplit_once('.')?.1;
-    let ending = match behind.split_once('-') {
-        Some((ending, _)) => ending,
-        None => behind,
-    };
-    if ENDINGS.iter().any(|it| *it == ending) {
-        Some(ending)
-    } else {
-        None
-    }
-}
-
-/// The name of the group of a stage.
-fn group_of(by: By, name: &str) -> &str {
-    let (service, base) = parts_of(name);
-    match by {
-        By::Span => base,
-        By::Service => service,
-    }
-}
-
-/// The groups of the stages of a recording: each stage that has no ending is a span, and the others are of the spans of their group.
-fn name_grouping<K: StateRepresentation>(
+/// Whether the first line that has a text is a recording.
+pub(crate) fn begins_with_recording<B: BufRead>(
     alloc: Global,
-    by: By,
-    version: &Version<K>,
-) -> Result<Grouping, AllocError> {
-    let graph = version.graph();
-    let mut names = Vec::new(alloc);
-    let mut known = BTreeMap::new(alloc);
-    for place in 0..graph.len() as u32 {
-        let name = graph.name_of(place);
-        if ending_of(name).is_none() {
-            let group = group_of(by, name).as_bytes();
-            known.insert(Name::new(alloc, group)?, names.len())?;
-            names.push(Name::new(alloc, group)?)?;
+    voice: Voice<'_>,
+    reader: &mut B,
+) -> Result<bool, Fault> {
+    let mut line = Vec::new(alloc);
+    for _ in 0..MOST_LINES {
+        let length = read_line(voice, reader, &mut line)?;
+        let is_blank = line.iter().all(|byte| byte.is_ascii_whitespace());
+        if length == 0 || !is_blank {
+            return Ok(is_recording(alloc, &line)?);
         }
     }
-    let mut stages = Vec::new(alloc);
-    for place in 0..graph.len() as u32 {
-        let name = graph.name_of(place);
-        let group = Name::new(alloc, group_of(by, name).as_bytes())?;
-        stages.push(match known.get(&group) {
-            Some(span) => Some(StageOf {
-                span: *span,
-                is_work: ending_of(name) != Some(LIMIT),
-            }),
-            None => None,
-        })?;
-    }
-    grouping_of(alloc, names.as_slice(), stages.as_slice())
-}
-
-/// The stage of the span that a recording begins with, where it is of a trace.
-fn root_place<K: StateRepresentation>(version: &Version<K>) -> Option<u32> {
-    let root = version.graph().name_of(0).strip_suffix(".start")?;
-    version.id_of(root).ok()
-}
-
-/// The first stage of a name, or of a group of that name.
-fn named_place<K: StateRepresentation>(version: &Version<K>, name: &str) -> Option<u32> {
-    if let Ok(place) = version.id_of(name) {
-        return Some(place);
-    }
-    let graph = version.graph();
-    for place in 0..graph.len() as u32 {
-        let own = graph.name_of(place);
-        if ending_of(own).is_none() && group_of(By::Span, own) == name {
-            return Some(place);
-        }
-    }
-    None
-}
-
-/// Where the reply of a recording stands: the stage that is asked for; or else the end of the root of a trace, or the stage that
-/// completes last.
-fn reply_of<K: StateRepresentation>(version: &Version<K>, wanted: Option<&str>) -> Option<u32> {
-    match wanted {
-        Some(name) => named_place(version, name),
-        None => match root_place(version) {
-            Some(place) => Some(place),
-            None => last_stage(version),
-        },
-    }
-}
-
-/// What the reply of a graph came to, in ticks of a unit.
-fn recorded_of<K: StateRepresentation>(
-    alloc: Global,
-    counting: Counting<'_>,
-    graph: Graph<K>,
-    unit: String,
-) -> Result<Recorded, AllocError>
-    requires { IsRanked graph.places }
-{
-    let version = Version::load(alloc, graph)?;
-    let Some(reply) = reply_of(&version, counting.reply) else {
-        return Ok(Recorded::NoReply);
-    };
-    let grouping = name_grouping(alloc, counting.by, &version)?;
-    match facts_at(alloc, &version, reply, &grouping)? {
-        Some(facts) => Ok(Recorded::Facts(facts, unit)),
-        None => Ok(Recorded::NoReply),
-    }
-}
-
-/// What a recording came to.
-pub(crate) fn counted_of_recording<K: StateRepresentation>(
-    alloc: Global,
-    counting: Counting<'_>,
-    recording: &[u8],
-) -> Result<Recorded, AllocError> {
-    let (graph, told): (Graph<K>, Told) = match read_labelled(alloc, recording) {
-        Ok(read) => read,
-        Err(ReadingFault::Memory) => return Err(AllocError),
-        Err(fault) => return Ok(Recorded::Refused(fault)),
-    };
-    let Told { unit, .. } = told;
-    recorded_of(alloc, counting, graph, unit)
+    Ok(false)
 }

@@ -2,7 +2,7 @@
 //! what their words ask for to what is printed.
 //!
 //! It stands on the crates that answer (`recording_reports`, `tried_changes`, `recording_pictures`, `incident_page`, `serve_script`, `recording_text`,
-//! `trace_spans`, `trace_import`, `fleet_facts`, `fleet_answer`, `recording_forms`) and on `console`, by which people are told of mistakes. A command's own steps belong here; what it
+//! `trace_spans`, `trace_import`, `fleet_replies`, `fleet_summary`, `fleet_text`, `fleet_answer`, `recording_forms`) and on `console`, by which people are told of mistakes. A command's own steps belong here; what it
 //! answers belongs to the crate that it calls.
 #![tactic(auto)]
 
@@ -13,10 +13,12 @@ mod drawing_trial;
 mod export;
 mod fault;
 mod fleet;
+mod fleet_counts;
 mod fleet_files;
+mod fleet_index;
 mod fleet_joining;
+mod fleet_lines;
 mod fleet_recording;
-mod fleet_trace;
 mod format;
 mod importing;
 mod naming;

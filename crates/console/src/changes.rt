@@ -3,6 +3,7 @@ use crate::fault::Fault;
 use change_words::{Change, KEYS, Key, Misread, ReadFault, Wrong};
 use diagnosis::Quoted;
 use json_names::nearest;
+use serde_json::Value;
 use std::alloc::{AllocError, Global};
 use std::fmt;
 
@@ -133,20 +134,40 @@ fn name_in(word: &str) -> &str {
     }
 }
 
+/// What a word that is to be a change names.
+#[derive(Clone, Copy)]
+struct NameIn<'a> {
+    /// The name that stands there, where it stands without quotes.
+    plain: Option<&'a str>,
+    /// Whose name it is to be.
+    of: &'static str,
+}
+
+impl NameIn<'_> {
+    /// Whether an assignment stands in place of the name.
+    fn is_assignment(self) -> bool {
+        match self.plain {
+            Some(name) => name.contains('='),
+            None => false,
+        }
+    }
+}
+
 /// What is wrong with a word that is no change.
 fn why_no_change<'a>(
     alloc: Global,
     word: &'a str,
+    name: NameIn<'_>,
     misread: Misread<'a>,
 ) -> Result<String, AllocError> {
     let quoted = Quoted(word);
     if word.starts_with(' ') {
         return format!(in alloc; "the change begins with a space: {quoted}");
     }
-    let name = name_in(word);
-    if name.contains('=') {
-        let name = Quoted(name);
-        return format!(in alloc; "{name} is an assignment; a stage's name has to stand before it");
+    if name.is_assignment() {
+        let of = name.of;
+        let part = Quoted(name_in(word));
+        return format!(in alloc; "{part} is an assignment; {of} name has to stand before it");
     }
     let near = match misread.wrong {
         Wrong::NoKey => nearest(alloc, key_in(misread.part), &KEYS[..])?,
@@ -160,14 +181,101 @@ fn why_no_change<'a>(
     format!(in alloc; "the change {quoted}: {wrong}")
 }
 
-/// The change that a word is.
-fn change_of(alloc: Global, word: &str) -> Result<Change, Fault> {
-    match Change::of(alloc, word) {
+/// The change that was read of a word, or what is wrong with the word.
+fn change_read<'a>(
+    alloc: Global,
+    word: &'a str,
+    name: NameIn<'_>,
+    read: Result<Change, ReadFault<'a>>,
+) -> Result<Change, Fault> {
+    match read {
         Ok(change) => Ok(change),
         Err(ReadFault::Misread(misread)) => {
-            Err(Fault::Word(why_no_change(alloc, word, misread)?))
+            Err(Fault::Word(why_no_change(alloc, word, name, misread)?))
         }
         Err(ReadFault::Memory) => Err(Fault::Memory),
+    }
+}
+
+/// The change that a word is.
+fn change_of(alloc: Global, word: &str) -> Result<Change, Fault> {
+    let name = NameIn {
+        plain: Some(name_in(word)),
+        of: "a stage's",
+    };
+    change_read(alloc, word, name, Change::of(alloc, word))
+}
+
+/// Whether a part of a word is an assignment, or one that is misspelled.
+fn is_assignment(part: &str) -> bool {
+    part.contains('=') || matches!(Key::named(part), Some(Key::Unlimited))
+}
+
+/// Whether a quote behind a text is escaped.
+fn escapes(text: &str) -> bool {
+    let slashes = text.len().saturating_sub(text.trim_end_matches('\\').len());
+    slashes % 2 == 1
+}
+
+/// The JSON string with which a word begins, up to its first quote that is not escaped, and what stands behind it.
+fn quoted_parts(word: &str) -> Option<(&str, &str)> {
+    let mut rest = word.strip_prefix('"')?;
+    for _ in 0..word.len() {
+        let (before, behind) = rest.split_once('"')?;
+        if !escapes(before) {
+            return Some((word.strip_suffix(behind).unwrap_or(word), behind));
+        }
+        rest = behind;
+    }
+    None
+}
+
+/// The name in a word, and what stands behind it: the last parts of the word, as far as they are assignments.
+fn plain_parts(word: &str) -> (&str, &str) {
+    let mut name = word;
+    for _ in 0..word.len() {
+        match name.rsplit_once(' ') {
+            Some((before, part)) if part.is_empty() || is_assignment(part) => name = before,
+            _ => break,
+        }
+    }
+    (name, word.strip_prefix(name).unwrap_or(""))
+}
+
+/// The text that a JSON string is.
+fn unquoted(alloc: Global, quoted: &str) -> Result<Option<String>, AllocError> {
+    match Value::from_str(alloc, quoted) {
+        Ok(value) => match value.as_str() {
+            Some(text) => Ok(Some(String::from_str(alloc, text)?)),
+            None => Ok(None),
+        },
+        Err(error) if error.is_memory() => Err(AllocError),
+        Err(_) => Ok(None),
+    }
+}
+
+/// The change of a group that a word is. The group's name stands as a line of an answer has it, or without its quotes: then it ends
+/// before the last parts of the word, as far as they are assignments.
+pub fn group_change_of(alloc: Global, word: &str) -> Result<Change, Fault> {
+    let of = "a group's";
+    if !word.starts_with('"') {
+        let (name, parts) = plain_parts(word);
+        let plain = Some(name);
+        let read = Change::of_parts(alloc, word, name, parts);
+        return change_read(alloc, word, NameIn { plain, of }, read);
+    }
+    let (name, parts) = quoted_parts(word).unwrap_or((word, ""));
+    match unquoted(alloc, name)? {
+        Some(name) => {
+            let read = Change::of_parts(alloc, word, &name, parts);
+            change_read(alloc, word, NameIn { plain: None, of }, read)
+        }
+        None => {
+            let word = Quoted(word);
+            Err(Fault::Word(format!(in alloc;
+                "the change {word}: its name begins with a quote, and is no JSON string"
+            )?))
+        }
     }
 }
 

@@ -5,9 +5,12 @@ use crate::guesses::CUT_LINE;
 use crate::importing::not_imported;
 use crate::not_made::NotMade;
 use crate::voice::Voice;
+use change_words::{Change, MakingFault};
 use diagnosis::Quoted;
+use json_names::nearest;
 use recording::Fault as ReadingFault;
-use std::alloc::Global;
+use stage_graph::Refusal;
+use std::alloc::{AllocError, Global};
 use std::fmt::{self, Display};
 use trace_import::{ImportFault, Mapping, Options, Unit};
 use trace_spans::{Fault as TraceFault, Trace};
@@ -136,6 +139,53 @@ pub fn left_out_without_reply(
         voice.tell_of_file(format_args!("{at}: refused 86 NoReply"));
     } else {
         voice.tell_of_file(format_args!("{at}: refused 86 NoReply: {why}"));
+    }
+    Ok(())
+}
+
+/// Why a change of a group is not made to the spans of a trace.
+#[derive(Clone, Copy)]
+struct NotTried<'a>(&'a MakingFault);
+
+impl Display for NotTried<'_> {
+    fn fmt<W: fmt::Write>(&self, f: &mut fmt::Formatter<W>) -> fmt::Result {
+        match self.0 {
+            MakingFault::Refused(refused) => match refused.refusal {
+                Refusal::Limit => f.write_str("a time would be longer than 1099511627776 ticks"),
+                refusal => write!(f, "a stage refuses it: {refusal}"),
+            },
+            MakingFault::NotOneTimeout { count, .. } => write!(
+                f,
+                "the end of a span has {count} timeouts, and limit sets the delay of one"
+            ),
+            fault => write!(f, "{fault}"),
+        }
+    }
+}
+
+/// That a change of a group, which a word is, is not made to the spans of a trace.
+pub fn not_tried(voice: Voice<'_>, at: TraceAt<'_>, word: &str, fault: MakingFault) -> Fault {
+    let word = Quoted(word);
+    let why = NotTried(&fault);
+    let why = voice.text(format_args!("{at}: the change {word}: {why}"));
+    Fault::NotMade(fault, why)
+}
+
+/// Tells that no trace has the group of a change, and which group is like it.
+pub fn tell_missing_group(
+    alloc: Global,
+    voice: Voice<'_>,
+    change: &Change,
+    groups: &[&str],
+) -> Result<(), AllocError> {
+    let name = change.name.as_str();
+    let quoted = Quoted(name);
+    match nearest(alloc, name, groups)? {
+        Some(near) => {
+            let near = Quoted(near);
+            voice.say(format_args!("no trace has the group {quoted}; did you mean {near}?"));
+        }
+        None => voice.say(format_args!("no trace has the group {quoted}")),
     }
     Ok(())
 }

@@ -28,12 +28,15 @@ mod step_telling;
 mod unmade_changes;
 mod voice;
 
-pub use changes::changes_of;
+pub use changes::{changes_of, group_change_of};
 pub use checking::run_check;
 pub use explaining::{warn, why_no_stage, with_explanation};
 pub use fault::Fault;
 pub use file_name::FileName;
-pub use fleet_telling::{TraceAt, left_out, left_out_recording, left_out_without_reply, traces_of};
+pub use fleet_telling::{
+    TraceAt, left_out, left_out_recording, left_out_without_reply, not_tried, tell_missing_group,
+    traces_of,
+};
 pub use importing::{imported, listed};
 pub use importing_each::imported_each;
 pub use input::{

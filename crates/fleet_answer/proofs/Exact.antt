@@ -1,51 +1,19 @@
 -- An answer has no float, so its text is told exactly.
-use Rattle.std.proofs.Common.{◌≡◌, ℕ, List, [], ◌∷◌, Bool, true, false, ◌||◌, map, Option, Some, None, Ordering, Less, Equal, Greater, refl, rules}
+use Rattle.std.proofs.Common.{◌≡◌, ℕ, [], ◌∷◌, false, Option, Some, None, refl}
 use Rattle.std.specs.Prelude.{codes}
-use Rattle.std.specs.List.{AllByRecursion}
-use Rattle.std.specs.Ordering.{nat_cmp, match_ordering}
-use Rattle.std.specs.Cmp.Lexicographic.{slice_cmp}
-use Rattle.serde_json.specs.Data.{Data, string, Members, no_members, member, put}
-use Rattle.serde_json.specs.View.{items_of}
-use Rattle.serde_json.specs.Written.{has_float, items_have_float, members_have_float}
+use Rattle.serde_json.specs.Data.{string}
+use Rattle.serde_json.specs.Written.{has_float}
 use Rattle.fleet_answer.specs.declared.answer.Answer.{Answer}
 use Rattle.fleet_answer.specs.declared.rows.FailureRow.{FailureRow}
 use Rattle.fleet_answer.specs.declared.rows.GroupRow.{GroupRow}
 use Rattle.fleet_answer.specs.declared.rows.ReplyRow.{ReplyRow}
+use Rattle.fleet_answer.specs.declared.rows.TryRow.{TryRow}
 use Rattle.fleet_answer.specs.declared.shares.Share.{Share}
 use Rattle.fleet_answer.specs.declared.shares.Shares.{Shares}
 use Rattle.fleet_answer.specs.declared.shares.Slowest.{Slowest}
-use Rattle.fleet_answer.specs.Json.{NamedValues, answer_json, count_json, failure_json, failures_json, group_json, groups_json, maybe_json, object, replies_json, share_json, shares_json, slowest_json, with}
-
-neither : (a b : Bool) → a ≡ false → b ≡ false → (a || b) ≡ false
-neither false b h k = k
-neither true b h k = h
-
-parts : (a b : Bool) → (a || b) ≡ false → (a ≡ false) × (b ≡ false)
-parts false b h = (refl, h)
-parts true b h = absurd (search rules)
-
-by_order : (o : Ordering) (a b c : Members) → members_have_float a ≡ false → members_have_float b ≡ false → members_have_float c ≡ false → members_have_float (match_ordering o a b c) ≡ false
-by_order Less a b c x y z = x
-by_order Equal a b c x y z = y
-by_order Greater a b c x y z = z
-
-put_exact : (name : List ℕ) (d : Data) (ms : Members) → has_float d ≡ false → members_have_float ms ≡ false → members_have_float (put name d ms) ≡ false
-put_exact name d no_members h k = neither _ _ h k
-put_exact name d (member other e ms) h k =
-    by_order (slice_cmp nat_cmp name other) _ _ _ (neither _ _ h k) (neither _ _ h (parts _ _ k).1)
-    (neither _ _ (parts _ _ k).0 (put_exact name d ms h (parts _ _ k).1))
-
-with_exact : (named : NamedValues) (ms : Members) → members_have_float ms ≡ false → AllByRecursion (λ m. has_float m.1 ≡ false) named → members_have_float (with ms named) ≡ false
-with_exact [] ms h k = h
-with_exact (m ∷ others) ms h k = with_exact others _ (put_exact m.0 m.1 ms k.0 h) k.1
-
--- an object has none where its members have none
-object_exact : (named : NamedValues) → AllByRecursion (λ m. has_float m.1 ≡ false) named → has_float (object named) ≡ false
-object_exact named h = with_exact named no_members refl h
-
-items_exact : {X : Type 0} (json : X → Data) → ((x : X) → has_float (json x) ≡ false) → (xs : List X) → items_have_float (items_of (map json xs)) ≡ false
-items_exact json each [] = refl
-items_exact json each (x ∷ xs) = neither _ _ (each x) (items_exact json each xs)
+use Rattle.fleet_answer.specs.Json.{answer_json, failure_json, failures_json, group_json, groups_json, maybe_json, replies_json, share_json, shares_json, slowest_json, tried_json, tries_json, try_json}
+use Rattle.json_objects.specs.Objects.{count_json}
+use Rattle.json_objects.proofs.Exact.{items_exact, object_exact}
 
 maybe_exact : (number : Option ℕ) → has_float (maybe_json number) ≡ false
 maybe_exact None = refl
@@ -86,6 +54,13 @@ group_exact row =
     ∷ [])
     (refl, (refl, (refl, (refl, (refl, (refl, (refl, (maybe_exact row.p99, (shares_exact row.shares, tt)))))))))
 
+tried_exact : (replies : Option ReplyRow) → has_float (tried_json replies) ≡ false
+tried_exact None = refl
+tried_exact (Some row) = replies_exact row
+
+try_exact : (row : TryRow) → has_float (try_json row) ≡ false
+try_exact row = object_exact ((codes "change", string row.change) ∷ (codes "replies", tried_json row.replies) ∷ []) (refl, (tried_exact row.replies, tt))
+
 slowest_exact : (slowest : Option Slowest) → has_float (slowest_json slowest) ≡ false
 slowest_exact None = refl
 slowest_exact (Some slowest) = object_exact ((codes "percent", count_json slowest.percent) ∷ (codes "replies", count_json slowest.replies) ∷ []) (refl, (refl, tt))
@@ -100,7 +75,8 @@ answer_exact answer =
     ((codes "report", string (codes "fleet"))
     ∷ (codes "replies", replies_json answer.replies)
     ∷ (codes "groups", groups_json answer.groups.items)
+    ∷ (codes "tries", tries_json answer.tries.items)
     ∷ (codes "slowest", slowest_json answer.slowest)
     ∷ (codes "failures", failures_json answer.failures.items)
     ∷ [])
-    (refl, (replies_exact answer.replies, (items_exact group_json group_exact answer.groups.items, (slowest_exact answer.slowest, (items_exact failure_json failure_exact answer.failures.items, tt)))))
+    (refl, (replies_exact answer.replies, (items_exact group_json group_exact answer.groups.items, (items_exact try_json try_exact answer.tries.items, (slowest_exact answer.slowest, (items_exact failure_json failure_exact answer.failures.items, tt))))))

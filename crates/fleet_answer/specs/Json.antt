@@ -1,7 +1,6 @@
 -- An answer as JSON: one object on a line.
 use Rattle.std.specs.Prelude.{ℕ, List, [], ◌∷◌, ◌++◌, Option, Some, None, codes, map}
-use Rattle.serde_json.specs.Data as tree
-use Rattle.serde_json.specs.Data.{Data, null, number, unsigned, string, array, Members, no_members, put}
+use Rattle.serde_json.specs.Data.{Data, null, number, string, array}
 use Rattle.serde_json.specs.View.{items_of}
 use Rattle.serde_json.specs.Written.{compact_text}
 use Rattle.text_io.specs.Writes.{line_end}
@@ -9,25 +8,11 @@ use Rattle.fleet_answer.specs.declared.answer.Answer.{Answer}
 use Rattle.fleet_answer.specs.declared.rows.FailureRow.{FailureRow}
 use Rattle.fleet_answer.specs.declared.rows.GroupRow.{GroupRow}
 use Rattle.fleet_answer.specs.declared.rows.ReplyRow.{ReplyRow}
+use Rattle.fleet_answer.specs.declared.rows.TryRow.{TryRow}
 use Rattle.fleet_answer.specs.declared.shares.Share.{Share}
 use Rattle.fleet_answer.specs.declared.shares.Shares.{Shares}
 use Rattle.fleet_answer.specs.declared.shares.Slowest.{Slowest}
-
--- values by the names that they have as members of an object
-abbrev pub NamedValues : Type 0
-NamedValues = List (List ℕ × Data)
-
--- the members, with these as well
-abbrev pub with : Members → NamedValues → Members
-with members [] = members
-with members (named ∷ others) = with (put named.0 named.1 members) others
-
--- the object of these members
-abbrev pub object : NamedValues → Data
-object named = tree.object (with no_members named)
-
-abbrev pub count_json : ℕ → Data
-count_json count = number (unsigned count)
+use Rattle.json_objects.specs.Objects.{count_json, object}
 
 -- a number, or null where there is none
 abbrev pub maybe_json : Option ℕ → Data
@@ -67,6 +52,14 @@ group_json row =
     ∷ (codes "perReply", shares_json row.shares)
     ∷ [])
 
+-- null where no reply was tried
+abbrev pub tried_json : Option ReplyRow → Data
+tried_json None = null
+tried_json (Some row) = replies_json row
+
+abbrev pub try_json : TryRow → Data
+try_json row = object ((codes "change", string row.change) ∷ (codes "replies", tried_json row.replies) ∷ [])
+
 abbrev pub slowest_json : Option Slowest → Data
 slowest_json None = null
 slowest_json (Some slowest) = object ((codes "percent", count_json slowest.percent) ∷ (codes "replies", count_json slowest.replies) ∷ [])
@@ -77,6 +70,9 @@ failure_json row = object ((codes "exception", string row.exception) ∷ (codes 
 abbrev pub groups_json : List GroupRow → Data
 groups_json rows = array (items_of (map group_json rows))
 
+abbrev pub tries_json : List TryRow → Data
+tries_json rows = array (items_of (map try_json rows))
+
 abbrev pub failures_json : List FailureRow → Data
 failures_json rows = array (items_of (map failure_json rows))
 
@@ -86,6 +82,7 @@ answer_json answer =
     ((codes "report", string (codes "fleet"))
     ∷ (codes "replies", replies_json answer.replies)
     ∷ (codes "groups", groups_json answer.groups.items)
+    ∷ (codes "tries", tries_json answer.tries.items)
     ∷ (codes "slowest", slowest_json answer.slowest)
     ∷ (codes "failures", failures_json answer.failures.items)
     ∷ [])

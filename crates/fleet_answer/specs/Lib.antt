@@ -1,5 +1,4 @@
 pub mod Answers
-pub mod Held
 pub mod Json
 pub mod Names
 pub mod Quantiles

@@ -1,5 +1,5 @@
 -- The rows of an answer.
-use Rattle.std.specs.Prelude.{ℕ, ◌≡◌, ◌-◌, ◌^◌, List, [], ◌∷◌, Option, map, ⊤}
+use Rattle.std.specs.Prelude.{ℕ, ◌≡◌, ◌-◌, ◌^◌, List, [], ◌∷◌, Option, MatchOption, map, ⊤}
 use Rattle.std.specs.Option.{option_map}
 use Rattle.std.specs.List.Sorted.{IsNonDecreasingBy, IsPermutation, IsStableByKey}
 use Rattle.std.specs.Ordering.{nat_cmp}
@@ -10,7 +10,9 @@ use Rattle.fleet_summary.specs.Histogram.{capped, total_of}
 use Rattle.fleet_answer.specs.declared.rows.FailureRow.{FailureRow}
 use Rattle.fleet_answer.specs.declared.rows.GroupRow.{GroupRow}
 use Rattle.fleet_answer.specs.declared.rows.ReplyRow.{ReplyRow}
+use Rattle.fleet_answer.specs.declared.rows.TryRow.{TryRow}
 use Rattle.fleet_answer.specs.declared.shares.Slowest.{Slowest}
+use Rattle.fleet_answer.specs.declared.tried.Tried.{Tried}
 use Rattle.fleet_answer.specs.Quantiles.{AreTimesOf}
 use Rattle.fleet_answer.specs.Shares.{shares_of}
 use Rattle.fleet_answer.specs.Without.{IsP99Without}
@@ -53,6 +55,11 @@ pub record AreByGain (before rows : List GroupRow) : Type 0 where
 -- the rows of groups: the largest gain first, and of several that are the same by name
 abbrev pub AreRankedRows : List (ℕ × ℕ) → Option Slowest → List (List ℕ × GroupCounts) → List GroupRow → Type 0
 AreRankedRows all slowest groups rows = (by_name : List GroupRow) × AreGroupRows all slowest groups by_name × AreByGain by_name rows
+
+-- the change that was tried, and how the replies would have come; none where no reply was tried
+pub record IsTryRow (tried : Tried) (row : TryRow) : Type 0 where
+  pub change_is : row.change ≡ tried.change
+  pub replies_are : MatchOption row.replies (tried.replies.times ≡ []) (IsReplyRow tried.replies)
 
 abbrev pub failure_row : Failure × ℕ → FailureRow
 failure_row failure = record { exception = failure.0.exception; group = failure.0.group; replies = failure.1 }

@@ -1,4 +1,4 @@
--- An answer as text: a line for the replies, for each group, for the slowest replies, and for each failure.
+-- An answer as text: a line for the replies, for each group, for what was tried, for the slowest replies, and for each failure.
 use Rattle.std.specs.Prelude.{ℕ, List, [], ◌++◌, Option, Some, None, codes}
 use Rattle.std.specs.Fmt.{decimal}
 use Rattle.std.specs.List.{flat_map}
@@ -7,6 +7,7 @@ use Rattle.fleet_answer.specs.declared.answer.Answer.{Answer}
 use Rattle.fleet_answer.specs.declared.rows.FailureRow.{FailureRow}
 use Rattle.fleet_answer.specs.declared.rows.GroupRow.{GroupRow}
 use Rattle.fleet_answer.specs.declared.rows.ReplyRow.{ReplyRow}
+use Rattle.fleet_answer.specs.declared.rows.TryRow.{TryRow}
 use Rattle.fleet_answer.specs.declared.shares.Share.{Share}
 use Rattle.fleet_answer.specs.declared.shares.Shares.{Shares}
 use Rattle.fleet_answer.specs.declared.shares.Slowest.{Slowest}
@@ -43,6 +44,14 @@ gain_text row = told (codes " sooner ") row.sooner ++ codes " p99 " ++ maybe_tex
 abbrev pub group_text : GroupRow → List ℕ
 group_text row = name_text row.name ++ place_text row ++ path_text row ++ gain_text row ++ line_end
 
+-- how the replies would have come; none, where no reply was tried
+abbrev pub tried_text : Option ReplyRow → List ℕ
+tried_text None = codes "replies 0" ++ line_end
+tried_text (Some row) = reply_text row
+
+abbrev pub try_text : TryRow → List ℕ
+try_text row = codes "try " ++ name_text row.change ++ codes " " ++ tried_text row.replies
+
 abbrev pub share_text : List ℕ → Share → List ℕ
 share_text said share = told said share.ran ++ told (codes " queued ") share.queued
 
@@ -65,6 +74,9 @@ failure_text row = name_text row.exception ++ codes " from " ++ name_text row.gr
 abbrev pub groups_text : List GroupRow → List ℕ
 groups_text rows = flat_map group_text rows
 
+abbrev pub tries_text : List TryRow → List ℕ
+tries_text rows = flat_map try_text rows
+
 -- what each did on the paths of the slowest replies
 abbrev pub slow_texts : List GroupRow → List ℕ
 slow_texts rows = flat_map slow_text rows
@@ -76,6 +88,7 @@ abbrev pub answer_text : Answer → List ℕ
 answer_text answer =
     reply_text answer.replies
     ++ groups_text answer.groups.items
+    ++ tries_text answer.tries.items
     ++ slowest_text answer.slowest
     ++ slow_texts answer.groups.items
     ++ failures_text answer.failures.items

@@ -7,9 +7,10 @@ ghost use Rattle.fleet_answer.specs.Rows.{AreRankedRows};
 use crate::answer::Answer;
 use crate::fault::AnswerFault;
 use crate::ranking::by_gain;
-use crate::row_making::{failure_rows, group_rows, reply_row};
+use crate::row_making::{failure_rows, group_rows, reply_row, try_rows};
 use crate::rows::GroupRow;
 use crate::shares::{Slowest, slowest_of};
+use crate::tried::Tried;
 use fleet_summary::{Groups, Histogram, Summary};
 use std::alloc::Global;
 
@@ -35,15 +36,17 @@ fn ranked_rows(
     Ok(by_gain(by_name)?)
 }
 
-/// What a summary answers: also of so many hundredths of the replies, the slowest, where they are asked for.
+/// What a summary answers, and what its traces' replies would have come to where something was changed: also of so many hundredths of
+/// the replies, the slowest, where they are asked for.
 ///
 /// Errors: `NoReply` where there is none; `NotText` where a name is not UTF-8; `Memory`.
 pub fn answer_of(
     alloc: Global,
     summary: &Summary,
+    tries: &[Tried],
     slowest: Option<u8>,
 ) -> Result<Answer, AnswerFault>
-    ensures answer { IfOk result (IsAnswerOf summary.now slowest) }
+    ensures answer { IfOk result (IsAnswerOf summary.now tries.now slowest) }
     ensures no_reply { (result ≡ Err AnswerFault.NoReply) ↔ (summary.now.replies.times ≡ []) }
 {
     let Some(replies) = reply_row(&summary.replies) else {
@@ -52,10 +55,12 @@ pub fn answer_of(
     let slowest = slowest_asked(slowest, summary);
     let all = &summary.replies.times;
     let groups = ranked_rows(alloc, all, slowest, &summary.groups)?;
+    let tries = try_rows(alloc, tries)?;
     let failures = failure_rows(alloc, &summary.failures)?;
     Ok(Answer {
         replies,
         groups,
+        tries,
         slowest,
         failures,
     })

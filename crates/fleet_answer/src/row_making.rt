@@ -1,17 +1,19 @@
 //! The rows of an answer.
 ghost use Rattle.std.specs.Prelude.{◌≡◌, ◌≢◌, [], Err, IfOk, MatchOption};
+ghost use Rattle.std.specs.List.{AllZip};
 ghost use Rattle.std.specs.Option.{option_map};
 ghost use Rattle.fleet_summary.specs.declared.group.GroupCounts.{GroupCounts};
 ghost use Rattle.fleet_answer.specs.declared.fault.AnswerFault.{AnswerFault};
 ghost use Rattle.fleet_answer.specs.declared.shares.Slowest.{Slowest};
-ghost use Rattle.fleet_answer.specs.Rows.{AreGroupRows, IsGroupRow, IsReplyRow, failure_row, failure_rows};
+ghost use Rattle.fleet_answer.specs.Rows.{AreGroupRows, IsGroupRow, IsReplyRow, IsTryRow, failure_row, failure_rows};
 ghost use Rattle.fleet_answer.specs.Shares.{shares_of};
 
 use crate::fault::AnswerFault;
 use crate::label::Label;
-use crate::rows::{FailureRow, GroupRow, ReplyRow};
+use crate::rows::{FailureRow, GroupRow, ReplyRow, TryRow};
 use crate::shares::{Shares, Slowest, shares_of, total_of};
 use crate::times::times_of;
+use crate::tried::Tried;
 use crate::without::p99_without;
 use fleet_summary::{Failure, FailureCounts, GroupCounts, Groups, Histogram, Name, Replies};
 use std::alloc::{AllocError, Global};
@@ -73,6 +75,30 @@ pub(crate) fn group_rows(
     let mut rows = Vec::new(alloc);
     for (name, counts) in groups.by_name() {
         let row = group_row(alloc, all, slowest, name, counts)?;
+        rows.push(row).map_err(AllocError::from)?;
+    }
+    Ok(rows)
+}
+
+/// The row of what was tried.
+fn try_row(alloc: Global, tried: &Tried) -> Result<TryRow, AnswerFault>
+    ensures row { IfOk result (IsTryRow tried.now) }
+    ensures never_no_reply { result ≢ Err AnswerFault.NoReply }
+{
+    Ok(TryRow {
+        change: Label::of(alloc, &tried.change)?,
+        replies: reply_row(&tried.replies),
+    })
+}
+
+/// The rows of what was tried, in order.
+pub(crate) fn try_rows(alloc: Global, tries: &[Tried]) -> Result<Vec<TryRow>, AnswerFault>
+    ensures rows { IfOk result (λ rows. AllZip IsTryRow tries.now rows.items) }
+    ensures never_no_reply { result ≢ Err AnswerFault.NoReply }
+{
+    let mut rows = Vec::new(alloc);
+    for tried in tries {
+        let row = try_row(alloc, tried)?;
         rows.push(row).map_err(AllocError::from)?;
     }
     Ok(rows)

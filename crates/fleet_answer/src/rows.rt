@@ -32,6 +32,15 @@ pub struct GroupRow {
     pub shares: Option<Shares>,
 }
 
+/// How the replies would have come where a change was made to each span of a group.
+#[derive(Drop)]
+pub struct TryRow {
+    /// The change, in the words that told it.
+    pub change: Label,
+    /// None where no reply was tried.
+    pub replies: Option<ReplyRow>,
+}
+
 /// How many replies failed by one exception that arose in one group.
 #[derive(Drop)]
 pub struct FailureRow {

@@ -1,7 +1,6 @@
 //! What a group did on the paths of the slowest replies, and of all.
-ghost use Rattle.std.specs.Prelude.{◌≡◌, ◌<◌, ◌≤◌, MatchOption, nat_le, if◌then◌else◌};
+ghost use Rattle.std.specs.Prelude.{◌≡◌, ◌<◌, MatchOption, nat_le, if◌then◌else◌};
 ghost use Rattle.fleet_summary.specs.Histogram.{capped, total_of};
-ghost use Rattle.fleet_summary.specs.Quantiles.{IsStepOfRank};
 ghost use Rattle.fleet_answer.specs.Shares.{AreSlowest, for_each, share_from, shares_of, slow_rank, sum_from};
 
 use fleet_summary::{GroupCounts, Histogram};
@@ -93,21 +92,6 @@ pub(crate) fn shares_of(slowest: Slowest, counts: &GroupCounts) -> Shares
     }
 }
 
-/// The step of the counted time of a rank, from 1.
-fn step_of_rank(times: &Histogram, rank: u128) -> Option<u32>
-    requires { 1 ≤ rank }
-    ensures { MatchOption result (total_of times.now < rank) (IsStepOfRank rank times.now) }
-{
-    let mut reached = 0;
-    for (step, number) in times.by_step() {
-        reached += u128::from(*number);
-        if rank <= reached {
-            return Some(*step);
-        }
-    }
-    None
-}
-
 /// The rank of the first of so many hundredths, the slowest.
 fn slow_rank(percent: u8, times: &Histogram) -> u128
     ensures { result ≡ slow_rank percent (total_of times.now) }
@@ -123,7 +107,7 @@ fn slow_rank(percent: u8, times: &Histogram) -> u128
 pub(crate) fn slowest_of(percent: u8, times: &Histogram) -> Option<Slowest>
     ensures { MatchOption result (total_of times.now < slow_rank percent (total_of times.now)) (AreSlowest percent times.now) }
 {
-    let first = step_of_rank(times, slow_rank(percent, times))?;
+    let first = times.step_of_rank(slow_rank(percent, times))?;
     Some(Slowest {
         percent,
         first,

@@ -1,11 +1,11 @@
 //! An answer as text.
 ghost use Rattle.std.specs.Prelude.{◌≡◌, ◌++◌, IfOk, OnOk, string_bytes};
-ghost use Rattle.fleet_answer.specs.Texts.{answer_text, failure_text, failures_text, gain_text, group_text, groups_text, maybe_text, path_text, place_text, reply_text, share_text, shares_text, slow_text, slow_texts, slowest_text, times_text, told};
+ghost use Rattle.fleet_answer.specs.Texts.{answer_text, failure_text, failures_text, gain_text, group_text, groups_text, maybe_text, path_text, place_text, reply_text, share_text, shares_text, slow_text, slow_texts, slowest_text, times_text, told, tried_text, tries_text, try_text};
 
 use crate::answer::Answer;
 use crate::label::Label;
 use crate::names::push_name;
-use crate::rows::{FailureRow, GroupRow, ReplyRow};
+use crate::rows::{FailureRow, GroupRow, ReplyRow, TryRow};
 use crate::shares::{Share, Shares, Slowest};
 use crate::times::Times;
 use itoa::Buffer;
@@ -96,6 +96,36 @@ fn push_groups(alloc: Global, text: &mut String, rows: &[GroupRow]) -> Result<()
     Ok(())
 }
 
+/// How the replies would have come.
+fn push_tried(text: &mut String, replies: Option<ReplyRow>) -> Result<(), AllocError>
+    ensures { OnOk result (string_bytes text.new ≡ string_bytes text.old ++ tried_text replies) }
+{
+    match replies {
+        Some(row) => push_replies(text, row),
+        None => text.push_str("replies 0\n"),
+    }
+}
+
+/// The line of what was tried.
+fn push_try(alloc: Global, text: &mut String, row: &TryRow) -> Result<(), AllocError>
+    ensures { OnOk result (string_bytes text.new ≡ string_bytes text.old ++ try_text row.now) }
+{
+    text.push_str("try ")?;
+    push_name(alloc, text, &row.change)?;
+    text.push_str(" ")?;
+    push_tried(text, row.replies)
+}
+
+/// The lines of what was tried.
+fn push_tries(alloc: Global, text: &mut String, rows: &[TryRow]) -> Result<(), AllocError>
+    ensures { OnOk result (string_bytes text.new ≡ string_bytes text.old ++ tries_text rows.now) }
+{
+    for row in rows {
+        push_try(alloc, text, row)?;
+    }
+    Ok(())
+}
+
 /// How many replies are the slowest, where that is asked for.
 fn push_slowest(text: &mut String, slowest: Option<Slowest>) -> Result<(), AllocError>
     ensures { OnOk result (string_bytes text.new ≡ string_bytes text.old ++ slowest_text slowest) }
@@ -172,6 +202,7 @@ pub(crate) fn text_of(alloc: Global, answer: &Answer) -> Result<String, AllocErr
     let groups = answer.groups.as_slice();
     push_replies(&mut text, answer.replies)?;
     push_groups(alloc, &mut text, groups)?;
+    push_tries(alloc, &mut text, answer.tries.as_slice())?;
     push_slowest(&mut text, answer.slowest)?;
     push_slow(alloc, &mut text, groups)?;
     push_failures(alloc, &mut text, answer.failures.as_slice())?;

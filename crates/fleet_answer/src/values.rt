@@ -1,12 +1,12 @@
 //! The parts of an answer, as values of JSON.
 ghost use Rattle.std.specs.Prelude.{◌≡◌, IfOk};
 ghost use Rattle.serde_json.specs.View.{view};
-ghost use Rattle.fleet_answer.specs.Json.{answer_json, failure_json, failures_json, group_json, groups_json, maybe_json, replies_json, share_json, shares_json, slowest_json};
+ghost use Rattle.fleet_answer.specs.Json.{answer_json, failure_json, failures_json, group_json, groups_json, maybe_json, replies_json, share_json, shares_json, slowest_json, tried_json, tries_json, try_json};
 
 use crate::answer::Answer;
-use crate::object::Object;
-use crate::rows::{FailureRow, GroupRow, ReplyRow};
+use crate::rows::{FailureRow, GroupRow, ReplyRow, TryRow};
 use crate::shares::{Share, Shares, Slowest};
+use json_objects::Object;
 use serde_json::Value;
 use std::alloc::{AllocError, Global};
 
@@ -82,6 +82,36 @@ fn groups_value(alloc: Global, rows: &[GroupRow]) -> Result<Value, AllocError>
     Ok(Value::from(values))
 }
 
+/// How the replies would have come; null where no reply was tried.
+fn tried_value(alloc: Global, replies: Option<ReplyRow>) -> Result<Value, AllocError>
+    ensures { IfOk result (λ value. view value ≡ tried_json replies) }
+{
+    match replies {
+        Some(row) => replies_value(alloc, row),
+        None => Ok(Value::Null),
+    }
+}
+
+fn try_value(alloc: Global, row: &TryRow) -> Result<Value, AllocError>
+    ensures { IfOk result (λ value. view value ≡ try_json row.now) }
+{
+    let mut object = Object::new(alloc);
+    object.text("change", row.change.as_str())?;
+    object.value("replies", tried_value(alloc, row.replies)?)?;
+    Ok(object.into_value())
+}
+
+fn tries_value(alloc: Global, rows: &[TryRow]) -> Result<Value, AllocError>
+    ensures { IfOk result (λ value. view value ≡ tries_json rows.now) }
+{
+    let mut values = Vec::new(alloc);
+    for row in rows {
+        let value = try_value(alloc, row)?;
+        serde_json::push(&mut values, value)?;
+    }
+    Ok(Value::from(values))
+}
+
 /// Which replies are the slowest; null where that was not asked for.
 fn slowest_value(alloc: Global, slowest: Option<Slowest>) -> Result<Value, AllocError>
     ensures { IfOk result (λ value. view value ≡ slowest_json slowest) }
@@ -124,6 +154,7 @@ pub(crate) fn answer_value(alloc: Global, answer: &Answer) -> Result<Value, Allo
     object.text("report", "fleet")?;
     object.value("replies", replies_value(alloc, answer.replies)?)?;
     object.value("groups", groups_value(alloc, answer.groups.as_slice())?)?;
+    object.value("tries", tries_value(alloc, answer.tries.as_slice())?)?;
     object.value("slowest", slowest_value(alloc, answer.slowest)?)?;
     object.value(
         "failures",

@@ -49,7 +49,7 @@ fn group_name_at<R: StateRepresentation>(
 }
 
 /// What a stage failed by, if it did: the exception, and the group in which that arose.
-pub(crate) fn failure_at<R: StateRepresentation>(
+pub fn failure_at<R: StateRepresentation>(
     alloc: Global,
     view: &StageView<'_, R>,
     grouping: &Grouping,

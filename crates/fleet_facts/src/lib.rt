@@ -10,3 +10,4 @@ mod hurried;
 mod on_path;
 
 pub use facts::facts_of;
+pub use failing::failure_at;

@@ -109,6 +109,14 @@ impl Histogram {
         total_of(&self.numbers)
     }
 
+    /// The step of the counted time of a rank, from 1; none where fewer times are counted.
+    pub fn step_of_rank(&self, rank: u128) -> Option<u32>
+        requires { 1 ≤ rank }
+        ensures { MatchOption result (total_of self.now < rank) (IsStepOfRank rank self.now) }
+    {
+        step_of_rank(&self.numbers, rank)
+    }
+
     /// A quantile of the counted times: the least of them that at least so many hundredths are not above, told as the greatest
     /// time of its step. At 0 hundredths it is that of the least time.
     pub fn quantile(&self, hundredths: u8) -> Option<u64>

@@ -5,6 +5,7 @@
 mod facts;
 mod failures;
 mod group;
+mod group_by;
 mod groups;
 mod histogram;
 mod laws;
@@ -19,6 +20,7 @@ mod tests;
 pub use facts::{Failure, GroupFacts, TraceFacts};
 pub use failures::FailureCounts;
 pub use group::GroupCounts;
+pub use group_by::GroupBy;
 pub use groups::Groups;
 pub use histogram::Histogram;
 pub use laws::{each_order_of_joins_is_one, each_split_is_the_whole};

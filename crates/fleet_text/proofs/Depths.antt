@@ -1,46 +1,17 @@
 -- How deep the JSON of a summary nests.
-use Rattle.std.proofs.Common.{ℕ, suc, ◌≤◌, List, [], ◌∷◌, Option, Some, None, map, arith}
-use Rattle.std.specs.List.{AllByRecursion}
-use Rattle.std.specs.Ordering.{nat_cmp, match_ordering}
-use Rattle.std.specs.Cmp.Lexicographic.{slice_cmp}
+use Rattle.std.proofs.Common.{ℕ, ◌≤◌, List, [], ◌∷◌, Option, Some, None, map, arith}
 use Rattle.std.specs.Prelude.{codes}
-use Rattle.std.specs.declared.cmp.Ordering.{Ordering}
-use Rattle.std.specs.declared.cmp.Ordering.TheVariants.{Less, Equal, Greater}
-use Rattle.serde_json.specs.Data.{Data, string, Members, no_members, member, depth, items_depth, members_depth, put}
+use Rattle.serde_json.specs.Data.{string, depth, items_depth}
 use Rattle.serde_json.specs.View.{items_of}
 use Rattle.fleet_summary.specs.declared.facts.Failure.{Failure}
 use Rattle.fleet_summary.specs.declared.group.GroupCounts.{GroupCounts}
 use Rattle.fleet_summary.specs.declared.replies.Replies.{Replies}
-use Rattle.fleet_text.specs.declared.basis.GroupedBy.{GroupedBy}
-use Rattle.fleet_text.specs.declared.basis.GroupedBy.TheVariants.{Span, Service}
+use Rattle.fleet_summary.specs.declared.group_by.GroupBy.{GroupBy}
+use Rattle.fleet_summary.specs.declared.group_by.GroupBy.TheVariants.{Span, Service}
 use Rattle.fleet_text.specs.declared.part.PartSummary.{PartSummary}
-use Rattle.fleet_text.specs.Json.{NamedValues, count_json, entry_json, failure_json, failures_json, group_json, grouped_json, groups_json, histogram_json, object, part_json, replies_json, text_or_null, with}
-
--- an array is no deeper than its items, and one
-items_depth-below : {X : Type 0} (json : X → Data) (bound : ℕ) → ((x : X) → depth (json x) ≤ bound) → (xs : List X) → items_depth (items_of (map json xs)) ≤ bound
-items_depth-below json bound each [] = omega arith
-items_depth-below json bound each (x ∷ xs) = omega (arith, each x, items_depth-below json bound each xs)
-
-by_order : (o : Ordering) (bound : ℕ) (a b c : Members) → members_depth a ≤ bound → members_depth b ≤ bound → members_depth c ≤ bound → members_depth (match_ordering o a b c) ≤ bound
-by_order Less bound a b c x y z = x
-by_order Equal bound a b c x y z = y
-by_order Greater bound a b c x y z = z
-
-put-below : (bound : ℕ) (name : List ℕ) (d : Data) (ms : Members) → depth d ≤ bound → members_depth ms ≤ bound → members_depth (put name d ms) ≤ bound
-put-below bound name d no_members own rest = omega arith
-put-below bound name d (member other e ms) own rest =
-    let first : depth e ≤ bound = omega arith in
-    let others : members_depth ms ≤ bound = omega arith in
-    by_order (slice_cmp nat_cmp name other) bound (member name d (member other e ms)) (member other d ms) (member other e (put name d ms)) (omega arith) (omega arith)
-    (omega (arith, put-below bound name d ms own others))
-
-with-below : (bound : ℕ) (named : NamedValues) (ms : Members) → members_depth ms ≤ bound → AllByRecursion (λ (m : List ℕ × Data). depth m.1 ≤ bound) named → members_depth (with ms named) ≤ bound
-with-below bound [] ms begun each = begun
-with-below bound (m ∷ others) ms begun each = with-below bound others (put m.0 m.1 ms) (put-below bound m.0 m.1 ms each.0 begun) each.1
-
--- an object is no deeper than its members, and one
-object-below : (bound : ℕ) (named : NamedValues) → AllByRecursion (λ (m : List ℕ × Data). depth m.1 ≤ bound) named → depth (object named) ≤ suc bound
-object-below bound named each = let inner : members_depth (with no_members named) ≤ bound = with-below bound named no_members (omega arith) each in omega arith
+use Rattle.fleet_text.specs.Json.{entry_json, failure_json, failures_json, group_json, grouped_json, groups_json, histogram_json, part_json, replies_json, text_or_null}
+use Rattle.json_objects.specs.Objects.{count_json}
+use Rattle.json_objects.proofs.Depths.{items_depth-below, object-below}
 
 histogram-shallow : (histogram : List (ℕ × ℕ)) → depth (histogram_json histogram) ≤ 2
 histogram-shallow histogram = let inner : items_depth (items_of (map entry_json histogram)) ≤ 1 = items_depth-below entry_json 1 (λ entry. omega arith) histogram in omega arith
@@ -78,7 +49,7 @@ groups-shallow groups = let inner : items_depth (items_of (map group_json groups
 failures-shallow : (failures : List (Failure × ℕ)) → depth (failures_json failures) ≤ 4
 failures-shallow failures = let inner : items_depth (items_of (map failure_json failures)) ≤ 1 = items_depth-below failure_json 1 failure-shallow failures in omega arith
 
-grouped-shallow : (by : GroupedBy) → depth (grouped_json by) ≤ 126
+grouped-shallow : (by : GroupBy) → depth (grouped_json by) ≤ 126
 grouped-shallow Span = omega arith
 grouped-shallow Service = omega arith
 
@@ -89,10 +60,11 @@ text-shallow (Some text) = omega arith
 pub part-shallow : (part : PartSummary) → depth (part_json part) ≤ 127
 part-shallow part =
     object-below 126
-    ((codes "whatif-fleet", count_json 1)
+    ((codes "whatif-fleet", count_json 2)
     ∷ (codes "by", grouped_json part.basis.by)
     ∷ (codes "reply", text_or_null part.basis.reply)
     ∷ (codes "unit", text_or_null part.basis.unit)
+    ∷ (codes "try", text_or_null part.basis.tried)
     ∷ (codes "replies", replies_json part.summary.replies)
     ∷ (codes "groups", groups_json part.summary.groups)
     ∷ (codes "failures", failures_json part.summary.failures)
@@ -104,7 +76,10 @@ part-shallow part =
           text-shallow part.basis.reply,
           (
             text-shallow part.basis.unit,
-            (omega (arith, replies-shallow part.summary.replies), (omega (arith, groups-shallow part.summary.groups), (omega (arith, failures-shallow part.summary.failures), tt))),
+            (
+              text-shallow part.basis.tried,
+              (omega (arith, replies-shallow part.summary.replies), (omega (arith, groups-shallow part.summary.groups), (omega (arith, failures-shallow part.summary.failures), tt))),
+            ),
           ),
         ),
       ),

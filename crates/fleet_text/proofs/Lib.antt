@@ -1,10 +1,8 @@
 pub mod Bases
-pub mod Chains
 pub mod Depths
 pub mod Exact
 pub mod Joins
 pub mod Lasts
-pub mod Lists
 pub mod Looks
 pub mod Nexts
 pub mod Pushed

@@ -2,7 +2,8 @@
 use Rattle.std.proofs.Common.{ℕ, ◌≡◌, List, true, Option, Some, None, is_some, option_and_then, refl, ap}
 use Rattle.serde_json.specs.Data.{Num, unsigned, negative, float, Data, null, boolean, number, string, array, object}
 use Rattle.serde_json.specs.Find.{as_null, as_number, as_str, as_u64}
-use Rattle.fleet_text.specs.Json.{count_json, text_or_null}
+use Rattle.fleet_text.specs.Json.{text_or_null}
+use Rattle.json_objects.specs.Objects.{count_json}
 
 count_of_number : (n : Num) (count : ℕ) → as_u64 n ≡ Some count → n ≡ unsigned count
 count_of_number (unsigned n) count is = let same : n ≡ count = cc in ap unsigned same

@@ -6,7 +6,7 @@ use Rattle.serde_json.specs.Data.{Data, Items, item, no_items}
 use Rattle.serde_json.specs.Find.{as_array}
 use Rattle.serde_json.specs.View.{items_of, items_view, view}
 use Rattle.serde_json.specs.declared.value.Value.{Value}
-use Rattle.fleet_text.specs.Json.{count_json}
+use Rattle.json_objects.specs.Objects.{count_json}
 use Rattle.fleet_text.specs.Says.{SaysEntry, SaysList}
 
 no_item : (d : Data) (ds : Items) → item d ds ≡ no_items → ⊥

@@ -7,10 +7,11 @@ use Rattle.serde_json.specs.Find.{get}
 use Rattle.fleet_summary.specs.declared.facts.Failure.{Failure}
 use Rattle.fleet_summary.specs.declared.group.GroupCounts.{GroupCounts}
 use Rattle.fleet_summary.specs.declared.replies.Replies.{Replies}
-use Rattle.fleet_text.specs.declared.basis.GroupedBy.{GroupedBy}
-use Rattle.fleet_text.specs.declared.basis.GroupedBy.TheVariants.{Span, Service}
+use Rattle.fleet_summary.specs.declared.group_by.GroupBy.{GroupBy}
+use Rattle.fleet_summary.specs.declared.group_by.GroupBy.TheVariants.{Span, Service}
 use Rattle.fleet_text.specs.declared.part.PartSummary.{PartSummary}
-use Rattle.fleet_text.specs.Json.{count_json, entry_json, failure_json, failures_json, group_json, grouped_json, groups_json, histogram_json, part_json, replies_json, text_or_null}
+use Rattle.fleet_text.specs.Json.{entry_json, failure_json, failures_json, group_json, grouped_json, groups_json, histogram_json, part_json, replies_json, text_or_null}
+use Rattle.json_objects.specs.Objects.{count_json}
 use Rattle.fleet_text.specs.Says.{SaysBasis, SaysEntry, SaysFailure, SaysFailures, SaysGroup, SaysGroups, SaysHistogram, SaysIn, SaysPart, SaysReplies, SaysSummary}
 use Rattle.fleet_text.proofs.ReadLists.{SaysOne, list_one}
 
@@ -51,7 +52,7 @@ replies_written replies = record { count = refl; failed = refl; times = record {
 pub part_written : (part : PartSummary) → SaysPart (part_json part) part
 part_written part = record {
   form = refl;
-  basis = record { by = refl; reply = refl; unit = refl };
+  basis = record { by = refl; reply = refl; unit = refl; tried = refl };
   summary = record {
     replies = record { own = replies_json part.summary.replies; found = refl; said = replies_written part.summary.replies };
     groups = record { own = groups_json part.summary.groups; found = refl; said = groups_written part.summary.groups };
@@ -91,13 +92,13 @@ text_or_null-one (Some x) (Some y) same = let texts : x ≡ y = cc in ap (λ tex
 optional_one : (name : List ℕ) (d : Data) (x y : Option (List ℕ)) → get name d ≡ Some (text_or_null x) → get name d ≡ Some (text_or_null y) → x ≡ y
 optional_one name d x y is also = let same : Some (text_or_null x) ≡ Some (text_or_null y) = sym is ∙ also in text_or_null-one x y cc
 
-grouped-one : (x y : GroupedBy) → grouped_json x ≡ grouped_json y → x ≡ y
+grouped-one : (x y : GroupBy) → grouped_json x ≡ grouped_json y → x ≡ y
 grouped-one Span Span same = refl
 grouped-one Span Service same = cc
 grouped-one Service Span same = cc
 grouped-one Service Service same = refl
 
-grouped_one : (name : List ℕ) (d : Data) (x y : GroupedBy) → get name d ≡ Some (grouped_json x) → get name d ≡ Some (grouped_json y) → x ≡ y
+grouped_one : (name : List ℕ) (d : Data) (x y : GroupBy) → get name d ≡ Some (grouped_json x) → get name d ≡ Some (grouped_json y) → x ≡ y
 grouped_one name d x y is also = let same : Some (grouped_json x) ≡ Some (grouped_json y) = sym is ∙ also in grouped-one x y cc
 
 pub group_one : SaysOne SaysGroup
@@ -138,7 +139,8 @@ basis_one d x y is also =
     let by = grouped_one (codes "by") d x.by y.by is.by also.by in
     let reply = optional_one (codes "reply") d x.reply y.reply is.reply also.reply in
     let unit = optional_one (codes "unit") d x.unit y.unit is.unit also.unit in
-    λ i. record { by = by i; reply = reply i; unit = unit i }
+    let tried = optional_one (codes "try") d x.tried y.tried is.tried also.tried in
+    λ i. record { by = by i; reply = reply i; unit = unit i; tried = tried i }
 
 pub summary_one : SaysOne SaysSummary
 summary_one d x y is also =

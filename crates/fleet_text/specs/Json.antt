@@ -1,30 +1,14 @@
 -- The JSON of a summary.
 use Rattle.std.specs.Prelude.{ℕ, List, [], ◌∷◌, Option, Some, None, map, codes}
-use Rattle.serde_json.specs.Data as tree
-use Rattle.serde_json.specs.Data.{Data, null, number, unsigned, string, array, item, no_items, Members, no_members, put}
+use Rattle.serde_json.specs.Data.{Data, null, number, string, array, item, no_items}
 use Rattle.serde_json.specs.View.{items_of}
 use Rattle.fleet_summary.specs.declared.facts.Failure.{Failure}
 use Rattle.fleet_summary.specs.declared.group.GroupCounts.{GroupCounts}
 use Rattle.fleet_summary.specs.declared.replies.Replies.{Replies}
-use Rattle.fleet_text.specs.declared.basis.GroupedBy.{GroupedBy}
-use Rattle.fleet_text.specs.declared.basis.GroupedBy.TheVariants.{Span, Service}
+use Rattle.fleet_summary.specs.declared.group_by.GroupBy.{GroupBy}
+use Rattle.fleet_summary.specs.declared.group_by.GroupBy.TheVariants.{Span, Service}
 use Rattle.fleet_text.specs.declared.part.PartSummary.{PartSummary}
-
--- values by the names that they have as members of an object
-abbrev pub NamedValues : Type 0
-NamedValues = List (List ℕ × Data)
-
--- the members, with these as well
-abbrev pub with : Members → NamedValues → Members
-with members [] = members
-with members (named ∷ others) = with (put named.0 named.1 members) others
-
--- the object of these members
-abbrev pub object : NamedValues → Data
-object named = tree.object (with no_members named)
-
-abbrev pub count_json : ℕ → Data
-count_json count = number (unsigned count)
+use Rattle.json_objects.specs.Objects.{count_json, object}
 
 -- a step and its number
 abbrev pub entry_json : ℕ × ℕ → Data
@@ -64,7 +48,7 @@ abbrev pub failures_json : List (Failure × ℕ) → Data
 failures_json failures = array (items_of (map failure_json failures))
 
 -- by what the spans are grouped, in a word
-abbrev pub grouped_json : GroupedBy → Data
+abbrev pub grouped_json : GroupBy → Data
 grouped_json Span = string (codes "span")
 grouped_json Service = string (codes "service")
 
@@ -72,14 +56,15 @@ abbrev pub text_or_null : Option (List ℕ) → Data
 text_or_null None = null
 text_or_null (Some text) = string text
 
--- a summary and what it is of, in form 1
+-- a summary and what it is of, in form 2
 abbrev pub part_json : PartSummary → Data
 part_json part =
     object
-    ((codes "whatif-fleet", count_json 1)
+    ((codes "whatif-fleet", count_json 2)
     ∷ (codes "by", grouped_json part.basis.by)
     ∷ (codes "reply", text_or_null part.basis.reply)
     ∷ (codes "unit", text_or_null part.basis.unit)
+    ∷ (codes "try", text_or_null part.basis.tried)
     ∷ (codes "replies", replies_json part.summary.replies)
     ∷ (codes "groups", groups_json part.summary.groups)
     ∷ (codes "failures", failures_json part.summary.failures)

@@ -1,5 +1,4 @@
 pub mod Back
-pub mod Held
 pub mod Json
 pub mod Laws
 pub mod Parts

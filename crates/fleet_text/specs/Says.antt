@@ -10,7 +10,8 @@ use Rattle.fleet_summary.specs.declared.replies.Replies.{Replies}
 use Rattle.fleet_summary.specs.declared.summary.Summary.{Summary}
 use Rattle.fleet_text.specs.declared.basis.Basis.{Basis}
 use Rattle.fleet_text.specs.declared.part.PartSummary.{PartSummary}
-use Rattle.fleet_text.specs.Json.{count_json, entry_json, grouped_json, text_or_null}
+use Rattle.fleet_text.specs.Json.{entry_json, grouped_json, text_or_null}
+use Rattle.json_objects.specs.Objects.{count_json}
 
 -- an array, whose items say the values of a list one by one
 pub record SaysList {X : Type 0} (says : Data → X → Type 0) (d : Data) (values : List X) : Type 0 where
@@ -61,14 +62,15 @@ pub record SaysBasis (d : Data) (basis : Basis) : Type 0 where
   pub by : get (codes "by") d ≡ Some (grouped_json basis.by)
   pub reply : get (codes "reply") d ≡ Some (text_or_null basis.reply)
   pub unit : get (codes "unit") d ≡ Some (text_or_null basis.unit)
+  pub tried : get (codes "try") d ≡ Some (text_or_null basis.tried)
 
 pub record SaysSummary (d : Data) (summary : Summary) : Type 0 where
   pub replies : SaysIn SaysReplies (codes "replies") d summary.replies
   pub groups : SaysIn SaysGroups (codes "groups") d summary.groups
   pub failures : SaysIn SaysFailures (codes "failures") d summary.failures
 
--- a summary in form 1
+-- a summary in form 2
 pub record SaysPart (d : Data) (part : PartSummary) : Type 0 where
-  pub form : get (codes "whatif-fleet") d ≡ Some (count_json 1)
+  pub form : get (codes "whatif-fleet") d ≡ Some (count_json 2)
   pub basis : SaysBasis d part.basis
   pub summary : SaysSummary d part.summary

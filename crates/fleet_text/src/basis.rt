@@ -1,26 +1,19 @@
 //! What the numbers of a summary are of.
 ghost use Rattle.std.specs.Prelude.{◌≡◌, Decides, IfOk};
 
-use fleet_summary::Name;
+use fleet_summary::{GroupBy, Name};
 use std::alloc::{AllocError, Global};
-
-/// By what spans are in one group.
-#[derive(Clone, Copy, Debug, PartialEq, Eq)]
-pub enum GroupedBy {
-    /// By the service and the name.
-    Span,
-    /// By the service alone.
-    Service,
-}
 
 /// What the numbers of a summary are of. Summaries are joined where it is the same.
 #[derive(Drop)]
 pub struct Basis {
-    pub by: GroupedBy,
+    pub by: GroupBy,
     /// The name of the spans whose ends are the replies, where they were chosen by one.
     pub reply: Option<Name>,
     /// The unit of the times, where it is known.
     pub unit: Option<Name>,
+    /// What was changed in each trace before its reply was counted, in the words that told it, where something was.
+    pub tried: Option<Name>,
 }
 
 impl Basis {
@@ -31,6 +24,7 @@ impl Basis {
         self.by == other.by
             && is_same_text(&self.reply, &other.reply)
             && is_same_text(&self.unit, &other.unit)
+            && is_same_text(&self.tried, &other.tried)
     }
 
     /// The same once more.
@@ -41,6 +35,7 @@ impl Basis {
             by: self.by,
             reply: text_copy(alloc, &self.reply)?,
             unit: text_copy(alloc, &self.unit)?,
+            tried: text_copy(alloc, &self.tried)?,
         })
     }
 }

@@ -7,7 +7,7 @@ use thiserror::Error;
 /// Why parts were not joined.
 #[derive(Clone, Copy, Debug, PartialEq, Eq, Error)]
 pub enum JoinFault {
-    #[error("the summary is of other groups, other replies or another unit than the first")]
+    #[error("the summary is of other groups, other replies, another unit or another change than the first")]
     OtherBasis(usize),
     #[error("out of memory")]
     Memory,

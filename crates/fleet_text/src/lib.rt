@@ -9,7 +9,7 @@ mod join_fault;
 mod joining;
 mod laws;
 mod members;
-mod object;
+mod naming;
 mod order;
 mod part;
 mod read_fault;
@@ -22,7 +22,7 @@ mod tests;
 mod values;
 mod writing;
 
-pub use basis::{Basis, GroupedBy};
+pub use basis::Basis;
 pub use fault::WriteFault;
 pub use join_fault::JoinFault;
 pub use joining::join_parts;

@@ -4,7 +4,8 @@ ghost use Rattle.serde_json.specs.Data.{string};
 ghost use Rattle.serde_json.specs.Find.{as_array, get};
 ghost use Rattle.serde_json.specs.View.{items_view, view};
 ghost use Rattle.fleet_text.specs.Back.{IsReadAs};
-ghost use Rattle.fleet_text.specs.Json.{count_json, text_or_null};
+ghost use Rattle.fleet_text.specs.Json.{text_or_null};
+ghost use Rattle.json_objects.specs.Objects.{count_json};
 
 use crate::read_fault::ReadFault;
 use fleet_summary::Name;

@@ -11,7 +11,7 @@ pub enum ReadFault {
     NotJson,
     #[error("the JSON is no summary: it has no form")]
     NoSummary,
-    #[error("the summary has another form than 1")]
+    #[error("the summary has another form than 2")]
     OtherForm,
     #[error("the summary lacks a member, or has one of another kind")]
     Member,

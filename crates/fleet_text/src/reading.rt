@@ -9,31 +9,32 @@ ghost use Rattle.fleet_summary.specs.declared.summary.Summary.{Summary};
 ghost use Rattle.fleet_summary.specs.Counters.{IsSound};
 ghost use Rattle.fleet_summary.specs.Histogram.{IsHistogram};
 ghost use Rattle.fleet_text.specs.declared.basis.Basis.{Basis};
-ghost use Rattle.fleet_text.specs.declared.basis.GroupedBy.{GroupedBy};
+ghost use Rattle.fleet_summary.specs.declared.group_by.GroupBy.{GroupBy};
 ghost use Rattle.fleet_text.specs.declared.part.PartSummary.{PartSummary};
 ghost use Rattle.fleet_text.specs.Back.{IsReadAs};
-ghost use Rattle.fleet_text.specs.Json.{count_json, grouped_json};
+ghost use Rattle.fleet_text.specs.Json.{grouped_json};
+ghost use Rattle.json_objects.specs.Objects.{count_json};
 ghost use Rattle.fleet_text.specs.Says.{SaysBasis, SaysPart, SaysReplies, SaysSummary};
 
-use crate::basis::{Basis, GroupedBy};
+use crate::basis::Basis;
 use crate::members::{count_of, member_of, optional_text_of};
 use crate::part::PartSummary;
 use crate::read_fault::ReadFault;
 use crate::reading_failures::failures_in;
 use crate::reading_groups::groups_in;
 use crate::reading_histogram::histogram_of;
-use fleet_summary::{Replies, Summary};
+use fleet_summary::{GroupBy, Replies, Summary};
 use serde_json::Value;
 use std::alloc::Global;
 
 /// By what the spans are grouped.
-fn grouped_by(value: &Value) -> Result<GroupedBy, ReadFault>
+fn grouped_by(value: &Value) -> Result<GroupBy, ReadFault>
     ensures said { IfOk result (λ by. get (codes "by") (view value.now) ≡ Some (grouped_json by)) }
-    ensures back { (by : GroupedBy) → get (codes "by") (view value.now) ≡ Some (grouped_json by) → result ≡ Ok by }
+    ensures back { (by : GroupBy) → get (codes "by") (view value.now) ≡ Some (grouped_json by) → result ≡ Ok by }
 {
     match member_of(value, "by")?.as_str() {
-        Some("span") => Ok(GroupedBy::Span),
-        Some("service") => Ok(GroupedBy::Service),
+        Some("span") => Ok(GroupBy::Span),
+        Some("service") => Ok(GroupBy::Service),
         _ => Err(ReadFault::Member),
     }
 }
@@ -46,6 +47,7 @@ fn basis_in(alloc: Global, value: &Value) -> Result<Basis, ReadFault>
         by: grouped_by(value)?,
         reply: optional_text_of(alloc, value, "reply")?,
         unit: optional_text_of(alloc, value, "unit")?,
+        tried: optional_text_of(alloc, value, "try")?,
     })
 }
 
@@ -75,13 +77,13 @@ fn summary_in(alloc: Global, value: &Value) -> Result<Summary, ReadFault>
     })
 }
 
-/// Whether the JSON is a summary in form 1.
+/// Whether the JSON is a summary in form 2.
 fn check_form(value: &Value) -> Result<(), ReadFault>
-    ensures said { IfOk result (λ _. get (codes "whatif-fleet") (view value.now) ≡ Some (count_json 1)) }
-    ensures back { get (codes "whatif-fleet") (view value.now) ≡ Some (count_json 1) → result ≡ Ok tt }
+    ensures said { IfOk result (λ _. get (codes "whatif-fleet") (view value.now) ≡ Some (count_json 2)) }
+    ensures back { get (codes "whatif-fleet") (view value.now) ≡ Some (count_json 2) → result ≡ Ok tt }
 {
     match value.get("whatif-fleet").and_then(Value::as_u64) {
-        Some(1) => Ok(()),
+        Some(2) => Ok(()),
         Some(_) => Err(ReadFault::OtherForm),
         None => Err(ReadFault::NoSummary),
     }
@@ -101,7 +103,7 @@ fn part_in(alloc: Global, value: &Value) -> Result<PartSummary, ReadFault>
 
 /// Reads a summary from its text: the text of a JSON object that says it. A member that a summary has not is passed over.
 ///
-/// Errors: `NotJson`; `NoSummary` where the JSON has no form; `OtherForm` where that is not 1; `Member` where a member is missing
+/// Errors: `NotJson`; `NoSummary` where the JSON has no form; `OtherForm` where that is not 2; `Member` where a member is missing
 /// or of another kind; `Unsound` where no parts of traces come to what it says; `Memory`.
 pub fn read_summary(alloc: Global, text: &str) -> Result<PartSummary, ReadFault>
     ensures sound { IfOk result (λ part. IsSound part.summary) }

@@ -1,14 +1,12 @@
 //! A summary of a trace, written, read back and joined with itself.
-use crate::{
-    Basis, GroupedBy, JoinFault, PartSummary, ReadFault, join_parts, read_summary, write_summary,
-};
-use fleet_summary::{Failure, GroupFacts, Name, Summary, TraceFacts};
+use crate::{Basis, JoinFault, PartSummary, ReadFault, join_parts, read_summary, write_summary};
+use fleet_summary::{Failure, GroupBy, GroupFacts, Name, Summary, TraceFacts};
 use std::alloc::{AllocError, Global};
 use std::test::Fail;
 
 /// What is written of `part`.
 const TEXT: &str =
-    r#"{"by":"span","failures":[{"exception":"java.io.IOException","group":"db","replies":1}],"groups":[{"name":"db","paths":1,"queued":[[164,10]],"ran":[[164,40]],"sooner":150,"spans":2,"times":[[164,1]],"timesThen":[[50,1]],"traces":1}],"replies":{"count":1,"failed":1,"times":[[164,1]]},"reply":"GET /cart","unit":null,"whatif-fleet":1}"#;
+    r#"{"by":"span","failures":[{"exception":"java.io.IOException","group":"db","replies":1}],"groups":[{"name":"db","paths":1,"queued":[[164,10]],"ran":[[164,40]],"sooner":150,"spans":2,"times":[[164,1]],"timesThen":[[50,1]],"traces":1}],"replies":{"count":1,"failed":1,"times":[[164,1]]},"reply":"GET /cart","try":null,"unit":null,"whatif-fleet":2}"#;
 
 /// A reply that failed after 200 ticks, for which `db` ran 40 of them, and without which it takes 50.
 fn facts(alloc: Global) -> Result<TraceFacts, AllocError> {
@@ -34,9 +32,10 @@ fn facts(alloc: Global) -> Result<TraceFacts, AllocError> {
 fn part(alloc: Global) -> Result<PartSummary, AllocError> {
     Ok(PartSummary {
         basis: Basis {
-            by: GroupedBy::Span,
+            by: GroupBy::Span,
             reply: Some(Name::new(alloc, b"GET /cart")?),
             unit: None,
+            tried: None,
         },
         summary: Summary::of(alloc, &facts(alloc)?)?,
     })
@@ -58,7 +57,7 @@ fn refused(rt: HostRuntime) -> Result<(), Fail> {
     for (old, new, fault) in [
         ("{\"by\"", "\"by\"", ReadFault::NotJson),
         ("whatif-fleet", "form", ReadFault::NoSummary),
-        ("fleet\":1", "fleet\":2", ReadFault::OtherForm),
+        ("fleet\":2", "fleet\":1", ReadFault::OtherForm),
         ("\"by\":\"span\"", "\"by\":\"trace\"", ReadFault::Member),
         ("\"unit\":null,", "", ReadFault::Member),
         ("\"sooner\":150", "\"sooner\":1.5", ReadFault::Member),

@@ -3,12 +3,12 @@ ghost use Rattle.std.specs.Prelude.{◌≡◌, IfOk};
 ghost use Rattle.serde_json.specs.View.{view};
 ghost use Rattle.fleet_text.specs.Json.{failure_json, failures_json, group_json, grouped_json, groups_json, part_json, replies_json};
 
-use crate::basis::GroupedBy;
 use crate::fault::WriteFault;
 use crate::histogram::histogram_value;
-use crate::object::Object;
+use crate::naming::{put_name, put_optional_name};
 use crate::part::PartSummary;
-use fleet_summary::{Failure, FailureCounts, GroupCounts, Groups, Name, Replies};
+use fleet_summary::{Failure, FailureCounts, GroupBy, GroupCounts, Groups, Name, Replies};
+use json_objects::Object;
 use serde_json::Value;
 use std::alloc::{AllocError, Global};
 
@@ -16,7 +16,7 @@ fn group_value(alloc: Global, name: &Name, counts: &GroupCounts) -> Result<Value
     ensures { IfOk result (λ value. view value ≡ group_json (name.now, counts.now)) }
 {
     let mut object = Object::new(alloc);
-    object.text("name", name)?;
+    put_name(&mut object, "name", name)?;
     object.count("traces", counts.traces)?;
     object.count("spans", counts.spans)?;
     object.count("paths", counts.paths)?;
@@ -43,8 +43,8 @@ fn failure_value(alloc: Global, failure: &Failure, replies: u64) -> Result<Value
     ensures { IfOk result (λ value. view value ≡ failure_json (failure.now, replies)) }
 {
     let mut object = Object::new(alloc);
-    object.text("exception", &failure.exception)?;
-    object.text("group", &failure.group)?;
+    put_name(&mut object, "exception", &failure.exception)?;
+    put_name(&mut object, "group", &failure.group)?;
     object.count("replies", replies)?;
     Ok(object.into_value())
 }
@@ -71,12 +71,12 @@ fn replies_value(alloc: Global, replies: &Replies) -> Result<Value, AllocError>
 }
 
 /// By what the spans are grouped.
-fn grouped_value(alloc: Global, by: GroupedBy) -> Result<Value, AllocError>
+fn grouped_value(alloc: Global, by: GroupBy) -> Result<Value, AllocError>
     ensures { IfOk result (λ value. view value ≡ grouped_json by) }
 {
     match by {
-        GroupedBy::Span => Value::try_from_str(alloc, "span"),
-        GroupedBy::Service => Value::try_from_str(alloc, "service"),
+        GroupBy::Span => Value::try_from_str(alloc, "span"),
+        GroupBy::Service => Value::try_from_str(alloc, "service"),
     }
 }
 
@@ -86,10 +86,11 @@ pub(crate) fn part_value(alloc: Global, part: &PartSummary) -> Result<Value, Wri
 {
     let PartSummary { basis, summary } = part;
     let mut object = Object::new(alloc);
-    object.count("whatif-fleet", 1)?;
+    object.count("whatif-fleet", 2)?;
     object.value("by", grouped_value(alloc, basis.by)?)?;
-    object.optional_text("reply", &basis.reply)?;
-    object.optional_text("unit", &basis.unit)?;
+    put_optional_name(&mut object, "reply", &basis.reply)?;
+    put_optional_name(&mut object, "unit", &basis.unit)?;
+    put_optional_name(&mut object, "try", &basis.tried)?;
     object.value("replies", replies_value(alloc, &summary.replies)?)?;
     object.value("groups", groups_value(alloc, &summary.groups)?)?;
     object.value("failures", failures_value(alloc, &summary.failures)?)?;

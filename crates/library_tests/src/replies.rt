@@ -34,6 +34,7 @@ fn own_stages(alloc: Global, count: usize) -> Result<Vec<Option<StageOf>>, Alloc
         stages.push(Some(StageOf {
             span,
             is_work: true,
+            is_end: true,
         }))?;
     }
     Ok(stages)

@@ -252,14 +252,14 @@ module _ (groups groups_then : List Group) (name : List ℕ) (number : ℕ) (her
 -- ---- the stages
 
 -- a stage counts to the group of its span's name
-module _ (groups : List Group) (is_work : Bool) where
+module _ (groups : List Group) (stage : StageOf) where
   counted_one : (names : List (List ℕ)) (numbers : List ℕ) → AreNumbers names groups numbers → (span : ℕ)
-      → option_and_then (counted_as groups) (option_map (λ (group : ℕ). record { group = group; is_work = is_work }) (slice_get numbers span))
-      ≡ option_map (λ (name : List ℕ). (name, is_work)) (slice_get names span)
+      → option_and_then (counted_as groups) (option_map (λ (group : ℕ). record { group = group; stage = stage }) (slice_get numbers span))
+      ≡ option_map (λ (name : List ℕ). (name, stage)) (slice_get names span)
   counted_one [] [] are span = refl
   counted_one [] (number ∷ numbers) are span = cc
   counted_one (name ∷ names) [] are span = cc
-  counted_one (name ∷ names) (number ∷ numbers) are zero = ap (option_map (λ (name : List ℕ). (name, is_work))) (heads are)
+  counted_one (name ∷ names) (number ∷ numbers) are zero = ap (option_map (λ (name : List ℕ). (name, stage))) (heads are)
   counted_one (name ∷ names) (number ∷ numbers) are (suc span) = counted_one names numbers (tails are) span
 
 pub all_counted : (groups : List Group) (names : List (List ℕ)) (numbers : List ℕ) → AreNumbers names groups numbers → (stages : List (Option StageOf)) (place : ℕ)
@@ -274,4 +274,4 @@ all_counted groups names numbers are stages place =
 
       of : (stage : Option StageOf) → option_and_then (counted_as groups) (numbered numbers stage) ≡ option_and_then (counted_by names) stage
       of None = refl
-      of (Some stage) = counted_one groups stage.is_work names numbers are stage.span
+      of (Some stage) = counted_one groups stage names numbers are stage.span

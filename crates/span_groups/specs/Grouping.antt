@@ -19,7 +19,7 @@ counts_to stages group place = is_of group (counted_at stages place)
 
 abbrev pub is_work_of : ℕ → Option Counted → Bool
 is_work_of group None = false
-is_work_of group (Some counted) = counted.group == group && counted.is_work
+is_work_of group (Some counted) = counted.group == group && counted.stage.is_work
 
 -- and is work of that
 abbrev pub works_for : List (Option Counted) → ℕ → ℕ → Bool

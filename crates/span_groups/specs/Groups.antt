@@ -1,5 +1,5 @@
 -- The groups of spans of some names.
-use Rattle.std.specs.Prelude.{◌≡◌, ℕ, ◌<◌, Bool, List, All, bytes_eq, count_by, map, Option, Some, None, slice_get, slice_index_or}
+use Rattle.std.specs.Prelude.{◌≡◌, ℕ, ◌<◌, List, All, bytes_eq, count_by, map, Option, Some, None, slice_get, slice_index_or}
 use Rattle.std.specs.BTreeMap.{is_at}
 use Rattle.std.specs.List.Sorted.{IsStrictlySortedBy}
 use Rattle.std.specs.Map.{keys_of, lookup}
@@ -30,13 +30,13 @@ AreNumbers names groups numbers = map (name_of groups) numbers ≡ map (λ (name
 
 -- ---- a grouping
 
--- the name of the group to which a stage of these spans counts, and whether it is work of that
-abbrev pub counted_by : List (List ℕ) → StageOf → Option (List ℕ × Bool)
-counted_by names stage = option_map (λ (name : List ℕ). (name, stage.is_work)) (slice_get names stage.span)
+-- the name of the group to which a stage of these spans counts, and what it is to its span
+abbrev pub counted_by : List (List ℕ) → StageOf → Option (List ℕ × StageOf)
+counted_by names stage = option_map (λ (name : List ℕ). (name, stage)) (slice_get names stage.span)
 
 -- the same by the number of the group
-abbrev pub counted_as : List Group → Counted → Option (List ℕ × Bool)
-counted_as groups counted = option_map (λ (name : List ℕ). (name, counted.is_work)) (name_of groups counted.group)
+abbrev pub counted_as : List Group → Counted → Option (List ℕ × StageOf)
+counted_as groups counted = option_map (λ (name : List ℕ). (name, counted.stage)) (name_of groups counted.group)
 
 -- The groups of spans, whose groups have these names, and of the stages of these spans.
 pub record IsGroupingOf (names : List (List ℕ)) (stages : List (Option StageOf)) (grouping : Grouping) : Type 0 where

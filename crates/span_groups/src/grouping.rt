@@ -2,6 +2,7 @@
 ghost use Rattle.std.specs.Prelude.{◌≡◌, option_copied};
 ghost use Rattle.span_groups.specs.Grouping.{counted_at, counts_to, name_at, works_for};
 
+use crate::making::StageOf;
 use fleet_summary::Name;
 
 /// Spans of a trace that are counted together.
@@ -18,8 +19,8 @@ pub struct Group {
 pub struct Counted {
     /// The group's number.
     pub group: usize,
-    /// Whether the stage is work of the group: it takes no time where the group takes none. A limit to that work is none.
-    pub is_work: bool,
+    /// What the stage is to a span of the group.
+    pub stage: StageOf,
 }
 
 /// The groups of a trace, and what the stage at each place counts to.
@@ -30,7 +31,7 @@ pub struct Grouping {
 }
 
 /// What the stage at a place counts to, if it counts to a group.
-fn counted_at(stages: &[Option<Counted>], place: u32) -> Option<Counted>
+pub fn counted_at(stages: &[Option<Counted>], place: u32) -> Option<Counted>
     ensures { result ≡ counted_at stages.now place }
 {
     match stages.get(place as usize) {
@@ -49,12 +50,12 @@ pub fn counts_to(stages: &[Option<Counted>], group: usize, place: u32) -> bool
     }
 }
 
-/// Whether the stage at a place is work of the group of a number.
+/// Whether the stage at a place is work of the group of a number: whether it takes no time where the group takes none.
 pub fn works_for(stages: &[Option<Counted>], group: usize, place: u32) -> bool
     ensures { result ≡ works_for stages.now group place }
 {
     match counted_at(stages, place) {
-        Some(counted) => counted.group == group && counted.is_work,
+        Some(counted) => counted.group == group && counted.stage.is_work,
         None => false,
     }
 }

@@ -6,5 +6,5 @@ mod grouping;
 mod groups;
 mod making;
 
-pub use grouping::{Counted, Group, Grouping, counts_to, works_for};
+pub use grouping::{Counted, Group, Grouping, counted_at, counts_to, works_for};
 pub use making::{StageOf, grouping_of};

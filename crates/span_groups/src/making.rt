@@ -15,6 +15,8 @@ pub struct StageOf {
     pub span: usize,
     /// Whether the stage is work of the span, and no limit to it.
     pub is_work: bool,
+    /// Whether the stage completes when the span ends.
+    pub is_end: bool,
 }
 
 /// What a stage counts to, where the numbers of the spans' groups are known.
@@ -23,10 +25,7 @@ fn numbered(numbers: &[usize], stage: Option<StageOf>) -> Option<Counted>
 {
     let stage = stage?;
     let group = *numbers.get(stage.span)?;
-    Some(Counted {
-        group,
-        is_work: stage.is_work,
-    })
+    Some(Counted { group, stage })
 }
 
 /// What each of some stages counts to.

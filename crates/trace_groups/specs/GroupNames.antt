@@ -1,8 +1,8 @@
 -- The names of groups of spans. A text stands whole, where names of stages are cut.
 use Rattle.std.specs.Prelude.{ℕ, List, [], ◌∷◌, ◌++◌, codes}
 use Rattle.trace_spans.specs.declared.span.Span.{Span}
-use Rattle.trace_groups.specs.declared.group_names.GroupBy.{GroupBy}
-use Rattle.trace_groups.specs.declared.group_names.GroupBy.TheVariants as by
+use Rattle.fleet_summary.specs.declared.group_by.GroupBy.{GroupBy}
+use Rattle.fleet_summary.specs.declared.group_by.GroupBy.TheVariants as by
 
 -- a text, or a word where it is empty
 abbrev pub text_or : List ℕ → List ℕ → List ℕ

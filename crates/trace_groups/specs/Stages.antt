@@ -7,13 +7,13 @@ use Rattle.trace_stages.specs.declared.stage.StageName.TheVariants.{Whole, Start
 
 -- all stages of a span are its work, but for the limit at which it was given up
 abbrev pub stage_of : StageName → StageOf
-stage_of (Whole span) = record { span = span; is_work = true }
-stage_of (Start span) = record { span = span; is_work = true }
-stage_of (Join span number) = record { span = span; is_work = true }
-stage_of (Work span number) = record { span = span; is_work = true }
-stage_of (Tried span) = record { span = span; is_work = true }
-stage_of (Answer span) = record { span = span; is_work = true }
-stage_of (Limit span) = record { span = span; is_work = false }
+stage_of (Whole span) = record { span = span; is_work = true; is_end = true }
+stage_of (Start span) = record { span = span; is_work = true; is_end = false }
+stage_of (Join span number) = record { span = span; is_work = true; is_end = false }
+stage_of (Work span number) = record { span = span; is_work = true; is_end = false }
+stage_of (Tried span) = record { span = span; is_work = true; is_end = false }
+stage_of (Answer span) = record { span = span; is_work = true; is_end = false }
+stage_of (Limit span) = record { span = span; is_work = false; is_end = false }
 
 abbrev pub stages_of : List ImportedStage → List (Option StageOf)
 stages_of stages = map (λ (stage : ImportedStage). Some (stage_of stage.name)) stages

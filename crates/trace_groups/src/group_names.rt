@@ -2,18 +2,9 @@
 ghost use Rattle.std.specs.Prelude.{◌≡◌, IfOk, map};
 ghost use Rattle.trace_groups.specs.GroupNames.{group_name, service_of, span_name, text_or};
 
-use fleet_summary::Name;
+use fleet_summary::{GroupBy, Name};
 use std::alloc::{AllocError, Global};
 use trace_spans::Span;
-
-/// By what spans are in one group.
-#[derive(Clone, Copy, Debug, PartialEq, Eq)]
-pub enum GroupBy {
-    /// By the service and the name.
-    Span,
-    /// By the service alone.
-    Service,
-}
 
 /// A text, or a word where it is empty.
 fn text_or<'a>(word: &'a str, text: &'a str) -> &'a str

@@ -4,29 +4,36 @@ ghost use Rattle.span_groups.specs.Groups.{IsGroupingOf};
 ghost use Rattle.trace_groups.specs.GroupNames.{group_name};
 ghost use Rattle.trace_groups.specs.Stages.{stage_of, stages_of};
 
-use crate::group_names::{GroupBy, group_names};
+use crate::group_names::group_names;
+use fleet_summary::GroupBy;
 use span_groups::{Grouping, StageOf, grouping_of};
 use std::alloc::{AllocError, Global};
 use trace_spans::Span;
 use trace_stages::{ImportedStage, StageName};
 
-/// Of which span a stage is: all of a span's stages are its work, but for the limit at which it was given up.
+/// Of which span a stage is, and what it is to it: all of a span's stages are its work, but for the limit at which it was given up.
 fn stage_of(name: StageName) -> StageOf
     ensures { result ≡ stage_of name }
 {
     match name {
+        StageName::Whole(span) => StageOf {
+            span,
+            is_work: true,
+            is_end: true,
+        },
         StageName::Limit(span) => StageOf {
             span,
             is_work: false,
+            is_end: false,
         },
-        StageName::Whole(span)
-        | StageName::Start(span)
+        StageName::Start(span)
         | StageName::Join(span, _)
         | StageName::Work(span, _)
         | StageName::Tried(span)
         | StageName::Answer(span) => StageOf {
             span,
             is_work: true,
+            is_end: false,
         },
     }
 }

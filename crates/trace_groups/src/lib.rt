@@ -6,6 +6,5 @@ mod group_names;
 mod grouping;
 mod reply;
 
-pub use group_names::GroupBy;
 pub use grouping::trace_grouping;
 pub use reply::{reply_place, replying_span};

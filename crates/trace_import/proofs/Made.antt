@@ -37,12 +37,12 @@ not_read mapping trace TooLong why = absurd why
 not_read mapping trace Write why = why
 not_read mapping trace Memory why = why
 
-text_made : (mapping : Mapping) (trace : Trace) (reading : Reading) → IsReadingOf mapping trace (Ok reading) → IsTextOf mapping trace (text_of mapping reading.trace (plain reading.relations) reading.stages)
+text_made : (mapping : Mapping) (trace : Trace) (reading : Reading) → IsReadingOf mapping trace (Ok reading) → IsTextOf mapping trace (text_of mapping reading.trace.now (plain reading.relations) reading.stages)
 text_made mapping trace reading from = (plain reading.relations, reading.stages, from.1, from.2, ap (λ (it : Trace). text_of mapping it (plain reading.relations) reading.stages) from.0)
 
 -- the text of what was made is that of the trace
 pub traced : (mapping : Mapping) (trace : Trace) (reading : Reading) (named : List (List ℕ)) (text : Vec ℕ Global)
-    → IsReadingOf mapping trace (Ok reading) → named ≡ names reading.trace.spans (plain reading.relations).order → IsTextOfReading mapping reading named (Ok text)
+    → IsReadingOf mapping trace (Ok reading) → named ≡ names reading.trace.now.spans (plain reading.relations).order → IsTextOfReading mapping reading named (Ok text)
     → (text.items ≡ text_of mapping trace (plain reading.relations) reading.stages) × (length text.items ≤ longest)
 traced mapping trace reading named text from so told =
     (told.0 (from.3, so) ∙ ap (λ (it : Trace). text_of mapping it (plain reading.relations) reading.stages) from.0, told.1)
@@ -53,11 +53,11 @@ recorded mapping trace made from = ((plain made.reading.relations, made.reading.
 
 -- why what was made has no text, as the trace has none
 pub not_told : (mapping : Mapping) (trace : Trace) (reading : Reading) (named : List (List ℕ)) (fault : ImportFault)
-    → IsReadingOf mapping trace (Ok reading) → named ≡ names reading.trace.spans (plain reading.relations).order → IsTextOfReading mapping reading named (Err fault)
+    → IsReadingOf mapping trace (Ok reading) → named ≡ names reading.trace.now.spans (plain reading.relations).order → IsTextOfReading mapping reading named (Err fault)
     → IsNotMade mapping trace fault
 not_told mapping trace reading named (Refused fault) from so why = absurd why
 not_told mapping trace reading named (Unticked fault) from so why = absurd why
 not_told mapping trace reading named TooManyStages from so why = absurd why
-not_told mapping trace reading named TooLong from so why = (text_of mapping reading.trace (plain reading.relations) reading.stages, text_made mapping trace reading from, why (from.3, so))
+not_told mapping trace reading named TooLong from so why = (text_of mapping reading.trace.now (plain reading.relations) reading.stages, text_made mapping trace reading from, why (from.3, so))
 not_told mapping trace reading named Write from so why = absurd why
 not_told mapping trace reading named Memory from so why = tt

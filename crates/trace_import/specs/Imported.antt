@@ -86,24 +86,24 @@ IsNotMade mapping trace Memory = Unit {0}
 
 -- the clocks of what was made of a trace are moved as they are said to be
 abbrev pub HasMoved : Mapping → Reading → Type 0
-HasMoved mapping reading = reading.relations.moved.items ≡ moved_of mapping.as_told reading.trace.spans
+HasMoved mapping reading = reading.relations.moved.items ≡ moved_of mapping.as_told reading.trace.now.spans
 
 -- what is made of a trace
 abbrev pub IsReadingOf : Mapping → Trace → Result Reading ImportFault → Type 0
-IsReadingOf mapping trace (Ok reading) = (reading.trace ≡ trace) × IsMadeFrom mapping trace (plain reading.relations) reading.stages × (count_of reading.stages ≤ most_stages) × HasMoved mapping reading
+IsReadingOf mapping trace (Ok reading) = (reading.trace.now ≡ trace) × IsMadeFrom mapping trace (plain reading.relations) reading.stages × (count_of reading.stages ≤ most_stages) × HasMoved mapping reading
 IsReadingOf mapping trace (Err TooLong) = ⊥
 IsReadingOf mapping trace (Err fault) = IsNotMade mapping trace fault
 
 -- the spans of what was made have these names
 abbrev pub HasNames : Mapping → Reading → List (List ℕ) → Type 0
-HasNames mapping reading named = HasMoved mapping reading × (named ≡ names reading.trace.spans (plain reading.relations).order)
+HasNames mapping reading named = HasMoved mapping reading × (named ≡ names reading.trace.now.spans (plain reading.relations).order)
 
 -- the text of what was made, whose spans have these names, or why there is none
 abbrev pub IsTextOfReading : Mapping → Reading → List (List ℕ) → Result (Vec ℕ Global) ImportFault → Type 0
 IsTextOfReading mapping reading named (Ok text) =
-    (HasNames mapping reading named → text.items ≡ text_of mapping reading.trace (plain reading.relations) reading.stages) × (length text.items ≤ longest)
+    (HasNames mapping reading named → text.items ≡ text_of mapping reading.trace.now (plain reading.relations) reading.stages) × (length text.items ≤ longest)
 IsTextOfReading mapping reading named (Err TooLong) =
-    HasNames mapping reading named → longest < length (text_of mapping reading.trace (plain reading.relations) reading.stages)
+    HasNames mapping reading named → longest < length (text_of mapping reading.trace.now (plain reading.relations) reading.stages)
 IsTextOfReading mapping reading named (Err Memory) = Unit {0}
 IsTextOfReading mapping reading named (Err other) = ⊥
 

@@ -49,7 +49,7 @@ fn import_one<S: Sink>(
     ensures failures { S.failures sink.new ≡ S.failures sink.old + failed_writes result }
 {
     let id = Text::new(alloc, trace.id.as_str())?;
-    let made = match recording_of(alloc, mapping, trace) {
+    let made = match recording_of(alloc, mapping, &trace) {
         Ok(recorded) => {
             sink.write(&on_one_line(alloc, &recorded.text)?)?;
             Ok(recorded.notes)

@@ -23,7 +23,7 @@ pub fn import<S: Sink>(
     ensures failures { S.failures sink.new ≡ S.failures sink.old + failed_writes result }
 {
     let trace = read_trace(alloc, bytes, options.trace)?;
-    let recorded = recording_of(alloc, options.mapping, trace)?;
+    let recorded = recording_of(alloc, options.mapping, &trace)?;
     sink.write(&recorded.text)?;
     Ok(recorded.notes)
 }

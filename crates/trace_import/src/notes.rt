@@ -286,7 +286,7 @@ fn outliving_calls(trace: Trace<'_>) -> Result<Notes, AllocError> {
 /// What is told of an import, kind by kind.
 pub(crate) fn notes_of(
     alloc: Global,
-    reading: &Reading,
+    reading: &Reading<'_>,
     names: &TextList,
 ) -> Result<Vec<Note>, AllocError> {
     let trace = Trace {

@@ -14,21 +14,21 @@ const MOST_STAGES: usize = 65_536;
 
 /// A trace, how its spans stand to each other, and its stages.
 #[derive(Drop)]
-pub struct Reading {
-    pub trace: Trace,
+pub struct Reading<'t> {
+    pub trace: &'t Trace,
     pub relations: Relations,
     pub stages: Stages,
 }
 
 /// Makes the stages of a trace.
-pub(crate) fn reading_of(
+pub(crate) fn reading_of<'t>(
     alloc: Global,
     mapping: Mapping,
-    trace: Trace,
-) -> Result<Reading, ImportFault>
-    ensures { IsReadingOf mapping trace result }
+    trace: &'t Trace,
+) -> Result<Reading<'t>, ImportFault>
+    ensures { IsReadingOf mapping trace.now result }
 {
-    tells_texts(&trace);
+    tells_texts(trace);
     let spans = trace.spans.as_slice();
     let relations = relations_of(alloc, mapping.unit, mapping.as_told, spans)?;
     let stages = stages_of(alloc, spans, &relations, mapping.as_told)?;

@@ -19,9 +19,9 @@ pub(crate) struct Recorded {
 pub(crate) fn recording_of(
     alloc: Global,
     mapping: Mapping,
-    trace: Trace,
+    trace: &Trace,
 ) -> Result<Recorded, ImportFault>
-    ensures { IsRecordedFrom mapping trace result }
+    ensures { IsRecordedFrom mapping trace.now result }
 {
     let made = trace_recording(alloc, mapping, trace)?;
     Ok(Recorded {

@@ -84,10 +84,10 @@ fn push_stages(
 fn text_before(
     alloc: Global,
     mapping: Mapping,
-    reading: &Reading,
+    reading: &Reading<'_>,
     clocks: &[ClockText],
 ) -> Result<LabelledText, AllocError>
-    ensures { map plain_clock clocks.now ≡ clock_labels mapping.as_told reading.now.trace.spans → IfOk result (λ text. text ≡ begun (head_of mapping reading.now.trace (plain reading.now.relations)) []) }
+    ensures { map plain_clock clocks.now ≡ clock_labels mapping.as_told reading.now.trace.now.spans → IfOk result (λ text. text ≡ begun (head_of mapping reading.now.trace.now (plain reading.now.relations)) []) }
 {
     let start = reading.relations.origin;
     let start = format!(in alloc; "{start}")?;
@@ -120,7 +120,7 @@ fn text_before(
 pub(crate) fn text_of(
     alloc: Global,
     mapping: Mapping,
-    reading: &Reading,
+    reading: &Reading<'_>,
     names: &TextList,
 ) -> Result<Vec<u8>, ImportFault>
     ensures { IsTextOfReading mapping reading.now names.now result }

@@ -13,9 +13,9 @@ use trace_stages::names;
 
 /// What is made of a trace, and the text of its recording.
 #[derive(Drop)]
-pub struct TraceRecording {
+pub struct TraceRecording<'t> {
     /// The trace, how its spans stand to each other, and its stages.
-    pub reading: Reading,
+    pub reading: Reading<'t>,
     /// The recording of these stages, in their order.
     pub text: Vec<u8>,
     /// What was guessed.
@@ -23,12 +23,12 @@ pub struct TraceRecording {
 }
 
 /// The recording of a trace, with what it is made of. So the stage at a place of the recording is known by the span whose it is.
-pub fn trace_recording(
+pub fn trace_recording<'t>(
     alloc: Global,
     mapping: Mapping,
-    trace: Trace,
-) -> Result<TraceRecording, ImportFault>
-    ensures { IsTracedFrom mapping trace result }
+    trace: &'t Trace,
+) -> Result<TraceRecording<'t>, ImportFault>
+    ensures { IsTracedFrom mapping trace.now result }
 {
     let reading = reading_of(alloc, mapping, trace)?;
     let names = names(

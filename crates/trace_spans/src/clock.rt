@@ -5,14 +5,14 @@ ghost use Rattle.trace_spans.specs.Clocks.{clock_text, service_of};
 use crate::text::{Text, TextList};
 use std::alloc::{AllocError, Global};
 use std::marker::Model;
-use std::rc::Rc;
+use std::sync::Arc;
 
 /// The clock of one instance of a service on its host, as far as a tracer tells them. A contract sees its three parts.
 ///
 /// The spans of a resource or a process share them.
 #[derive(Drop, Debug)]
 pub struct Clock {
-    parts: Rc<TextList>,
+    parts: Arc<TextList>,
 }
 
 impl Model for Clock {
@@ -38,7 +38,7 @@ impl Clock {
         parts.push(Text::new(alloc, instance)?)?;
         parts.push(Text::new(alloc, host)?)?;
         Ok(Clock {
-            parts: Rc::new(alloc, parts)?,
+            parts: Arc::new(alloc, parts)?,
         })
     }
 

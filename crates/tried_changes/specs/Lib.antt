@@ -1,3 +1,4 @@
+pub mod InTurn
 pub mod Last
 pub mod Told
 pub mod Tried

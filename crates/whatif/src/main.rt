@@ -130,7 +130,7 @@ fn answer<'a, K: StateRepresentation, H: Threads + Wait + Copy + Drop + Send + S
             wanted,
             mapping,
         } => return run_import(rt, manner, trace, wanted, mapping),
-        Command::Fleet { fleet } => run_fleet::<K>(rt, manner, &fleet)?,
+        Command::Fleet { fleet } => run_fleet::<K, _>(rt, &threads, manner, &fleet)?,
         Command::New { form } => run_new(rt, manner, form)?,
     }
     Ok(ExitCode::SUCCESS)

@@ -3,7 +3,7 @@ use Rattle.std.proofs.lemmas.List.{take_all}
 use Rattle.serde_json.specs.Data.{Data, array}
 use Rattle.serde_json.specs.View.{items_of, view}
 use Rattle.fleet_answer.specs.Json.{failure_json}
-use Rattle.fleet_answer.proofs.Lists.{made_next}
+use Rattle.json_objects.proofs.Lists.{made_next}
 use Rattle.fleet_answer.proofs.values.failures_value.Goals as goal
 
 pub loop-row-preserved : goal.loop-row-preserved

@@ -1,11 +1,11 @@
 use Rattle.std.proofs.Common.{refl, ap, ◌∙◌}
 use Rattle.serde_json.specs.Data.{Members, object}
-use Rattle.fleet_text.proofs.Chains.{put_more}
+use Rattle.json_objects.proofs.Chains.{put_more}
 use Rattle.fleet_text.proofs.values.group_value.Goals as goal
 
 pub returns : goal.returns
 returns c =
-    let name_put = put_more _ _ _ _ _ _ c.in_ok-text.ensures refl c.new-object.ensures in
+    let name_put = put_more _ _ _ _ _ _ c.in_ok-put_name.ensures refl c.new-object.ensures in
     let traces = put_more _ _ _ _ _ _ c.in_ok-count.ensures refl name_put in
     let spans = put_more _ _ _ _ _ _ c.in_ok-count-2.ensures refl traces in
     let paths = put_more _ _ _ _ _ _ c.in_ok-count-3.ensures refl spans in

@@ -2,7 +2,7 @@ use Rattle.std.proofs.Common.{List, ap, ◌∙◌}
 use Rattle.serde_json.specs.Data.{Data, array}
 use Rattle.serde_json.specs.View.{items_of, view}
 use Rattle.fleet_text.specs.Json.{group_json}
-use Rattle.fleet_text.proofs.Lists.{made_all, made_more}
+use Rattle.json_objects.proofs.Lists.{made_all, made_more}
 use Rattle.fleet_text.proofs.values.groups_value.Goals as goal
 
 pub loop-name-preserved : goal.loop-name-preserved

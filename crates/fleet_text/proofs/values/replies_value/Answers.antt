@@ -1,6 +1,6 @@
 use Rattle.std.proofs.Common.{refl, ap, ◌∙◌}
 use Rattle.serde_json.specs.Data.{Members, object}
-use Rattle.fleet_text.proofs.Chains.{put_more}
+use Rattle.json_objects.proofs.Chains.{put_more}
 use Rattle.fleet_text.proofs.values.replies_value.Goals as goal
 
 pub returns : goal.returns

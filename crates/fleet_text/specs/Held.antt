@@ -1,7 +1,0 @@
--- What an object holds while members are added to it.
-use Rattle.serde_json.specs.Data.{Members}
-use Rattle.serde_json.specs.View.{members_view}
-use Rattle.fleet_text.specs.declared.object.Object.{Object}
-
-abbrev pub held : Object → Members
-held object = members_view object.members.entries

@@ -1,0 +1,4 @@
+pub mod Chains
+pub mod Depths
+pub mod Exact
+pub mod Lists
