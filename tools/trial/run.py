@@ -12,6 +12,8 @@ from typing import Any, NamedTuple
 
 LANES = 4
 NOBODY = 65534
+# a run is ended only after so many times the seconds that it may take where nothing else runs: that one never ends is a fault, that a machine is busy is none
+PATIENCE = 20
 
 
 @dataclass(frozen=True)
@@ -28,7 +30,7 @@ class Case:
     files: dict = field(default_factory=dict)
     shell: str = ""  # what bash does before it becomes the program
     nobody: bool = False  # by the user nobody, where the trial is run by root
-    seconds: float = 10
+    seconds: float = 10  # how long it may take where nothing else runs
 
 
 @dataclass(frozen=True)
@@ -127,15 +129,15 @@ def finish(child, case):
         if isinstance(case.stdin, Pieces):
             pipe, child.stdin = child.stdin, None
             threading.Thread(target=feed, args=(pipe, case.stdin.make()), daemon=True).start()
-            out, err = child.communicate(timeout=case.seconds)
+            out, err = child.communicate(timeout=PATIENCE * case.seconds)
         else:
             given = None if child.stdin is None else as_bytes(case.stdin)
-            out, err = child.communicate(given, timeout=case.seconds)
+            out, err = child.communicate(given, timeout=PATIENCE * case.seconds)
         return Answer(child.returncode, out or b"", err or b"")
     except subprocess.TimeoutExpired:
         os.killpg(child.pid, signal.SIGKILL)
         out, err = child.communicate()
-        return Answer(f"none after {case.seconds} s", out or b"", err or b"")
+        return Answer(f"none after {PATIENCE * case.seconds} s", out or b"", err or b"")
 
 
 def start(program, case, folder):

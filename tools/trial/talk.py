@@ -11,7 +11,7 @@ from .run import shown
 from .tried import HALF
 from .why import EXPLAINED_A
 
-SECONDS = 10
+SECONDS = 120
 
 
 def heard(child, wanted):
