@@ -58,18 +58,23 @@ class Trace:
 
         self.span("edge", "GET /orders", None, 0, called)
 
-    def line(self):
-        of = lambda service: {"attributes": [{"key": "service.name", "value": {"stringValue": service}}]}
-        parts = [{"resource": of(service), "scopeSpans": [{"spans": spans}]} for service, spans in self.spans.items()]
-        return json.dumps({"resourceSpans": parts}, separators=(",", ":"))
 
-
-def main(seed, count="2000"):
+def traces(seed, count="2000"):
+    """The traces that a seed gives."""
     rng = random.Random(f"night {seed}")
     for number in range(1, int(count) + 1):
         trace = Trace(number, rng)
         trace.request()
-        print(trace.line())
+        yield trace
 
 
-main(*sys.argv[1:])
+def text(spans):
+    """A line of OTLP/JSON with spans, by their services."""
+    of = lambda service: {"attributes": [{"key": "service.name", "value": {"stringValue": service}}]}
+    parts = [{"resource": of(service), "scopeSpans": [{"spans": own}]} for service, own in spans.items()]
+    return json.dumps({"resourceSpans": parts}, separators=(",", ":"))
+
+
+if __name__ == "__main__":
+    for trace in traces(*sys.argv[1:]):
+        print(text(trace.spans))

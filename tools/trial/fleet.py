@@ -16,9 +16,9 @@ from .cases import R
 from .each_trace import in_trace, mixed
 from .edited_traces import as_otlp
 from .readme import read
-from .run import CLOSED, LANES, Case, run, shown
+from .run import CLOSED, LANES, Case, Sparse, run, shown
 from .trace_forms import by_lines
-from .traces import otlp, span
+from .traces import MOST_OF_FILE, otlp, span
 
 FIVE = "examples/fleet/five.jsonl"
 PLAIN = re.compile(rb'[^\x00-\x20"\x7f]+')
@@ -52,6 +52,8 @@ WHY_REFUSED = r'standard input: the recording of line 2: line 1: stage "b" \(pla
 LIMITED = '{"form":2,"stages":[{"name":"a.b","op":"async","runs":50,"action":1,"ends":[{"do":"orTimeout","at":0,"delay":100}]}]}'
 # From so many bytes on a text is read by its lines.
 LEAST_BY_LINES = 1_048_576
+# more than twice the bytes of lines that are read at once
+TWICE_AT_ONCE = 17_000_000
 
 
 # ---- the answer, computed once more
@@ -315,10 +317,10 @@ def joined_difference(program, seed):
 # ---- long texts, against short ones
 
 
-def padded(text):
-    """The same text with blanks behind each of its lines, so many that it is read by lines."""
+def padded(text, least=LEAST_BY_LINES):
+    """The same text with blanks behind each of its lines, so many that it has that many bytes at least, and is read by lines."""
     count = len(re.findall(r"[^\r\n]*\S[^\r\n]*", text))
-    blanks = " " * (LEAST_BY_LINES // count + 1)
+    blanks = " " * (least // count + 1)
     return re.sub(r"[^\r\n]*\S[^\r\n]*", lambda it: it[0] + blanks, text)
 
 
@@ -342,9 +344,18 @@ def short_texts():
     yield "recordings, strictly", "refused 14 NoSource ", ["--strict", *words], f"{R}\n{REFUSED}\n{R}\n"
 
 
-def long_difference(program, begin, words, text):
-    """How a long text is answered otherwise than a short one of the same lines, as a file or as standard input, or nothing."""
-    grown = padded(text)
+def far_text():
+    """The same of a text of 120 traces, of which one has spans on the first line and on the last ones, and one in the middle is refused."""
+    made = [in_trace(as_otlp(small_calls(340_000 + at)), f"{at + 10:x}") for at in range(120)]
+    far = made.pop(next(at for at, it in enumerate(made) if len(it["resourceSpans"]) > 1))
+    first, *last = ({"resourceSpans": [it]} for it in far["resourceSpans"])
+    text = by_lines(first, *made[:60], in_trace(otlp(span("first", 0, 0)), "7"), *made[60:], *last)
+    yield "many traces, of which one is far apart", "replies 120 ", ["--try", "shop.first runs=5"], text
+
+
+def long_difference(program, least, begin, words, text):
+    """How a text of that many bytes is answered otherwise than a short one of the same lines, as a file or as standard input, or nothing."""
+    grown = padded(text, least)
     for name, given in (("night", lambda it: {"files": {"night": it}}), ("-", lambda it: {"stdin": it})):
         wanted = run(program, Case("short", ["fleet", *words, name], None, seconds=60, **given(text)))
         if not wanted.out.startswith(begin.encode()):
@@ -359,8 +370,8 @@ def long_difference(program, begin, words, text):
 def fleets(program):
     """The name of each comparison, its complaint or nothing, and no refusal."""
     with concurrent.futures.ThreadPoolExecutor(LANES) as lanes:
-        texts = [*short_texts()]
-        for (name, *_), said in zip(texts, lanes.map(lambda it: long_difference(program, *it[1:]), texts)):
+        texts = [*((LEAST_BY_LINES, *it) for it in short_texts()), *((TWICE_AT_ONCE, *it) for it in far_text())]
+        for (_, name, *_), said in zip(texts, lanes.map(lambda it: long_difference(program, it[0], *it[2:]), texts)):
             yield f"fleet of a long text of {name}: as of a short one", said, set()
         for seed, said in zip(range(20), lanes.map(lambda it: difference(program, it), range(20))):
             yield f"fleet of traces made at random, {seed}: as the other commands say of each", said, set()
@@ -459,7 +470,8 @@ def long_cases(five, plain):
     for name, given in (("long", {"files": {"long": lambda: padded(none)}}), ("-", {"stdin": lambda: padded(none)})):
         yield Case(f"fleet of a long text without a span, {name}", [*words, name], NO_REPLY, 1, err=r"\Awhatif: the file holds no trace\nwhatif: no trace has a reply\n\Z", **given)
         yield Case(f"fleet --strict of a long text without a span, {name}", [*words, "--strict", name], "refused 81 NoTrace\n", 1, err="it has no span", **given)
-    # (a repeat of a span is left out, and counts among those that are read at once, of which there are 8,192 or a fifth of all at most)
+    yield Case("fleet of a file that is one line and too long", [*words, "long"], "refused 72 TooLong\n", 1, err=r"\Awhatif: long: it has a line of more than 268435456 bytes\n\Z", files={"long": Sparse(MOST_OF_FILE + 1)}, seconds=60)
+    # (a repeat of a span is left out, and counts among those that are read at once, of which there are 8,192 or a sixth of all at most)
     mixed_line = json.dumps({"resourceSpans": [*mixed(json.loads(it)["resourceSpans"] for it in five.splitlines())]}, separators=(",", ":"))
     for times, batches in ((600, "two"), (1_200, "three"), (2_800, "five")):
         yield Case(f"fleet of lines that mix traces, in {batches} batches", [*words, "--workers", "3", "long"], plain, files={"long": lambda times=times: f"{mixed_line}\n" * times}, err=r"\A\Z", seconds=60)

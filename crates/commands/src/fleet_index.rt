@@ -1,31 +1,22 @@
 //! On which lines of a file the spans of its traces stand, so that the traces are read a few at a time and not the file whole.
-use crate::fleet_files::traces_in;
-use crate::fleet_lines::{Line, MOST_LINES, TextOfLines, read_line};
+use crate::fleet_lines::{Line, MOST_LINES, TextOfLines, read_line, traces_in};
+use crate::fleet_pieces::{Piece, Pieces, count_of};
+use crate::fleet_told::{LineTrace, ToldLine, told_pieces};
 use console::{Fault, Voice};
+use fleet_replies::found_beside;
 use fleet_summary::Name;
+use level_pool::Workers;
 use std::alloc::{AllocError, Global};
 use std::collections::BTreeMap;
 use std::io::BufRead;
-use trace_import::ImportFault;
-use trace_spans::{Fault as TraceFault, Trace};
+use std::thread::Threads;
+use trace_spans::{Fault as TraceFault, Trace, joined_traces};
 
-/// How much is read at once where each line is then read about once.
-const AT_ONCE: Batch = Batch {
-    spans: 8_192,
-    bytes: 67_108_864,
-};
+/// How many spans are read at once, if that is more than one trace, where each line is then read about once.
+const AT_ONCE: usize = 8_192;
 
-/// Into how many parts the spans are cut where lines have to be read several times.
-const PARTS: usize = 5;
-
-/// How much is read at once, if that is more than one trace.
-#[derive(Clone, Copy)]
-pub(crate) struct Batch {
-    /// How many spans the traces have at most.
-    spans: usize,
-    /// How many bytes the lines of each trace have at most, all together.
-    bytes: usize,
-}
+/// Into how many batches the spans are cut where lines have to be read several times.
+const BATCHES: usize = 6;
 
 /// Where the spans of a trace stand.
 #[derive(Drop)]
@@ -40,6 +31,8 @@ struct Indexed {
 #[derive(Drop)]
 pub(crate) struct Index {
     lines: Vec<Line>,
+    /// How many bytes the lines have, all together.
+    bytes: u64,
     /// The traces, in the order of their first spans.
     traces: Vec<Indexed>,
     /// The number of each, by its id.
@@ -51,6 +44,7 @@ impl Index {
     fn new(alloc: Global) -> Index {
         Index {
             lines: Vec::new(alloc),
+            bytes: 0,
             traces: Vec::new(alloc),
             numbers: BTreeMap::new(alloc),
         }
@@ -62,8 +56,7 @@ impl Index {
     }
 
     /// The number of a trace; one that is new gets the next one.
-    fn number_of(&mut self, alloc: Global, id: &str) -> Result<usize, AllocError> {
-        let id = Name::new(alloc, id.as_bytes())?;
+    fn number_of(&mut self, alloc: Global, id: Name) -> Result<usize, AllocError> {
         if let Some(number) = self.numbers.get(&id) {
             return Ok(*number);
         }
@@ -77,63 +70,85 @@ impl Index {
     }
 
     /// Adds the spans that a trace has on a line.
-    fn add_spans(&mut self, alloc: Global, trace: &Trace, line: u32) -> Result<(), AllocError> {
-        let number = self.number_of(alloc, trace.id.as_str())?;
+    fn add_spans(&mut self, alloc: Global, trace: LineTrace, line: u32) -> Result<(), AllocError> {
+        let LineTrace { id, spans } = trace;
+        let number = self.number_of(alloc, id)?;
         if let Some(indexed) = self.traces.get_mut(number) {
             indexed.lines.push(line)?;
-            indexed.spans = indexed.spans.saturating_add(trace.spans.as_slice().len());
+            indexed.spans = indexed.spans.saturating_add(spans);
         }
         Ok(())
     }
 
-    /// Adds a line, if it is a text by itself.
-    fn add_line(&mut self, alloc: Global, line: Line, text: &[u8]) -> Result<bool, AllocError> {
+    /// Adds the next line, if it is a text by itself, and answers whether it is.
+    fn add_line(
+        &mut self,
+        alloc: Global,
+        length: usize,
+        told: ToldLine,
+    ) -> Result<bool, AllocError> {
         let Ok(number) = u32::try_from(self.lines.len()) else {
             return Ok(false);
         };
-        self.lines.push(line)?;
-        match traces_in(alloc, text) {
-            Ok(traces) => {
-                for trace in &traces {
-                    self.add_spans(alloc, trace, number)?;
-                }
-                Ok(true)
-            }
-            Err(TraceFault::NoTrace) => Ok(true),
-            Err(TraceFault::Memory) => Err(AllocError),
-            Err(_) => Ok(false),
+        let ToldLine::Traces(traces) = told else {
+            return Ok(false);
+        };
+        let start = self.bytes;
+        self.lines.push(Line { start, length })?;
+        self.bytes = start.saturating_add(length as u64);
+        for trace in traces {
+            self.add_spans(alloc, trace, number)?;
         }
+        Ok(true)
     }
 
-    /// How many spans the traces of these numbers have.
-    fn spans_between(&self, from: usize, end: usize) -> usize {
+    /// Adds the lines of a piece with what each tells, and answers whether all are texts by themselves.
+    fn add_piece(
+        &mut self,
+        alloc: Global,
+        piece: &Piece,
+        told: Vec<ToldLine>,
+    ) -> Result<bool, AllocError> {
+        for (length, told) in piece.lengths().iter().zip(told) {
+            if !self.add_line(alloc, *length, told)? {
+                return Ok(false);
+            }
+        }
+        Ok(true)
+    }
+
+    /// Adds the lines of pieces, which so many workers read, and answers whether all are texts by themselves.
+    fn add_pieces<H: Threads + Sync>(
+        &mut self,
+        alloc: Global,
+        threads: &H,
+        workers: Workers,
+        pieces: &[Piece],
+    ) -> Result<bool, AllocError> {
+        let all = told_pieces(alloc, threads, workers, pieces)?;
+        for (piece, told) in pieces.iter().zip(all) {
+            if !self.add_piece(alloc, piece, told?)? {
+                return Ok(false);
+            }
+        }
+        Ok(true)
+    }
+
+    /// How many spans all traces have.
+    fn spans(&self) -> usize {
         let mut spans: usize = 0;
-        for number in from..end.min(self.traces.len()) {
-            spans = spans.saturating_add(self.traces[number].spans);
+        for trace in &self.traces {
+            spans = spans.saturating_add(trace.spans);
         }
         spans
     }
 
-    /// How many bytes the lines have on which a trace has spans.
-    fn bytes_of(&self, trace: &Indexed) -> usize {
-        let mut bytes: usize = 0;
-        for number in &trace.lines {
-            if let Some(line) = self.lines.get(*number as usize) {
-                bytes = bytes.saturating_add(line.length);
-            }
-        }
-        bytes
-    }
-
-    /// The end of the traces that are read together from a number on: as many as are within the batch, and at least one.
-    fn end_of(&self, from: usize, most: Batch) -> usize {
+    /// The end of the traces that are read together from a number on: as many as have that many spans at most, and at least one.
+    fn end_of(&self, from: usize, most: usize) -> usize {
         let mut spans: usize = 0;
-        let mut bytes: usize = 0;
         for number in from..self.traces.len() {
-            let trace = &self.traces[number];
-            spans = spans.saturating_add(trace.spans);
-            bytes = bytes.saturating_add(self.bytes_of(trace));
-            if number > from && (spans > most.spans || bytes > most.bytes) {
+            spans = spans.saturating_add(self.traces[number].spans);
+            if number > from && spans > most {
                 return number;
             }
         }
@@ -156,8 +171,8 @@ impl Index {
         Ok(lines)
     }
 
-    /// How many lines are read where so much is read at once.
-    fn lines_read(&self, alloc: Global, most: Batch) -> Result<usize, AllocError> {
+    /// How many lines are read where so many spans are read at once.
+    fn lines_read(&self, alloc: Global, most: usize) -> Result<usize, AllocError> {
         let mut read: usize = 0;
         let mut from: usize = 0;
         for _ in 0..self.traces.len() {
@@ -170,18 +185,14 @@ impl Index {
         Ok(read)
     }
 
-    /// How much is read at once: little where the traces come one after the other, and else a part of all spans, so that lines which mix
+    /// How many spans are read at once: few where the traces come one after the other, and else a part of all, so that lines which mix
     /// traces are not read too often.
-    pub(crate) fn most_at_once(&self, alloc: Global) -> Result<Batch, AllocError> {
+    pub(crate) fn most_at_once(&self, alloc: Global) -> Result<usize, AllocError> {
         let twice = self.lines.len().saturating_mul(2);
         if self.lines_read(alloc, AT_ONCE)? <= twice {
             return Ok(AT_ONCE);
         }
-        let all = self.spans_between(0, self.traces.len());
-        Ok(Batch {
-            spans: AT_ONCE.spans.max(all / PARTS),
-            bytes: usize::MAX,
-        })
+        Ok(AT_ONCE.max(self.spans() / BATCHES))
     }
 
     /// Whether a trace is one of these numbers.
@@ -199,33 +210,135 @@ impl Index {
         })
     }
 
-    /// The traces from a number on, of which there are as many as are within a batch, and the number of the one behind them.
-    pub(crate) fn read_from<T: TextOfLines>(
+    /// Adds what a line tells of the traces of these numbers, and answers whether it is still a text that tells spans.
+    fn push_own(
+        &self,
+        alloc: Global,
+        line: &[u8],
+        from: usize,
+        end: usize,
+        parts: &mut Vec<Trace>,
+    ) -> Result<bool, AllocError> {
+        let traces = match traces_in(alloc, line) {
+            Ok(traces) => traces,
+            Err(TraceFault::Memory) => return Err(AllocError),
+            Err(_) => return Ok(false),
+        };
+        for trace in traces {
+            if self.is_between(alloc, &trace, from, end)? {
+                parts.push(trace)?;
+            }
+        }
+        Ok(true)
+    }
+
+    /// What the lines of the piece of a number tell of the traces of these numbers; nothing where one tells no span any more.
+    fn own_numbered(
+        &self,
+        alloc: Global,
+        pieces: &[Piece],
+        number: u32,
+        from: usize,
+        end: usize,
+    ) -> Result<Option<Vec<Trace>>, AllocError> {
+        let mut parts = Vec::new(alloc);
+        let Some(piece) = pieces.get(number as usize) else {
+            return Ok(Some(parts));
+        };
+        for line in &piece.lines(alloc)? {
+            if !self.push_own(alloc, *line, from, end, &mut parts)? {
+                return Ok(None);
+            }
+        }
+        Ok(Some(parts))
+    }
+
+    /// Adds what pieces tell of the traces of these numbers. So many workers read them.
+    fn add_parts<H: Threads + Sync>(
         &self,
         alloc: Global,
         voice: Voice<'_>,
+        threads: &H,
+        workers: Workers,
+        pieces: &[Piece],
+        from: usize,
+        end: usize,
+        parts: &mut Vec<Trace>,
+    ) -> Result<(), Fault> {
+        let all = found_beside(
+            alloc,
+            threads,
+            workers,
+            count_of(pieces)?,
+            &|number: u32| -> Result<Option<Vec<Trace>>, AllocError> {
+                self.own_numbered(alloc, pieces, number, from, end)
+            },
+        )?;
+        for own in all {
+            let Some(own) = own? else {
+                return Err(changed(voice));
+            };
+            add_all(parts, own)?;
+        }
+        Ok(())
+    }
+
+    /// What lines tell of the traces of these numbers, in parts. So many workers read them.
+    fn parts_between<T: TextOfLines, H: Threads + Sync>(
+        &self,
+        alloc: Global,
+        voice: Voice<'_>,
+        threads: &H,
+        workers: Workers,
         text: &T,
         from: usize,
-        most: Batch,
-    ) -> Result<(Vec<Trace>, usize), Fault> {
-        let end = self.end_of(from, most);
-        let mut bytes = Vec::new(alloc);
+        end: usize,
+    ) -> Result<Vec<Trace>, Fault> {
+        let mut parts = Vec::new(alloc);
+        let mut pieces = Pieces::new(alloc, workers);
         for (number, ()) in &self.lines_of(alloc, from, end)? {
             if let Some(line) = self.lines.get(*number as usize) {
-                text.push_line(voice, *line, &mut bytes)?;
+                text.push_line(voice, *line, pieces.open_bytes())?;
+                pieces.end_line(line.length)?;
+            }
+            if pieces.are_enough() {
+                let some = pieces.take()?;
+                self.add_parts(alloc, voice, threads, workers, &some, from, end, &mut parts)?;
             }
         }
-        let mut own = Vec::new(alloc);
-        for trace in read_again(alloc, voice, &bytes)? {
-            if self.is_between(alloc, &trace, from, end)? {
-                push_trace(&mut own, trace)?;
-            }
-        }
-        if own.len() != end.saturating_sub(from) {
+        let last = pieces.take()?;
+        self.add_parts(alloc, voice, threads, workers, &last, from, end, &mut parts)?;
+        Ok(parts)
+    }
+
+    /// The traces from a number on, of which there are as many as have so many spans, and the number of the one behind them. So many
+    /// workers read their lines.
+    pub(crate) fn read_from<T: TextOfLines, H: Threads + Sync>(
+        &self,
+        alloc: Global,
+        voice: Voice<'_>,
+        threads: &H,
+        workers: Workers,
+        text: &T,
+        from: usize,
+        most: usize,
+    ) -> Result<(Vec<Trace>, usize), Fault> {
+        let end = self.end_of(from, most);
+        let parts = self.parts_between(alloc, voice, threads, workers, text, from, end)?;
+        let traces = joined_traces(alloc, parts)?;
+        if traces.len() != end.saturating_sub(from) {
             return Err(changed(voice));
         }
-        Ok((own, end))
+        Ok((traces, end))
     }
+}
+
+/// Adds traces at the end.
+fn add_all(parts: &mut Vec<Trace>, own: Vec<Trace>) -> Result<(), AllocError> {
+    for part in own {
+        parts.push(part)?;
+    }
+    Ok(())
 }
 
 /// That a file is not as it was when it was read before.
@@ -233,39 +346,27 @@ fn changed(voice: Voice<'_>) -> Fault {
     Fault::Read(voice.text("it has changed while it was read"))
 }
 
-/// The traces of lines that were read before.
-fn read_again(alloc: Global, voice: Voice<'_>, bytes: &[u8]) -> Result<Vec<Trace>, Fault> {
-    match traces_in(alloc, bytes) {
-        Ok(traces) => Ok(traces),
-        Err(TraceFault::Memory) => Err(Fault::Memory),
-        Err(TraceFault::TooLong) => {
-            let why = voice.text(
-                "lines that have to be read together have more than 268435456 bytes",
-            );
-            Err(Fault::NotImported(ImportFault::Refused(TraceFault::TooLong), why))
-        }
-        // (each was a text then)
-        Err(_) => Err(changed(voice)),
-    }
-}
-
-/// Adds a trace.
-fn push_trace(traces: &mut Vec<Trace>, trace: Trace) -> Result<(), AllocError> {
-    traces.push(trace)?;
-    Ok(())
-}
-
-/// The traces of a file by its lines, where it has several and each is a text of its own.
-pub(crate) fn index_of<B: BufRead>(
+/// The traces of a file by its lines, where it has several and each is a text of its own. So many workers read the lines.
+pub(crate) fn index_of<B: BufRead, H: Threads + Sync>(
     alloc: Global,
     voice: Voice<'_>,
+    threads: &H,
+    workers: Workers,
     reader: &mut B,
 ) -> Result<Option<Index>, Fault> {
     let mut index = Index::new(alloc);
-    let mut text = Vec::new(alloc);
-    let mut start: u64 = 0;
+    let mut pieces = Pieces::new(alloc, workers);
     for _ in 0..MOST_LINES {
-        let length = read_line(voice, reader, &mut text)?;
+        let length = read_line(voice, reader, pieces.open_bytes())?;
+        if length > 0 {
+            pieces.end_line(length)?;
+        }
+        if length == 0 || pieces.are_enough() {
+            let some = pieces.take()?;
+            if !index.add_pieces(alloc, threads, workers, &some)? {
+                return Ok(None);
+            }
+        }
         if length == 0 {
             return Ok(if index.lines.len() > 1 {
                 Some(index)
@@ -273,10 +374,6 @@ pub(crate) fn index_of<B: BufRead>(
                 None
             });
         }
-        if !index.add_line(alloc, Line { start, length }, &text)? {
-            return Ok(None);
-        }
-        start = start.saturating_add(length as u64);
     }
     Ok(None)
 }

@@ -68,6 +68,7 @@ pub(crate) fn begins_with_recording<B: BufRead>(
 ) -> Result<bool, Fault> {
     let mut line = Vec::new(alloc);
     for _ in 0..MOST_LINES {
+        line.clear();
         let length = read_line(voice, reader, &mut line)?;
         let is_blank = line.iter().all(|byte| byte.is_ascii_whitespace());
         if length == 0 || !is_blank {

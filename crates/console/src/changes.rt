@@ -1,9 +1,9 @@
 //! Words that are changes, and what people are told of those that are none.
 use crate::fault::Fault;
 use change_words::{Change, KEYS, Key, Misread, ReadFault, Wrong};
-use diagnosis::Quoted;
+use diagnosis::{Quoted, read_again};
+use json::Scratch;
 use json_names::nearest;
-use serde_json::Value;
 use std::alloc::{AllocError, Global};
 use std::fmt;
 
@@ -244,13 +244,13 @@ fn plain_parts(word: &str) -> (&str, &str) {
 
 /// The text that a JSON string is.
 fn unquoted(alloc: Global, quoted: &str) -> Result<Option<String>, AllocError> {
-    match Value::from_str(alloc, quoted) {
-        Ok(value) => match value.as_str() {
-            Some(text) => Ok(Some(String::from_str(alloc, text)?)),
-            None => Ok(None),
-        },
-        Err(error) if error.is_memory() => Err(AllocError),
-        Err(_) => Ok(None),
+    let mut room = Scratch::new(alloc);
+    let Some(document) = read_again(alloc, quoted.as_bytes(), &mut room)? else {
+        return Ok(None);
+    };
+    match document.root().as_str() {
+        Some(text) => Ok(Some(String::from_str(alloc, text)?)),
+        None => Ok(None),
     }
 }
 

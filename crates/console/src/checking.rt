@@ -1,12 +1,13 @@
 //! Every fault of a recording, and every member that nothing reads.
-use crate::explaining::{value_of, why_refused};
+use crate::explaining::why_refused;
 use crate::fault::Fault;
 use crate::file_name::FileName;
 use crate::input;
 use crate::remembering::{Remembering, with_reason};
 use crate::voice::Voice;
 use command_line::{Input, Manner};
-use diagnosis::{Findings, Lined, examine_recording, lines_of, trace_like};
+use diagnosis::{Findings, Lined, examine_recording, lines_of, read_again, trace_like};
+use json::Scratch;
 use recording::{Fault as ReadingFault, read_recording};
 use stage_graph::{Graph, InShared};
 use std::alloc::{AllocError, Global};
@@ -84,14 +85,16 @@ fn write_check<W: Write>(
     refusal: &Option<ReadingFault>,
 ) -> Result<(io::Result<()>, bool), Fault> {
     let file = voice.file();
-    let Some(value) = value_of(alloc, recording)? else {
+    let mut room = Scratch::new(alloc);
+    let Some(document) = read_again(alloc, recording, &mut room)? else {
         let written = write_refusal(alloc, writer, voice, recording, refusal)?;
         return Ok((written, false));
     };
-    if let (Some(kind), true) = (trace_like(&value), refusal.is_some()) {
+    let root = document.root();
+    if let (Some(kind), true) = (trace_like(&root), refusal.is_some()) {
         return Ok((writeln!(writer, "{file}: {kind}"), false));
     }
-    let findings = examine_recording(alloc, recording, &value)?;
+    let findings = examine_recording(alloc, &root)?;
     let lines = lines_if_refused(alloc, recording, &findings, refusal)?;
     let mut written = write_findings(writer, file, &findings, lines.as_slice());
     if written.is_ok() && !is_told(&findings, refusal) {

@@ -2,12 +2,14 @@
 use crate::fault::Fault;
 use crate::voice::Voice;
 use diagnosis::{
-    TraceLike, beginning_of, examine_recording, json_fault, line_of_stage, may_be_unread,
-    nearest_stage, trace_like, with_line,
+    Glimpse, Lined, StageAt, StageFault, TraceLike, beginning_of, examine_glimpse,
+    examine_recording, first_wrong_stage, glance_at, json_fault, line_of_stage, nearest_stage,
+    read_again, stage_at, trace_like, with_line,
 };
+use json::Scratch;
 use json_names::circle_of;
+use json_trees::Tree;
 use recording::Fault as ReadingFault;
-use serde_json::{Category, Value};
 use std::alloc::{AllocError, Global};
 use std::fmt::Display;
 use std::str;
@@ -15,25 +17,17 @@ use std::str;
 /// How many warnings are told of one recording; `check` tells all.
 const MOST_WARNINGS: usize = 20;
 
+/// The number by which a wrong form is refused.
+const WRONG_FORM: u32 = 71;
+
 /// The most bytes of a recording.
 const LONGEST: usize = 67_108_864;
-
-/// The JSON value of a recording, if it is JSON.
-pub(crate) fn value_of(alloc: Global, recording: &[u8]) -> Result<Option<Value>, AllocError> {
-    match Value::from_slice(alloc, recording) {
-        Ok(value) => Ok(Some(value)),
-        Err(error) => match error.classify() {
-            Category::Memory => Err(AllocError),
-            _ => Ok(None),
-        },
-    }
-}
 
 /// Tells of members that nothing reads. Where that is to end the program it does, and where memory is out so that this
 /// can't be known.
 pub fn warn(alloc: Global, voice: Voice<'_>, recording: &[u8]) -> Result<(), Fault> {
     let is_asked = !voice.is_quiet() || voice.is_strict();
-    if !is_asked || recording.len() > LONGEST || !may_be_unread(recording) {
+    if !is_asked || recording.len() > LONGEST {
         return Ok(());
     }
     match warnings_told(alloc, voice, recording) {
@@ -43,12 +37,17 @@ pub fn warn(alloc: Global, voice: Voice<'_>, recording: &[u8]) -> Result<(), Fau
     }
 }
 
-/// Tells the warnings, and answers how many there are.
+/// Tells the warnings, and answers how many there are. Of most recordings there is nothing to tell, and a glance shows it.
 fn warnings_told(alloc: Global, voice: Voice<'_>, recording: &[u8]) -> Result<usize, AllocError> {
-    let Some(value) = value_of(alloc, recording)? else {
+    let glimpse = glance_at(alloc, recording)?;
+    if let Glimpse::Nothing = glimpse {
+        return Ok(0);
+    }
+    let mut room = Scratch::new(alloc);
+    let Some(document) = read_again(alloc, recording, &mut room)? else {
         return Ok(0);
     };
-    let findings = examine_recording(alloc, recording, &value)?;
+    let findings = examine_glimpse(alloc, &document.root(), &glimpse)?;
     let warnings = findings.warnings();
     for warning in warnings.iter().take(MOST_WARNINGS) {
         voice.say_of_file(*warning);
@@ -94,6 +93,15 @@ pub(crate) fn told<T: Display + Drop>(
     }
 }
 
+/// Which trace a text is, if it is one.
+fn trace_in(alloc: Global, text: &[u8]) -> Result<Option<TraceLike>, AllocError> {
+    let mut room = Scratch::new(alloc);
+    match read_again(alloc, text, &mut room)? {
+        Some(document) => Ok(trace_like(&document.root())),
+        None => Ok(None),
+    }
+}
+
 /// Which trace bytes are, of which each line is a JSON text, if they are one.
 fn trace_by_lines(alloc: Global, recording: &[u8]) -> Result<Option<TraceLike>, AllocError> {
     let Ok(text) = str::from_utf8(recording) else {
@@ -102,8 +110,7 @@ fn trace_by_lines(alloc: Global, recording: &[u8]) -> Result<Option<TraceLike>, 
     for line in text.split('\n') {
         let bytes = line.trim().as_bytes();
         if !bytes.is_empty() {
-            let value = value_of(alloc, bytes)?;
-            return Ok(value.as_ref().and_then(|value| trace_like(value)));
+            return trace_in(alloc, bytes);
         }
     }
     Ok(None)
@@ -131,12 +138,32 @@ fn why_shape(
     recording: &[u8],
     member: &str,
 ) -> Result<Option<String>, AllocError> {
-    let Some(value) = value_of(alloc, recording)? else {
+    if let Some(stage) = first_wrong_stage(alloc, recording, member)? {
+        let fault = FaultOf {
+            number: WRONG_FORM,
+            place: None,
+            member: Some(member),
+        };
+        return why_stage(alloc, voice, recording, stage, fault);
+    }
+    let mut room = Scratch::new(alloc);
+    let Some(document) = read_again(alloc, recording, &mut room)? else {
         return Ok(None);
     };
-    match trace_like(&value) {
+    let root = document.root();
+    match trace_like(&root) {
         Some(kind) => told(voice, kind),
-        None => why_in(alloc, voice, recording, &value, 71, None, Some(member)),
+        None => why_in(
+            alloc,
+            voice,
+            recording,
+            &root,
+            FaultOf {
+                number: WRONG_FORM,
+                place: None,
+                member: Some(member),
+            },
+        ),
     }
 }
 
@@ -148,39 +175,77 @@ fn why_at(
     number: u32,
     place: usize,
 ) -> Result<Option<String>, AllocError> {
-    match value_of(alloc, recording)? {
-        Some(value) => why_in(alloc, voice, recording, &value, number, Some(place), None),
+    let fault = FaultOf {
+        number,
+        place: Some(place),
+        member: None,
+    };
+    match stage_at(recording, place) {
+        Some(stage) => why_stage(alloc, voice, recording, stage, fault),
+        None => why_by_all(alloc, voice, recording, fault),
+    }
+}
+
+/// Which fault of a recording is told: by its number, and by the place of its stage or by its member.
+#[derive(Clone, Copy)]
+struct FaultOf<'a> {
+    number: u32,
+    place: Option<usize>,
+    member: Option<&'a str>,
+}
+
+/// The fault at a stage, which is read by itself where that is enough.
+fn why_stage(
+    alloc: Global,
+    voice: Voice<'_>,
+    recording: &[u8],
+    stage: StageAt<'_>,
+    fault: FaultOf<'_>,
+) -> Result<Option<String>, AllocError> {
+    let mut room = Scratch::new(alloc);
+    let mut room_before = Scratch::new(alloc);
+    let Some(findings) = stage.examine(alloc, fault.number, &mut room, &mut room_before)? else {
+        return why_by_all(alloc, voice, recording, fault);
+    };
+    let Some(finding) = findings.explanation(fault.number, fault.place, fault.member) else {
+        return Ok(None);
+    };
+    let line = stage.line_of(alloc, finding)?;
+    told(voice, Lined { line, finding })
+}
+
+/// The same, for which all stages are read.
+fn why_by_all(
+    alloc: Global,
+    voice: Voice<'_>,
+    recording: &[u8],
+    fault: FaultOf<'_>,
+) -> Result<Option<String>, AllocError> {
+    let mut room = Scratch::new(alloc);
+    match read_again(alloc, recording, &mut room)? {
+        Some(document) => why_in(alloc, voice, recording, &document.root(), fault),
         None => Ok(None),
     }
 }
 
-/// The fault of a number, at a place or of a member.
+/// A fault of a recording.
 fn why_in(
     alloc: Global,
     voice: Voice<'_>,
     recording: &[u8],
-    value: &Value,
-    number: u32,
-    place: Option<usize>,
-    member: Option<&str>,
+    value: &Tree<'_, '_>,
+    fault: FaultOf<'_>,
 ) -> Result<Option<String>, AllocError> {
-    let findings = examine_recording(alloc, recording, value)?;
-    match findings.explanation(number, place, member) {
+    let findings = examine_recording(alloc, value)?;
+    match findings.explanation(fault.number, fault.place, fault.member) {
         Some(finding) => told(voice, with_line(alloc, recording, finding)?),
         None => Ok(None),
     }
 }
 
 /// The line of the first of several stages, where it is known.
-fn line_of_first(
-    alloc: Global,
-    recording: &[u8],
-    places: &[u32],
-) -> Result<Option<usize>, AllocError> {
-    match places.first() {
-        Some(place) => line_of_stage(alloc, recording, *place as usize),
-        None => Ok(None),
-    }
+fn line_of_first(recording: &[u8], places: &[u32]) -> Option<usize> {
+    line_of_stage(recording, *places.first()? as usize)
 }
 
 /// The names of stages that wait for each other, and the line of the first of them.
@@ -190,13 +255,14 @@ fn why_circle(
     recording: &[u8],
     places: &[u32],
 ) -> Result<Option<String>, AllocError> {
-    let Some(value) = value_of(alloc, recording)? else {
+    let mut room = Scratch::new(alloc);
+    let Some(document) = read_again(alloc, recording, &mut room)? else {
         return Ok(None);
     };
-    let Some(circle) = circle_of(alloc, &value, places)? else {
+    let Some(circle) = circle_of(alloc, &document.root(), places)? else {
         return Ok(None);
     };
-    match line_of_first(alloc, recording, places)? {
+    match line_of_first(recording, places) {
         Some(line) => told(voice, format_args!("line {line}: {circle}")),
         None => told(voice, circle),
     }
@@ -212,8 +278,20 @@ pub fn why_no_stage(
     if voice.is_quiet() {
         return None;
     }
-    let value = Value::from_slice(alloc, recording).ok()?;
-    voice.text(nearest_stage(alloc, &value, name).ok()?)
+    let mut room = Scratch::new(alloc);
+    let document = read_again(alloc, recording, &mut room).ok()??;
+    why_no_stage_in(alloc, voice, &document.root(), name)
+}
+
+/// The same of a recording that is read.
+fn why_no_stage_in(
+    alloc: Global,
+    voice: Voice<'_>,
+    recording: &Tree<'_, '_>,
+    name: &str,
+) -> Option<String> {
+    let near = nearest_stage(alloc, recording, name).ok()?;
+    voice.text(StageFault::NoStage { name, near })
 }
 
 /// The end, with the explanation of a recording that is refused.

@@ -1,10 +1,11 @@
 //! Why a trace makes no recording.
-use crate::explaining::{told, value_of};
+use crate::explaining::told;
 use crate::fault::Fault;
 use crate::guesses::tell_notes;
 use crate::not_made::NotMade;
 use crate::voice::Voice;
-use diagnosis::{Quoted, beginning_of, json_fault};
+use diagnosis::{Quoted, beginning_of, json_fault, read_again};
+use json::Scratch;
 use std::alloc::{AllocError, Global};
 use std::fmt::Write;
 use std::str;
@@ -136,6 +137,22 @@ fn why_no_json(
     }
 }
 
+/// Whether bytes are a JSON text.
+fn is_json(alloc: Global, bytes: &[u8]) -> Result<bool, AllocError> {
+    let mut room = Scratch::new(alloc);
+    let document = read_again(alloc, bytes, &mut room)?;
+    Ok(document.is_some())
+}
+
+/// Whether bytes are a JSON text with stages.
+fn has_stages(alloc: Global, bytes: &[u8]) -> Result<bool, AllocError> {
+    let mut room = Scratch::new(alloc);
+    match read_again(alloc, bytes, &mut room)? {
+        Some(document) => Ok(document.root().get("stages").is_some()),
+        None => Ok(false),
+    }
+}
+
 /// The number of the first line that is no JSON text; none where the bytes are no UTF-8.
 fn bad_line(alloc: Global, trace: &[u8]) -> Result<Option<usize>, AllocError> {
     let Ok(text) = str::from_utf8(trace) else {
@@ -145,7 +162,7 @@ fn bad_line(alloc: Global, trace: &[u8]) -> Result<Option<usize>, AllocError> {
     for line in text.split('\n') {
         number = number.saturating_add(1);
         let bytes = line.trim().as_bytes();
-        if !bytes.is_empty() && value_of(alloc, bytes)?.is_none() {
+        if !bytes.is_empty() && !is_json(alloc, bytes)? {
             return Ok(Some(number));
         }
     }
@@ -207,11 +224,7 @@ fn why_no_trace(
     trace: &[u8],
     fault: &TraceFault,
 ) -> Result<Option<String>, AllocError> {
-    let value = value_of(alloc, trace)?;
-    if value
-        .as_ref()
-        .is_some_and(|value| value.get("stages").is_some())
-    {
+    if has_stages(alloc, trace)? {
         return told(
             voice,
             "it looks like a recording: whatif report takes it as it is",

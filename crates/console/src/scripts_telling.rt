@@ -2,9 +2,10 @@
 use crate::kept_script::KeptScript;
 use crate::listening::{MOST_KEPT, is_json_refusal, may_be_refusal};
 use crate::step_telling::StepTeller;
-use diagnosis::Refusal;
+use diagnosis::{Refusal, read_again};
+use json::Scratch;
+use json_trees::Tree;
 use memchr::memchr;
-use serde_json::{Category, Value};
 use std::alloc::{AllocError, Global};
 use std::str;
 
@@ -18,27 +19,32 @@ fn lines_after(alloc: Global, step: &[u8], first: &str) -> Result<usize, AllocEr
     if !is_report || first.starts_with('{') || Refusal::of_answer(first).is_some() {
         return Ok(0);
     }
-    let step = match Value::from_slice(alloc, step) {
-        Ok(step) => step,
-        Err(error) => {
-            return match error.classify() {
-                Category::Memory => Err(AllocError),
-                _ => Ok(0),
-            };
-        }
-    };
-    if step.get("do").and_then(|what| what.as_str()) != Some("report") {
-        return Ok(0);
+    let mut room = Scratch::new(alloc);
+    match read_again(alloc, step, &mut room)? {
+        Some(document) => Ok(lines_of_report(&document.root(), first)),
+        None => Ok(0),
     }
-    match step.get("what").and_then(|what| what.as_str()) {
-        Some("one") => Ok(4),
-        Some("blame") => Ok(0),
+}
+
+/// The text that a member of a step is.
+fn text_in<'a>(step: &Tree<'_, 'a>, member: &str) -> Option<&'a str> {
+    step.get(member)?.as_str()
+}
+
+/// How many lines follow the first one of the answer to a step as text: none, but for a report.
+fn lines_of_report(step: &Tree<'_, '_>, first: &str) -> usize {
+    if text_in(step, "do") != Some("report") {
+        return 0;
+    }
+    match text_in(step, "what") {
+        Some("one") => 4,
+        Some("blame") => 0,
         _ => {
             let count = match first.rsplit_once(' ') {
                 Some((_, count)) => count,
                 None => first,
             };
-            Ok(count.parse::<usize>().unwrap_or(0))
+            count.parse::<usize>().unwrap_or(0)
         }
     }
 }

@@ -5,9 +5,11 @@ use crate::json_refusal::text_of_refusal;
 use crate::listening::{is_json_refusal, may_be_refusal};
 use crate::voice::Voice;
 use diagnosis::{
-    Findings, KnownStages, Refusal, examine_step, explain_step, json_fault, may_step_be_unread,
+    Findings, KnownStages, Refusal, asked_step, examine_step, explain_step, json_fault,
+    may_step_be_unread, read_again,
 };
-use serde_json::Value;
+use json::Scratch;
+use json_trees::Tree;
 use std::alloc::{AllocError, Global};
 
 /// Of how many lines of a script something is told.
@@ -46,6 +48,15 @@ fn first_line(answer: &[u8]) -> Option<&str> {
         None => answer.len(),
     };
     str::from_utf8(&answer[..end]).ok()
+}
+
+/// Adds the names of the stages of a recording that was read before.
+fn add_names(alloc: Global, recording: &[u8], known: &mut KnownStages) -> Result<(), AllocError> {
+    let mut room = Scratch::new(alloc);
+    match read_again(alloc, recording, &mut room)? {
+        Some(document) => known.add_of_recording(&document.root()),
+        None => Ok(()),
+    }
 }
 
 impl<'a> StepTeller<'a> {
@@ -133,11 +144,7 @@ impl<'a> StepTeller<'a> {
         if self.recording.is_empty() {
             return Ok(());
         }
-        // (it was read once, so only memory can run out)
-        let Ok(recording) = Value::from_slice(self.alloc, self.recording.as_slice()) else {
-            return Err(AllocError);
-        };
-        self.known.add_of_recording(&recording)?;
+        add_names(self.alloc, self.recording.as_slice(), &mut self.known)?;
         self.recording = Vec::new(self.alloc);
         Ok(())
     }
@@ -147,7 +154,7 @@ impl<'a> StepTeller<'a> {
         &mut self,
         number: u64,
         findings: &Findings<'_>,
-        step: &Value,
+        step: &Tree<'_, '_>,
         refusal: Refusal<'_>,
     ) -> Result<(), AllocError>
         ensures strict { self.new.is_strict ≡ self.old.is_strict }
@@ -156,7 +163,8 @@ impl<'a> StepTeller<'a> {
         if refusal.is_of_names() {
             self.read_names()?;
         }
-        let refused = explain_step(findings, step, refusal, &mut self.known)?;
+        let asked = asked_step(step, refusal, &self.known);
+        let refused = explain_step(findings, asked, refusal, &mut self.known)?;
         self.voice.say_of_line(number, refused);
         Ok(())
     }
@@ -176,7 +184,8 @@ impl<'a> StepTeller<'a> {
                 .say_of_line(number, "the step has more than 65536 bytes");
             return Ok(());
         }
-        let Ok(step) = Value::from_slice(self.alloc, line) else {
+        let mut room = Scratch::new(self.alloc);
+        let Some(document) = read_again(self.alloc, line, &mut room)? else {
             self.told = self.told.saturating_add(1);
             let fault = json_fault(self.alloc, line)?;
             let (column, unmet) = (fault.column, fault.unmet);
@@ -184,7 +193,8 @@ impl<'a> StepTeller<'a> {
                 .say_of_line(number, format_args!("column {column}: {unmet}"));
             return Ok(());
         };
-        let findings = examine_step(self.alloc, line, &step)?;
+        let step = document.root();
+        let findings = examine_step(self.alloc, &step)?;
         if refusal.is_some() || !findings.warnings().is_empty() {
             self.told = self.told.saturating_add(1);
         }

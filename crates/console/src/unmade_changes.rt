@@ -1,8 +1,9 @@
 //! Why changes make no edits of a recording.
 use crate::voice::Voice;
 use change_words::{Change, MakingFault};
-use diagnosis::{Quoted, nearest_stage};
-use serde_json::Value;
+use diagnosis::{Quoted, StageFault, nearest_stage, read_again};
+use json::Scratch;
+use json_trees::Tree;
 use stage_graph::Refusal;
 use std::alloc::Global;
 use std::fmt;
@@ -130,6 +131,32 @@ fn why_no_name(voice: Voice<'_>, word: Word<'_>, name: &str) -> Option<String> {
     None
 }
 
+/// That no stage of a recording has the name in a word, and which one is like it.
+fn why_unknown(
+    alloc: Global,
+    voice: Voice<'_>,
+    recording: &[u8],
+    word: Word<'_>,
+    name: &str,
+) -> Option<String> {
+    let mut room = Scratch::new(alloc);
+    let document = read_again(alloc, recording, &mut room).ok()??;
+    why_unknown_in(alloc, voice, &document.root(), word, name)
+}
+
+/// The same of a recording that is read.
+fn why_unknown_in(
+    alloc: Global,
+    voice: Voice<'_>,
+    recording: &Tree<'_, '_>,
+    word: Word<'_>,
+    name: &str,
+) -> Option<String> {
+    let near = nearest_stage(alloc, recording, name).ok()?;
+    let why = StageFault::NoStage { name, near };
+    voice.text(format_args!("{word}: {why}"))
+}
+
 /// That there is no stage of a change's name; which one is like it, or that no name was given.
 fn why_missing(
     alloc: Global,
@@ -142,9 +169,7 @@ fn why_missing(
     if let Some(why) = why_no_name(voice, word, name) {
         return Some(why);
     }
-    let recording = Value::from_slice(alloc, recording).ok()?;
-    let why = nearest_stage(alloc, &recording, name).ok()?;
-    voice.text(format_args!("{word}: {why}"))
+    why_unknown(alloc, voice, recording, word, name)
 }
 
 /// Why an edit that a change makes is refused; where its stage is missing, which one is like it.

@@ -1,6 +1,8 @@
 //! What is wrong in an action.
+use crate::finding::Found;
+use crate::items::count_items;
 use crate::wanted::Wanted;
-use serde_json::Value;
+use json_trees::{Items, Tree};
 use std::alloc::{AllocError, Global};
 
 /// How large an expression is.
@@ -11,12 +13,12 @@ pub(crate) struct Size {
 }
 
 /// What stands in the place of an expression, and what is wanted there.
-type Mistake<'a> = (&'a Value, Wanted);
+type Mistake<'a> = (Found<'a>, Wanted);
 
-/// An expression that is still to be looked at, and how deep it stands.
-#[derive(Clone, Copy)]
-struct Waiting<'a> {
-    value: &'a Value,
+/// Expressions that are still to be looked at, and how deep they stand.
+#[derive(Drop)]
+struct Waiting<'t, 'a> {
+    items: Items<'t, 'a>,
     depth: usize,
 }
 
@@ -44,78 +46,132 @@ fn operands_behind(word: &str) -> Option<Operands> {
     }
 }
 
+/// How many operands stand behind the word of an expression.
+fn operand_count(expression: &Tree<'_, '_>) -> usize {
+    match expression.as_array() {
+        Some(mut items) => count_items(&mut items).saturating_sub(1),
+        None => 0,
+    }
+}
+
 /// No expressions, where an operand that is none is what is wanted.
-fn none_in<'a>(operand: &'a Value, fits: bool, wanted: Wanted) -> Result<&'a [Value], Mistake<'a>> {
+fn none_in<'t, 'a>(
+    operand: &Tree<'t, 'a>,
+    fits: bool,
+    wanted: Wanted,
+) -> Result<Items<'t, 'a>, Mistake<'a>> {
     if fits {
-        Ok(&[])
+        Ok(Items::none())
     } else {
-        Err((operand, wanted))
+        Err((Found::of(operand), wanted))
+    }
+}
+
+/// No expressions, where the only operand is what a word wants.
+fn none_behind<'t, 'a>(
+    expected: Operands,
+    operand: &Tree<'t, 'a>,
+) -> Result<Items<'t, 'a>, Mistake<'a>> {
+    match expected {
+        Operands::Position => {
+            let fits = matches!(operand.as_u64(), Some(0 | 1));
+            none_in(operand, fits, Wanted::Position)
+        }
+        _ => {
+            let fits = Wanted::Exception.is_met_by(operand);
+            none_in(operand, fits, Wanted::Exception)
+        }
     }
 }
 
 /// The operands that are expressions themselves.
-fn operands_of<'a>(value: &'a Value, items: &'a [Value]) -> Result<&'a [Value], Mistake<'a>> {
-    let [head, operands @ ..] = items else {
-        return Err((value, Wanted::Action));
+fn operands_of<'t, 'a>(value: &Tree<'t, 'a>) -> Result<Items<'t, 'a>, Mistake<'a>> {
+    let Some(mut items) = value.as_array() else {
+        return Err((Found::of(value), Wanted::Action));
+    };
+    let Some(head) = items.next() else {
+        return Err((Found::of(value), Wanted::Action));
     };
     let Some(expected) = head.as_str().and_then(operands_behind) else {
-        return Err((head, Wanted::Action));
+        return Err((Found::of(&head), Wanted::Action));
     };
-    match (expected, operands) {
-        (Operands::Position, [position]) => {
-            let fits = matches!(position.as_u64(), Some(0 | 1));
-            none_in(position, fits, Wanted::Position)
-        }
-        (Operands::Name, [name]) => {
-            none_in(name, Wanted::Exception.is_met_by(name), Wanted::Exception)
-        }
-        (Operands::Expressions(count), _) if count == operands.len() => Ok(operands),
-        _ => Err((value, Wanted::Operands)),
+    let given = operand_count(value);
+    let wanted = match expected {
+        Operands::Expressions(count) => count,
+        Operands::Position | Operands::Name => 1,
+    };
+    if given != wanted {
+        return Err((Found::of(value), Wanted::Operands));
+    }
+    if let Operands::Expressions(_) = expected {
+        return Ok(items);
+    }
+    match items.next() {
+        Some(operand) => none_behind(expected, &operand),
+        None => Err((Found::of(value), Wanted::Operands)),
     }
 }
 
 /// The expressions in an expression, or what is wrong there.
-fn inner_of<'a>(value: &'a Value) -> Result<&'a [Value], Mistake<'a>> {
-    match value {
-        Value::Null => Ok(&[]),
-        Value::Number(number) if number.as_i64().is_some() => Ok(&[]),
-        Value::Array(items) => operands_of(value, items.as_slice()),
-        _ => Err((value, Wanted::Action)),
+fn inner_of<'t, 'a>(value: &Tree<'t, 'a>) -> Result<Items<'t, 'a>, Mistake<'a>> {
+    if value.is_array() {
+        return operands_of(value);
     }
+    if Wanted::Value.is_met_by(value) {
+        return Ok(Items::none());
+    }
+    Err((Found::of(value), Wanted::Action))
 }
 
-/// Adds the expressions in an expression, of which the first is to be looked at first.
-fn add_inner<'a>(
-    waiting: &mut Vec<Waiting<'a>>,
-    inner: &'a [Value],
-    depth: usize,
-) -> Result<(), AllocError> {
-    for value in inner.iter().rev() {
-        waiting.push(Waiting { value, depth })?;
+/// The next expression that is to be looked at, and how deep it stands. Where no item is left on the last level, that is left.
+fn next_waiting<'t, 'a>(waiting: &mut Vec<Waiting<'t, 'a>>) -> Option<(Tree<'t, 'a>, usize)> {
+    for _ in 0..u64::MAX {
+        let last = waiting.last_mut()?;
+        let depth = last.depth;
+        if let Some(value) = last.items.next() {
+            return Some((value, depth));
+        }
+        waiting.pop();
     }
-    Ok(())
+    None
+}
+
+/// Measures an expression: counts it, and makes those in it wait.
+fn measure<'t, 'a>(
+    waiting: &mut Vec<Waiting<'t, 'a>>,
+    size: &mut Size,
+    value: &Tree<'t, 'a>,
+    depth: usize,
+) -> Result<Result<(), Mistake<'a>>, AllocError> {
+    size.nodes = size.nodes.saturating_add(1);
+    size.depth = size.depth.max(depth);
+    match inner_of(value) {
+        Ok(items) => {
+            let depth = depth.saturating_add(1);
+            waiting.reserve(1)?;
+            waiting.push_reserved(Waiting { items, depth });
+            Ok(Ok(()))
+        }
+        Err(mistake) => Ok(Err(mistake)),
+    }
 }
 
 /// How large an action is, or the first of its expressions that is none. It does not call itself.
 pub(crate) fn action_fault<'a>(
     alloc: Global,
-    action: &'a Value,
+    action: &Tree<'_, 'a>,
 ) -> Result<Result<Size, Mistake<'a>>, AllocError> {
     let mut waiting = Vec::new(alloc);
-    waiting.push(Waiting {
-        value: action,
-        depth: 1,
-    })?;
     let mut size = Size { nodes: 0, depth: 0 };
+    if let Err(mistake) = measure(&mut waiting, &mut size, action, 1)? {
+        return Ok(Err(mistake));
+    }
     for _ in 0..u64::MAX {
-        let Some(next) = waiting.pop() else {
+        let Some((value, depth)) = next_waiting(&mut waiting) else {
             break;
         };
-        size.nodes = size.nodes.saturating_add(1);
-        size.depth = size.depth.max(next.depth);
-        match inner_of(next.value) {
-            Ok(inner) => add_inner(&mut waiting, inner, next.depth.saturating_add(1))?,
-            Err(mistake) => return Ok(Err(mistake)),
+        if let Err(mistake) = measure(&mut waiting, &mut size, &value, depth)? {
+            return Ok(Err(mistake));
         }
     }
     Ok(Ok(size))

@@ -3,12 +3,24 @@ use crate::exception::{class_meant, is_wrapper};
 use crate::quoted::Quoted;
 use crate::site::{Path, Site};
 use crate::wanted::Wanted;
-use serde_json::Value;
+use json_trees::Tree;
+use serde_json::Number;
 use std::fmt;
 
 /// What is told of a name that no stage may have.
 pub(crate) const BAD_NAME: &str =
     "a name is 1 to 64 of the characters A-Z a-z 0-9 _ - . and begins with no - or .";
+
+/// What stands in a place, in short.
+#[derive(Clone, Copy)]
+pub enum Found<'a> {
+    Null,
+    Flag(bool),
+    Number(Number),
+    Text(&'a str),
+    Array,
+    Object,
+}
 
 /// How a member has another form than the format gives it.
 #[derive(Clone, Copy)]
@@ -17,7 +29,7 @@ pub enum ShapeFault<'a> {
     Missing(Wanted),
     /// It is something else.
     Wrong {
-        found: &'a Value,
+        found: Found<'a>,
         wanted: Wanted,
         near: Option<&'static str>,
     },
@@ -131,23 +143,49 @@ impl Finding<'_> {
     }
 }
 
-/// A JSON value, in short.
-#[derive(Clone, Copy)]
-struct Shown<'a>(&'a Value);
+impl<'a> Found<'a> {
+    /// What a value is.
+    pub(crate) fn of(value: &Tree<'_, 'a>) -> Found<'a> {
+        if let Some(text) = value.as_str() {
+            return Found::Text(text);
+        }
+        if let Some(number) = value.as_number() {
+            return Found::Number(number);
+        }
+        if let Some(flag) = value.as_bool() {
+            return Found::Flag(flag);
+        }
+        if value.is_null() {
+            Found::Null
+        } else if value.is_array() {
+            Found::Array
+        } else {
+            Found::Object
+        }
+    }
 
-impl fmt::Display for Shown<'_> {
+    /// The text, where this is one.
+    pub(crate) fn text(self) -> Option<&'a str> {
+        match self {
+            Found::Text(text) => Some(text),
+            _ => None,
+        }
+    }
+}
+
+impl fmt::Display for Found<'_> {
     fn fmt<W: fmt::Write>(&self, f: &mut fmt::Formatter<W>) -> fmt::Result {
-        match self.0 {
-            Value::Null => f.write_str("null"),
-            Value::Bool(true) => f.write_str("true"),
-            Value::Bool(false) => f.write_str("false"),
-            Value::Number(number) => write!(f, "{number}"),
-            Value::String(text) => {
-                let text = Quoted(text.as_str());
+        match *self {
+            Found::Null => f.write_str("null"),
+            Found::Flag(true) => f.write_str("true"),
+            Found::Flag(false) => f.write_str("false"),
+            Found::Number(number) => write!(f, "{number}"),
+            Found::Text(text) => {
+                let text = Quoted(text);
                 write!(f, "{text}")
             }
-            Value::Array(_) => f.write_str("an array"),
-            Value::Object(_) => f.write_str("an object"),
+            Found::Array => f.write_str("an array"),
+            Found::Object => f.write_str("an object"),
         }
     }
 }
@@ -165,10 +203,9 @@ impl fmt::Display for ShapeFault<'_> {
                 wanted,
                 near,
             } => {
-                let shown = Shown(found);
-                write!(f, " is {shown}")?;
+                write!(f, " is {found}")?;
                 write_near(near, f)?;
-                if let (Wanted::Exception, Some(text)) = (wanted, found.as_str()) {
+                if let (Wanted::Exception, Some(text)) = (wanted, found.text()) {
                     write_exception_meant(text, f)?;
                 }
                 write!(f, " ({wanted})")

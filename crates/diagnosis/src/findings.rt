@@ -1,11 +1,11 @@
 //! What is found in a recording or in a step.
-use crate::finding::{Finding, ShapeFault, StageFault};
+use crate::finding::{Finding, Found, ShapeFault, StageFault};
 use crate::members::Member;
 use crate::site::{Path, Site};
 use crate::unread::{Unread, Warning};
 use crate::wanted::Wanted;
 use json_names::{nearest, unread_members};
-use serde_json::Value;
+use json_trees::Tree;
 use std::alloc::{AllocError, Global};
 
 /// The most faults, and the most warnings, that are kept.
@@ -98,10 +98,20 @@ impl<'a> Findings<'a> {
     pub(crate) fn wrong(
         &mut self,
         path: Path<'a>,
-        found: &'a Value,
+        value: &Tree<'_, 'a>,
         wanted: Wanted,
     ) -> Result<(), AllocError> {
-        let near = match found.as_str() {
+        self.wrong_as(path, Found::of(value), wanted)
+    }
+
+    /// The same, by what the member is.
+    pub(crate) fn wrong_as(
+        &mut self,
+        path: Path<'a>,
+        found: Found<'a>,
+        wanted: Wanted,
+    ) -> Result<(), AllocError> {
+        let near = match found.text() {
             Some(text) => nearest(self.alloc, text, wanted.names())?,
             None => None,
         };
@@ -125,7 +135,7 @@ impl<'a> Findings<'a> {
     pub(crate) fn unread(
         &mut self,
         path: Path<'a>,
-        object: &'a Value,
+        object: &Tree<'_, 'a>,
         read: &[&'static str],
     ) -> Result<(), AllocError> {
         let members = unread_members(self.alloc, object, read)?;
@@ -153,7 +163,7 @@ impl<'a> Findings<'a> {
     pub(crate) fn unread_beside_do(
         &mut self,
         path: Path<'a>,
-        object: &'a Value,
+        object: &Tree<'_, 'a>,
         members: &[Member],
     ) -> Result<(), AllocError> {
         let mut read = Vec::new(self.alloc);
@@ -168,7 +178,7 @@ impl<'a> Findings<'a> {
     pub(crate) fn unread_beside(
         &mut self,
         path: Path<'a>,
-        object: &'a Value,
+        object: &Tree<'_, 'a>,
         member: &'static str,
         name: &'a str,
     ) -> Result<(), AllocError> {

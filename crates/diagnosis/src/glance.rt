@@ -1,14 +1,20 @@
 //! A glance at a recording: whether any of its members could be one that nothing reads, or one that stands more than once.
 //!
-//! It reads no JSON, keeps nothing, and goes over the bytes once. Where it sees nothing, nothing is told of a recording
-//! that is taken; where it sees something, the recording is read to find what.
+//! It reads no JSON, and goes over the bytes once. Where it sees nothing, nothing is told of a recording that is taken; where it
+//! sees something, the recording is read to find what: in the stages in which it saw something, or in all.
+use crate::findings::Findings;
 use crate::members::{KINDS_WITH_DELAY, KINDS_WITH_EXCEPTION, KINDS_WITH_VALUE};
 use crate::met::{EndMet, OutcomeMet, StageMet, meet};
-use crate::passing::{Passing, all_pass, split_text};
+use crate::passing::{Passing, after_unread, split_text};
+use crate::recording::{examine_recording, examine_stages};
 use json_names::{is_among, is_label};
+use json_trees::Tree;
+use std::alloc::{AllocError, Global};
 
-/// The depth of the members of the recording, of a stage, of an outcome and of an end.
+/// The depth of the members of the recording, of what stands in its stages, of a stage, of an outcome and of an end.
 const OF_RECORDING: usize = 1;
+
+const OF_STAGES: usize = 2;
 
 const OF_STAGE: usize = 3;
 
@@ -183,6 +189,21 @@ struct Glance<'a> {
     end: SeenEnd<'a>,
     /// Whether a stage has times of form 2.
     has_times_of_form_two: bool,
+    /// Whether it is in the recording's stages.
+    is_in_stages: bool,
+    /// How many arrays and objects stood among these so far, with the one in which it is.
+    count: usize,
+    /// Whether what it saw last is of a stage, and not of the recording as a whole.
+    is_of_stage: bool,
+}
+
+impl Glance<'_> {
+    /// Whether something is read, or stands where nothing is told of it: in a member of the recording that has no stages.
+    #[inline(always)]
+    fn passes(&mut self, is_read: bool) -> bool {
+        self.is_of_stage = self.is_in_stages;
+        is_read || !self.is_in_stages
+    }
 }
 
 impl<'a> Passing<'a> for Glance<'a> {
@@ -192,6 +213,9 @@ impl<'a> Passing<'a> for Glance<'a> {
 
     fn enter(&mut self) {
         self.depth = self.depth.saturating_add(1);
+        if self.depth == OF_STAGE && self.is_in_stages {
+            self.count = self.count.saturating_add(1);
+        }
     }
 
     fn leave(&mut self) -> bool {
@@ -202,7 +226,7 @@ impl<'a> Passing<'a> for Glance<'a> {
                 let stage = self.stage;
                 self.has_times_of_form_two |= stage.met.queued || stage.met.runs;
                 self.stage = SeenStage::new();
-                stage.is_read()
+                self.passes(stage.is_read())
             }
             OF_OUTCOME => {
                 self.outcome = OutcomeMet::none();
@@ -211,26 +235,60 @@ impl<'a> Passing<'a> for Glance<'a> {
             OF_END => {
                 let end = self.end;
                 self.end = SeenEnd::new();
-                end.is_read()
+                self.passes(end.is_read())
             }
             _ => true,
         }
     }
 
     fn name(&mut self, value: &'a [u8]) -> bool {
-        match self.depth {
-            OF_RECORDING => self.recording.name(self.text, value),
+        let is_read = match self.depth {
+            OF_RECORDING => {
+                self.is_in_stages = matches!(self.text, b"stages");
+                self.is_of_stage = false;
+                return self.recording.name(self.text, value);
+            }
             OF_STAGE => self.stage.name(self.text, value),
             OF_OUTCOME => self.outcome.name(self.text),
             OF_END => self.end.name(self.text, value),
+            // (the members of what stands in place of the array of stages)
+            0 | OF_STAGES => {
+                self.is_of_stage = false;
+                return !self.is_in_stages;
+            }
             _ => false,
+        };
+        let passes = self.passes(is_read);
+        // (with an escape it may be a time of form 2, of which the whole recording is told)
+        if !passes && self.text.contains(&b'\\') {
+            self.is_of_stage = false;
         }
+        passes
     }
 }
 
-/// Whether a recording could have a member that nothing reads, or one that stands more than once.
+/// What a glance at a recording saw.
+#[derive(Drop)]
+pub enum Glimpse {
+    /// Nothing.
+    Nothing,
+    /// Something in some of its stages alone: in those that are objects or arrays and have these numbers among these, from 0.
+    InStages(Vec<usize>),
+    /// Something of the recording as a whole.
+    InAll,
+}
+
+/// Keeps the number of the stage in which something was seen, if it is not the last one.
+fn keep(numbers: &mut Vec<usize>, number: usize) -> Result<(), AllocError> {
+    if numbers.as_slice().last() != Some(&number) {
+        numbers.push(number)?;
+    }
+    Ok(())
+}
+
+/// A look for members of a recording that nothing reads, and for those that stand more than once.
 #[inline(never)]
-pub fn may_be_unread(recording: &[u8]) -> bool {
+pub fn glance_at(alloc: Global, recording: &[u8]) -> Result<Glimpse, AllocError> {
     let mut glance = Glance {
         depth: 0,
         text: b"",
@@ -244,7 +302,42 @@ pub fn may_be_unread(recording: &[u8]) -> bool {
         outcome: OutcomeMet::none(),
         end: SeenEnd::new(),
         has_times_of_form_two: false,
+        is_in_stages: false,
+        count: 0,
+        is_of_stage: false,
     };
-    !all_pass(recording, &mut glance)
-        || glance.has_times_of_form_two && !glance.recording.is_form_two
+    let mut numbers = Vec::new(alloc);
+    let mut rest = recording;
+    for _ in 0..recording.len() {
+        let Some(behind) = after_unread(rest, &mut glance) else {
+            break;
+        };
+        if !glance.is_of_stage {
+            return Ok(Glimpse::InAll);
+        }
+        keep(&mut numbers, glance.count.saturating_sub(1))?;
+        rest = behind;
+    }
+    if glance.has_times_of_form_two && !glance.recording.is_form_two {
+        return Ok(Glimpse::InAll);
+    }
+    Ok(if numbers.is_empty() {
+        Glimpse::Nothing
+    } else {
+        Glimpse::InStages(numbers)
+    })
+}
+
+/// What is found of a recording, as far as a glance at its text saw something: its members that nothing reads, those that stand
+/// more than once, and what else is found where these stand.
+pub fn examine_glimpse<'a>(
+    alloc: Global,
+    recording: &Tree<'_, 'a>,
+    glimpse: &Glimpse,
+) -> Result<Findings<'a>, AllocError> {
+    match glimpse {
+        Glimpse::Nothing => Ok(Findings::new(alloc)),
+        Glimpse::InStages(numbers) => examine_stages(alloc, recording, numbers.as_slice()),
+        Glimpse::InAll => examine_recording(alloc, recording),
+    }
 }

@@ -1,7 +1,7 @@
 //! Names of stages that a mistaken one may have meant.
 use crate::stage_checks::is_name;
 use json_names::{items_of, name_of, nearest};
-use serde_json::Value;
+use json_trees::Tree;
 use std::alloc::{AllocError, Global};
 
 /// How many mistaken names a like one is looked for.
@@ -26,9 +26,13 @@ impl KnownStages {
     }
 
     /// Adds the names of the stages of a recording.
-    pub fn add_of_recording(&mut self, recording: &Value) -> Result<(), AllocError> {
-        for stage in items_of(recording, "stages") {
-            if let Some(name) = name_of(stage) {
+    pub fn add_of_recording(&mut self, recording: &Tree<'_, '_>) -> Result<(), AllocError> {
+        let mut stages = items_of(recording, "stages");
+        for _ in 0..u64::MAX {
+            let Some(stage) = stages.next() else {
+                break;
+            };
+            if let Some(name) = name_of(&stage) {
                 self.add(name)?;
             }
         }
@@ -44,18 +48,25 @@ impl KnownStages {
     }
 
     /// Adds the name of the stage that a step or an edit adds, if it adds one.
-    fn add_new(&mut self, edit: &Value) -> Result<(), AllocError> {
-        match edit.get("new").and_then(|stage| name_of(stage)) {
+    fn add_new(&mut self, edit: &Tree<'_, '_>) -> Result<(), AllocError> {
+        let Some(stage) = edit.get("new") else {
+            return Ok(());
+        };
+        match name_of(&stage) {
             Some(name) => self.add(name),
             None => Ok(()),
         }
     }
 
     /// Adds the names of the stages that a step adds.
-    pub fn add_of_step(&mut self, step: &Value) -> Result<(), AllocError> {
+    pub fn add_of_step(&mut self, step: &Tree<'_, '_>) -> Result<(), AllocError> {
         self.add_new(step)?;
-        for edit in items_of(step, "edits") {
-            self.add_new(edit)?;
+        let mut edits = items_of(step, "edits");
+        for _ in 0..u64::MAX {
+            let Some(edit) = edits.next() else {
+                break;
+            };
+            self.add_new(&edit)?;
         }
         Ok(())
     }

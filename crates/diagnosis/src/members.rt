@@ -5,7 +5,7 @@ use crate::findings::Findings;
 use crate::site::Path;
 use crate::wanted::Wanted;
 use json_names::is_among;
-use serde_json::Value;
+use json_trees::Tree;
 use std::alloc::AllocError;
 
 /// No moment and no duration is above this number of ticks.
@@ -85,9 +85,9 @@ const MEMBERS_OF_KINDS: &[MemberOf] = &[
 ];
 
 /// The name that a member is, where it is one of those that are wanted.
-pub(crate) fn name_in<'a>(object: &'a Value, member: &str, wanted: Wanted) -> Option<&'a str> {
+pub(crate) fn name_in<'a>(object: &Tree<'_, 'a>, member: &str, wanted: Wanted) -> Option<&'a str> {
     let value = object.get(member)?;
-    if wanted.is_met_by(value) {
+    if wanted.is_met_by(&value) {
         value.as_str()
     } else {
         None
@@ -95,10 +95,27 @@ pub(crate) fn name_in<'a>(object: &'a Value, member: &str, wanted: Wanted) -> Op
 }
 
 /// The number of ticks that a value is, where it is wanted as such a number and is above the last tick.
-fn late_ticks(value: &Value, wanted: Wanted) -> Option<u64> {
+fn late_ticks(value: &Tree<'_, '_>, wanted: Wanted) -> Option<u64> {
     match (wanted, value.as_u64()) {
         (Wanted::Ticks | Wanted::TicksOrNull, Some(ticks)) if ticks > LAST_TICK => Some(ticks),
         _ => None,
+    }
+}
+
+/// Looks at the value of a member by itself.
+fn look_at_value<'a>(
+    findings: &mut Findings<'a>,
+    path: Path<'a>,
+    value: &Tree<'_, 'a>,
+    wanted: Wanted,
+    name: &'static str,
+) -> Result<(), AllocError> {
+    if !wanted.is_met_by(value) {
+        return findings.wrong(path, value, wanted);
+    }
+    match late_ticks(value, wanted) {
+        Some(ticks) => findings.limit(path.site, name, ticks, LAST_TICK),
+        None => Ok(()),
     }
 }
 
@@ -106,18 +123,14 @@ fn late_ticks(value: &Value, wanted: Wanted) -> Option<u64> {
 fn look_at_whole<'a>(
     findings: &mut Findings<'a>,
     path: Path<'a>,
-    object: &'a Value,
+    object: &Tree<'_, 'a>,
     member: Member,
 ) -> Result<(), AllocError> {
     let (name, wanted, is_needed) = member.parts();
     match object.get(name) {
         None if is_needed => findings.missing(path.to(name), wanted),
         None => Ok(()),
-        Some(value) if !wanted.is_met_by(value) => findings.wrong(path.to(name), value, wanted),
-        Some(value) => match late_ticks(value, wanted) {
-            Some(ticks) => findings.limit(path.site, name, ticks, LAST_TICK),
-            None => Ok(()),
-        },
+        Some(value) => look_at_value(findings, path.to(name), &value, wanted, name),
     }
 }
 
@@ -125,13 +138,13 @@ fn look_at_whole<'a>(
 pub(crate) fn look_at_member<'a>(
     findings: &mut Findings<'a>,
     path: Path<'a>,
-    object: &'a Value,
+    object: &Tree<'_, 'a>,
     member: Member,
 ) -> Result<(), AllocError> {
     look_at_whole(findings, path, object, member)?;
     let (name, wanted, _) = member.parts();
     match object.get(name) {
-        Some(value) => look_into(findings, path.to(name), value, wanted),
+        Some(value) => look_into(findings, path.to(name), &value, wanted),
         None => Ok(()),
     }
 }
@@ -140,7 +153,7 @@ pub(crate) fn look_at_member<'a>(
 pub(crate) fn look_at_all<'a>(
     findings: &mut Findings<'a>,
     path: Path<'a>,
-    object: &'a Value,
+    object: &Tree<'_, 'a>,
     members: &[Member],
 ) -> Result<(), AllocError> {
     for member in members {
@@ -153,7 +166,7 @@ pub(crate) fn look_at_all<'a>(
 pub(crate) fn look_at_members_of<'a>(
     findings: &mut Findings<'a>,
     path: Path<'a>,
-    object: &'a Value,
+    object: &Tree<'_, 'a>,
     owner: &'a str,
     members: &[MemberOf],
 ) -> Result<(), AllocError> {
@@ -172,7 +185,7 @@ pub(crate) fn look_at_members_of<'a>(
 fn look_into<'a>(
     findings: &mut Findings<'a>,
     path: Path<'a>,
-    value: &'a Value,
+    value: &Tree<'_, 'a>,
     wanted: Wanted,
 ) -> Result<(), AllocError> {
     match wanted {
@@ -184,23 +197,21 @@ fn look_into<'a>(
     }
 }
 
-/// The elements of a value, and none where it is no array.
-fn elements_of(value: &Value) -> &[Value] {
-    match value {
-        Value::Array(items) => items.as_slice(),
-        _ => &[],
-    }
-}
-
 /// Looks at the elements of an array of names.
 fn look_at_names<'a>(
     findings: &mut Findings<'a>,
     path: Path<'a>,
-    names: &'a Value,
+    names: &Tree<'_, 'a>,
 ) -> Result<(), AllocError> {
-    for (index, name) in elements_of(names).iter().enumerate() {
-        if !name.is_string() {
-            findings.wrong(path.item(index), name, Wanted::Text)?;
+    let Some(mut items) = names.as_array() else {
+        return Ok(());
+    };
+    for index in 0..usize::MAX {
+        let Some(name) = items.next() else {
+            break;
+        };
+        if name.as_str().is_none() {
+            findings.wrong(path.item(index), &name, Wanted::Text)?;
         }
     }
     Ok(())
@@ -210,7 +221,7 @@ fn look_at_names<'a>(
 fn look_at_outcome<'a>(
     findings: &mut Findings<'a>,
     path: Path<'a>,
-    outcome: &'a Value,
+    outcome: &Tree<'_, 'a>,
 ) -> Result<(), AllocError> {
     if Wanted::OutcomeOrNull.is_met_by(outcome) {
         for part in PARTS_OF_OUTCOME {
@@ -224,10 +235,10 @@ fn look_at_outcome<'a>(
 fn look_at_action<'a>(
     findings: &mut Findings<'a>,
     path: Path<'a>,
-    action: &'a Value,
+    action: &Tree<'_, 'a>,
 ) -> Result<(), AllocError> {
     match action_fault(findings.alloc(), action)? {
-        Err((found, wanted)) => findings.wrong(path, found, wanted),
+        Err((found, wanted)) => findings.wrong_as(path, found, wanted),
         Ok(size) if size.nodes <= 256 && size.depth <= 32 => Ok(()),
         Ok(size) => {
             let (nodes, depth) = (size.nodes, size.depth);
@@ -240,7 +251,7 @@ fn look_at_action<'a>(
 fn look_at_end<'a>(
     findings: &mut Findings<'a>,
     path: Path<'a>,
-    end: &'a Value,
+    end: &Tree<'_, 'a>,
 ) -> Result<(), AllocError> {
     if !end.is_object() {
         return findings.wrong(path, end, Wanted::End);
@@ -257,10 +268,16 @@ fn look_at_end<'a>(
 fn look_at_ends<'a>(
     findings: &mut Findings<'a>,
     path: Path<'a>,
-    ends: &'a Value,
+    ends: &Tree<'_, 'a>,
 ) -> Result<(), AllocError> {
-    for (index, end) in elements_of(ends).iter().enumerate() {
-        look_at_end(findings, path.item(index), end)?;
+    let Some(mut items) = ends.as_array() else {
+        return Ok(());
+    };
+    for index in 0..usize::MAX {
+        let Some(end) = items.next() else {
+            break;
+        };
+        look_at_end(findings, path.item(index), &end)?;
     }
     Ok(())
 }

@@ -106,24 +106,74 @@ fn pass_mark<'a, P: Passing<'a>>(mark: u8, after: &'a [u8], passing: &mut P) -> 
     }
 }
 
-/// Whether all that is gone past is read.
-pub(crate) fn all_pass<'a, P: Passing<'a>>(bytes: &'a [u8], passing: &mut P) -> bool {
+/// What comes after the first byte that ends or names something which is not read, if there is such a byte.
+pub(crate) fn after_unread<'a, P: Passing<'a>>(
+    bytes: &'a [u8],
+    passing: &mut P,
+) -> Option<&'a [u8]> {
     let mut rest = bytes;
     while let [byte, after @ ..] = rest {
         let (mark, next) = match *byte {
             b'"' => {
-                let Some((text, closed)) = split_text(after) else {
-                    return true;
-                };
+                let (text, closed) = split_text(after)?;
                 passing.take(text);
                 split_separator(closed)
             }
             mark => (mark, after),
         };
         if mark >= LEAST_MARK && !pass_mark(mark, next, passing) {
-            return false;
+            return Some(next);
         }
         rest = next;
     }
-    true
+    None
+}
+
+/// Whether all that is gone past is read.
+pub(crate) fn all_pass<'a, P: Passing<'a>>(bytes: &'a [u8], passing: &mut P) -> bool {
+    after_unread(bytes, passing).is_none()
+}
+
+/// Goes past an array or an object, and stops at its end.
+#[derive(Clone, Copy)]
+struct Whole {
+    /// How many arrays and objects are open.
+    depth: usize,
+}
+
+impl<'a> Passing<'a> for Whole {
+    fn take(&mut self, _text: &'a [u8]) {}
+
+    fn enter(&mut self) {
+        self.depth = self.depth.saturating_add(1);
+    }
+
+    fn leave(&mut self) -> bool {
+        self.depth = self.depth.saturating_sub(1);
+        self.depth > 0
+    }
+
+    fn name(&mut self, _value: &'a [u8]) -> bool {
+        true
+    }
+}
+
+/// Whether a byte ends a number or a word.
+fn ends_word(byte: u8) -> bool {
+    matches!(byte, b',' | b']' | b'}' | b' ' | b'\t' | b'\n' | b'\r')
+}
+
+/// What comes after the value at the front.
+pub(crate) fn after_item(bytes: &[u8]) -> &[u8] {
+    match bytes {
+        [b'{' | b'[', ..] => after_unread(bytes, &mut Whole { depth: 0 }).unwrap_or(&[]),
+        [b'"', text @ ..] => match split_text(text) {
+            Some((_, behind)) => behind,
+            None => &[],
+        },
+        _ => match bytes.iter().position(|byte| ends_word(*byte)) {
+            Some(end) => &bytes[end..],
+            None => &[],
+        },
+    }
 }

@@ -1,23 +1,20 @@
 //! What is found in a recording.
-use crate::finding::StageFault;
 use crate::findings::Findings;
+use crate::items::item_count;
 use crate::members::{Member, look_at_all, look_at_member};
-use crate::repeated::{Holder, Kind, Repeated, repeated_in};
+use crate::names::Names;
+use crate::repeated::{Holder, Repeated, add_repeated_of_stage, repeated_in_recording};
 use crate::site::{Path, Site};
 use crate::stage::{TimeForm, form_warning, look_at_members, time_of_form_two};
-use crate::stage_checks::{is_name, look_at_checks};
-use crate::unread::Warning;
+use crate::stage_checks::look_at_checks;
+use crate::stages::Stages;
 use crate::wanted::Wanted;
-use json_names::{items_of, name_of, nearest};
-use serde_json::Value;
+use json_names::items_of;
+use json_trees::{Items, Tree};
 use std::alloc::{AllocError, Global};
-use std::collections::BTreeMap;
 
 /// A recording has at most so many stages.
-const MOST_STAGES: usize = 65_536;
-
-/// How many mistaken names a like one is looked for.
-const MOST_LOOKS: usize = 16;
+pub(crate) const MOST_STAGES: usize = 65_536;
 
 /// The names of the members of a recording.
 pub(crate) const RECORDING_MEMBERS: &[&str] = &["form", "wrap", "stages"];
@@ -30,85 +27,18 @@ const FIRST_MEMBERS: &[Member] = &[
 
 const STAGES: Member = Member::Needed("stages", Wanted::Stages);
 
-/// The places of names: of several stages of one name that of the first.
-#[derive(Drop)]
-struct Names<'a> {
-    alloc: Global,
-    places: BTreeMap<&'a str, usize>,
-    /// The names once more, for those that are like a mistaken one.
-    list: Vec<&'a str>,
-    looks: usize,
-}
-
-impl<'a> Names<'a> {
-    fn of(alloc: Global, stages: &'a [Value]) -> Result<Names<'a>, AllocError> {
-        let mut names = Names {
-            alloc,
-            places: BTreeMap::new(alloc),
-            list: Vec::new(alloc),
-            looks: 0,
-        };
-        for (place, stage) in stages.iter().enumerate() {
-            if let Some(name) = name_of(stage) {
-                names.add(name, place)?;
-            }
-        }
-        Ok(names)
-    }
-
-    /// Adds the name of the stage at a place, unless an earlier one has it.
-    fn add(&mut self, name: &'a str, place: usize) -> Result<(), AllocError> {
-        if self.places.get(name).is_some() {
-            return Ok(());
-        }
-        self.places.insert(name, place)?;
-        if is_name(name) {
-            self.list.push(name)?;
-        }
-        Ok(())
-    }
-
-    /// The name that is most like a mistaken one, while not many were looked for.
-    fn near(&mut self, name: &str) -> Result<Option<&'a str>, AllocError> {
-        if self.looks >= MOST_LOOKS {
-            return Ok(None);
-        }
-        self.looks += 1;
-        nearest(self.alloc, name, self.list.as_slice())
-    }
-
-    /// That an earlier stage has the name.
-    fn taken_fault(&self, site: Site<'a>) -> Option<StageFault<'a>> {
-        let place = site.place()?;
-        match self.places.get(site.name()?) {
-            Some(first) if *first < place => Some(StageFault::NameTaken { place: *first }),
-            _ => None,
-        }
-    }
-
-    /// That no stage has the name of a feed, if that is so.
-    fn feed_fault(
-        &mut self,
-        member: &'static str,
-        name: &'a str,
-    ) -> Result<Option<StageFault<'a>>, AllocError> {
-        if self.places.get(name).is_some() {
-            return Ok(None);
-        }
-        let near = self.near(name)?;
-        Ok(Some(StageFault::NoSource { member, name, near }))
-    }
-}
-
 /// Looks at whether stages have the names that a list of feeds has.
 fn look_at_feeds<'a>(
     findings: &mut Findings<'a>,
     names: &mut Names<'a>,
     site: Site<'a>,
     told: &'static str,
-    feeds: &'a [Value],
+    feeds: &mut Items<'_, 'a>,
 ) -> Result<(), AllocError> {
-    for feed in feeds {
+    for _ in 0..u64::MAX {
+        let Some(feed) = feeds.next() else {
+            break;
+        };
         if let Some(name) = feed.as_str() {
             findings.stage_fault(site, names.feed_fault(told, name)?)?;
         }
@@ -116,89 +46,104 @@ fn look_at_feeds<'a>(
     Ok(())
 }
 
-/// The form of the times, as far as it can be read.
-fn form_of(recording: &Value) -> TimeForm {
-    match recording.get("form") {
-        None => TimeForm::One,
-        Some(form) => match form.as_i64() {
-            Some(1) => TimeForm::One,
-            _ => TimeForm::Two,
-        },
+/// The form of the times that a member says, as far as it can be read.
+pub(crate) fn form_said(form: &Tree<'_, '_>) -> TimeForm {
+    match form.as_i64() {
+        Some(1) => TimeForm::One,
+        _ => TimeForm::Two,
     }
 }
 
-/// The stage of a place.
-fn site_of<'a>(stages: &'a [Value], place: usize, stage: &'a Value) -> Site<'a> {
-    let before = match place.checked_sub(1) {
-        Some(place) => stages.get(place).and_then(|stage| name_of(stage)),
-        None => None,
-    };
-    Site::Stage {
-        place,
-        name: name_of(stage),
-        before,
+/// The form of the times of a recording.
+pub(crate) fn form_of(recording: &Tree<'_, '_>) -> TimeForm {
+    match recording.get("form") {
+        Some(form) => form_said(&form),
+        None => TimeForm::One,
+    }
+}
+
+/// Looks at a stage of the recording by itself, and not at the names of others.
+pub(crate) fn look_at_shape<'a>(
+    findings: &mut Findings<'a>,
+    form: TimeForm,
+    site: Site<'a>,
+    stage: &Tree<'_, 'a>,
+) -> Result<(), AllocError> {
+    if stage.is_object() {
+        look_at_members(findings, site, form, stage)
+    } else {
+        findings.wrong(Path::of(site), stage, Wanted::Stage)
     }
 }
 
 /// Looks at a stage of the recording.
-fn look_at_stage<'a>(
+pub(crate) fn look_at_stage<'a>(
     findings: &mut Findings<'a>,
     names: &mut Names<'a>,
     form: TimeForm,
     site: Site<'a>,
-    stage: &'a Value,
+    stage: &Tree<'_, 'a>,
 ) -> Result<(), AllocError> {
+    look_at_shape(findings, form, site, stage)?;
     if !stage.is_object() {
-        return findings.wrong(Path::of(site), stage, Wanted::Stage);
+        return Ok(());
     }
-    look_at_members(findings, site, form, stage)?;
     findings.stage_fault(site, names.taken_fault(site))?;
     look_at_checks(findings, site, form, stage)?;
-    look_at_feeds(findings, names, site, "source", items_of(stage, "sources"))?;
+    look_at_feeds(
+        findings,
+        names,
+        site,
+        "source",
+        &mut items_of(stage, "sources"),
+    )?;
     look_at_feeds(
         findings,
         names,
         site,
         "inner stage",
-        items_of(stage, "inner"),
+        &mut items_of(stage, "inner"),
     )
 }
 
-/// Looks at each stage, as far as there may be so many.
+/// Looks at each stage, as far as there may be so many, and at how many there are.
 fn look_at_each<'a>(
     findings: &mut Findings<'a>,
     form: TimeForm,
-    stages: &'a [Value],
+    recording: &Tree<'_, 'a>,
 ) -> Result<(), AllocError> {
-    let mut names = Names::of(findings.alloc(), stages)?;
-    for (place, stage) in stages.iter().enumerate().take(MOST_STAGES) {
-        let site = site_of(stages, place, stage);
-        look_at_stage(findings, &mut names, form, site, stage)?;
+    let mut names = Names::of(findings.alloc(), &mut items_of(recording, "stages"))?;
+    let mut stages = Stages::of(recording);
+    for _ in 0..MOST_STAGES {
+        let Some((site, stage)) = stages.next() else {
+            break;
+        };
+        look_at_stage(findings, &mut names, form, site, &stage)?;
     }
-    Ok(())
-}
-
-/// Looks at how many stages there are.
-fn look_at_count<'a>(findings: &mut Findings<'a>, stages: &'a [Value]) -> Result<(), AllocError> {
-    let Some(stage) = stages.get(MOST_STAGES) else {
-        return Ok(());
-    };
-    let site = site_of(stages, MOST_STAGES, stage);
-    let (number, most) = (stages.len() as u64, MOST_STAGES as u64);
-    findings.limit(site, "the number of stages", number, most)
+    match stages.next() {
+        Some((site, _)) => {
+            let (number, most) = (item_count(recording, "stages") as u64, MOST_STAGES as u64);
+            findings.limit(site, "the number of stages", number, most)
+        }
+        None => Ok(()),
+    }
 }
 
 /// Looks at times that form 1 does not read.
 fn look_at_unread_times<'a>(
     findings: &mut Findings<'a>,
-    stages: &'a [Value],
+    recording: &Tree<'_, 'a>,
 ) -> Result<(), AllocError> {
     let mut first = None;
     let mut more = 0usize;
-    for (place, stage) in stages.iter().enumerate() {
-        if let Some(member) = time_of_form_two(stage) {
+    let mut stages = Stages::of(recording);
+    for _ in 0..u64::MAX {
+        let Some((site, stage)) = stages.next() else {
+            break;
+        };
+        if let Some(member) = time_of_form_two(&stage) {
             match first {
-                None => first = Some((site_of(stages, place, stage), member)),
+                None => first = Some((site, member)),
                 Some(_) => more = more.saturating_add(1),
             }
         }
@@ -209,23 +154,30 @@ fn look_at_unread_times<'a>(
     }
 }
 
-/// The warning of a member that stands more than once.
-fn repeated_warning<'a>(recording: &'a Value, repeated: Repeated) -> Warning<'a> {
-    let stages = items_of(recording, "stages");
-    let site = match repeated.spot.holder {
-        Holder::Stage(place) => match stages.get(place) {
-            Some(stage) => site_of(stages, place, stage),
-            None => Site::Recording,
-        },
-        _ => Site::Recording,
-    };
-    repeated.warning(site)
+/// Keeps the warnings of members that stand more than once, which come in the order of the stages.
+fn warn_of_repeated<'a>(
+    findings: &mut Findings<'a>,
+    recording: &Tree<'_, 'a>,
+    repeated: &[Repeated],
+) -> Result<(), AllocError> {
+    let mut stages = Stages::of(recording);
+    let mut site = Site::Recording;
+    for found in repeated {
+        match found.spot.holder {
+            Holder::Stage(place) => {
+                site = stages.go_to(place, site);
+                findings.warning(found.warning(site))?;
+            }
+            _ => findings.warning(found.warning(Site::Recording))?,
+        }
+    }
+    Ok(())
 }
 
 /// Looks at a recording.
 fn look_at_recording<'a>(
     findings: &mut Findings<'a>,
-    recording: &'a Value,
+    recording: &Tree<'_, 'a>,
 ) -> Result<(), AllocError> {
     let path = Path::of(Site::Recording);
     if !recording.is_object() {
@@ -235,38 +187,67 @@ fn look_at_recording<'a>(
     findings.unread(path, recording, RECORDING_MEMBERS)?;
     look_at_member(findings, path, recording, STAGES)?;
     let form = form_of(recording);
-    let stages = items_of(recording, "stages");
-    look_at_each(findings, form, stages)?;
-    look_at_count(findings, stages)?;
+    look_at_each(findings, form, recording)?;
     match form {
-        TimeForm::One => look_at_unread_times(findings, stages),
+        TimeForm::One => look_at_unread_times(findings, recording),
         TimeForm::Two => Ok(()),
     }
 }
 
 /// Every fault of a recording, but for stages that wait for each other, every member that nothing reads, and every one that
-/// stands more than once; `text` are the bytes that were read. It takes time by the number of bytes, and by that of the
-/// names for the first mistaken ones of these.
+/// stands more than once. It takes time by the number of bytes, and by that of the names for the first mistaken ones of
+/// these.
 pub fn examine_recording<'a>(
     alloc: Global,
-    text: &[u8],
-    recording: &'a Value,
+    recording: &Tree<'_, 'a>,
 ) -> Result<Findings<'a>, AllocError> {
     let mut findings = Findings::new(alloc);
     look_at_recording(&mut findings, recording)?;
-    for repeated in repeated_in(alloc, Kind::Recording, text)?.as_slice() {
-        findings.warning(repeated_warning(recording, *repeated))?;
-    }
+    let repeated = repeated_in_recording(alloc, recording)?;
+    warn_of_repeated(&mut findings, recording, repeated.as_slice())?;
     Ok(findings)
 }
 
-/// That no stage of a recording has the name, and which one is like it.
+/// What is found at some stages of a recording by themselves: at those that are objects or arrays and have one of these numbers among
+/// these, from 0, in order.
+pub(crate) fn examine_stages<'a>(
+    alloc: Global,
+    recording: &Tree<'_, 'a>,
+    numbers: &[usize],
+) -> Result<Findings<'a>, AllocError> {
+    let mut findings = Findings::new(alloc);
+    let mut repeated = Vec::new(alloc);
+    let form = form_of(recording);
+    let mut numbers = numbers.iter();
+    let mut wanted = numbers.next();
+    let mut number = 0usize;
+    let mut stages = Stages::of(recording);
+    for place in 0..usize::MAX {
+        let Some((site, stage)) = stages.next() else {
+            break;
+        };
+        if !stage.is_object() && !stage.is_array() {
+            continue;
+        }
+        if wanted == Some(&number) {
+            if place < MOST_STAGES {
+                look_at_shape(&mut findings, form, site, &stage)?;
+            }
+            add_repeated_of_stage(alloc, place, &stage, &mut repeated)?;
+            wanted = numbers.next();
+        }
+        number = number.saturating_add(1);
+    }
+    warn_of_repeated(&mut findings, recording, repeated.as_slice())?;
+    Ok(findings)
+}
+
+/// The name of a stage of a recording that is most like one that no stage has.
 pub fn nearest_stage<'a>(
     alloc: Global,
-    recording: &'a Value,
-    name: &'a str,
-) -> Result<StageFault<'a>, AllocError> {
-    let names = Names::of(alloc, items_of(recording, "stages"))?;
-    let near = nearest(alloc, name, names.list.as_slice())?;
-    Ok(StageFault::NoStage { name, near })
+    recording: &Tree<'_, 'a>,
+    name: &str,
+) -> Result<Option<&'a str>, AllocError> {
+    let mut names = Names::of(alloc, &mut items_of(recording, "stages"))?;
+    names.near(name)
 }

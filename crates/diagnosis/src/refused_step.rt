@@ -1,12 +1,13 @@
 //! Why a step was refused, by its line and the answer.
 use crate::finding::{BAD_NAME, Finding, StageFault};
 use crate::findings::Findings;
+use crate::items::item_at;
 use crate::known::KnownStages;
 use crate::quoted::Quoted;
 use crate::site::Site;
-use crate::step::stage_of;
-use json_names::{items_of, name_of};
-use serde_json::Value;
+use crate::step::{name_of_new, stage_of};
+use json_names::items_of;
+use json_trees::{Items, Tree};
 use std::alloc::AllocError;
 use std::fmt;
 
@@ -72,18 +73,12 @@ impl<'a> Refusal<'a> {
     }
 }
 
-/// The edit that was refused: the step itself, or one of its list.
-fn refused_edit<'a>(step: &'a Value, refusal: Refusal<'_>) -> (&'a Value, Option<usize>) {
-    let Some(index) = refusal.index else {
-        return (step, None);
-    };
-    match items_of(step, "edits").get(index) {
-        Some(edit) => (edit, Some(index)),
-        None => (step, None),
-    }
+/// The edit of a step's list that was refused, if it was one of these.
+fn refused_edit<'t, 'a>(step: &Tree<'t, 'a>, refusal: Refusal<'_>) -> Option<Tree<'t, 'a>> {
+    item_at(step, "edits", refusal.index?)
 }
 
-fn site_of<'a>(edit: &'a Value, index: Option<usize>) -> Site<'a> {
+fn site_of<'a>(edit: &Tree<'_, 'a>, index: Option<usize>) -> Site<'a> {
     let stage = stage_of(edit);
     match index {
         Some(index) => Site::Edit { index, stage },
@@ -92,8 +87,9 @@ fn site_of<'a>(edit: &'a Value, index: Option<usize>) -> Site<'a> {
 }
 
 /// The first of the names that is not known.
-fn unknown_in<'a>(known: &KnownStages, names: &'a [Value]) -> Option<&'a str> {
-    for name in names {
+fn unknown_in<'a>(known: &KnownStages, names: &mut Items<'_, 'a>) -> Option<&'a str> {
+    for _ in 0..u64::MAX {
+        let name = names.next()?;
         match name.as_str() {
             Some(name) if !known.contains(name) => return Some(name),
             _ => {}
@@ -103,82 +99,139 @@ fn unknown_in<'a>(known: &KnownStages, names: &'a [Value]) -> Option<&'a str> {
 }
 
 /// The first source or inner stage of an edit that is not known, with its kind.
-fn unknown_feed<'a>(known: &KnownStages, edit: &'a Value) -> Option<(&'static str, &'a str)> {
-    let object = edit.get("new").unwrap_or(edit);
-    match unknown_in(known, items_of(object, "sources")) {
-        Some(name) => Some(("source", name)),
-        None => Some(("inner stage", unknown_in(known, items_of(object, "inner"))?)),
+fn unknown_feed_in<'a>(
+    known: &KnownStages,
+    object: &Tree<'_, 'a>,
+) -> Option<(&'static str, &'a str)> {
+    if let Some(name) = unknown_in(known, &mut items_of(object, "sources")) {
+        return Some(("source", name));
+    }
+    let name = unknown_in(known, &mut items_of(object, "inner"))?;
+    Some(("inner stage", name))
+}
+
+/// The same of the stage that an edit adds, or of the edit itself.
+fn unknown_feed<'a>(known: &KnownStages, edit: &Tree<'_, 'a>) -> Option<(&'static str, &'a str)> {
+    match edit.get("new") {
+        Some(new) => unknown_feed_in(known, &new),
+        None => unknown_feed_in(known, edit),
     }
 }
 
-/// That no stage has the name which an edit names.
-fn no_stage<'a>(
-    known: &'a mut KnownStages,
-    edit: &'a Value,
-) -> Result<Option<StageFault<'a>>, AllocError> {
-    let Some(name) = stage_of(edit) else {
-        return Ok(None);
-    };
-    let near = known.near(name)?;
-    Ok(Some(StageFault::NoStage { name, near }))
+/// The name of a stage in a refused edit that no stage has.
+#[derive(Clone, Copy)]
+enum Mistaken<'a> {
+    /// That of the stage that it names.
+    Stage(&'a str),
+    /// That of a source or of an inner stage, and which of these it is.
+    Feed(&'static str, &'a str),
 }
 
-/// That no stage has the name of a feed.
-fn no_source<'a>(
-    known: &'a mut KnownStages,
-    edit: &'a Value,
-) -> Result<Option<StageFault<'a>>, AllocError> {
-    let Some((member, name)) = unknown_feed(known, edit) else {
-        return Ok(None);
-    };
-    let near = known.near(name)?;
-    Ok(Some(StageFault::NoSource { member, name, near }))
+/// The name in an edit that no stage has, by the number of its refusal.
+fn mistaken_in<'a>(known: &KnownStages, edit: &Tree<'_, 'a>, number: u32) -> Option<Mistaken<'a>> {
+    match number {
+        10 => Some(Mistaken::Stage(stage_of(edit)?)),
+        14 => {
+            let (member, name) = unknown_feed(known, edit)?;
+            Some(Mistaken::Feed(member, name))
+        }
+        _ => None,
+    }
 }
 
-/// What the version shows of a refused edit or report.
+/// That no stage has a name, and which one is like it.
 fn stage_fault<'a>(
     known: &'a mut KnownStages,
-    edit: &'a Value,
-    number: u32,
-) -> Result<Option<StageFault<'a>>, AllocError> {
-    match number {
-        10 => no_stage(known, edit),
-        14 => no_source(known, edit),
-        _ => Ok(None),
+    mistaken: Mistaken<'a>,
+) -> Result<StageFault<'a>, AllocError> {
+    match mistaken {
+        Mistaken::Stage(name) => {
+            let near = known.near(name)?;
+            Ok(StageFault::NoStage { name, near })
+        }
+        Mistaken::Feed(member, name) => {
+            let near = known.near(name)?;
+            Ok(StageFault::NoSource { member, name, near })
+        }
     }
 }
 
 /// The version that a step names.
-fn version_of(step: &Value) -> Option<u64> {
+fn version_of(step: &Tree<'_, '_>) -> Option<u64> {
     for member in ["version", "base", "against"] {
-        if let Some(version) = step.get(member).and_then(Value::as_u64) {
+        if let Some(version) = number_in(step, member) {
             return Some(version);
         }
     }
     None
 }
 
+/// The whole number that a member of a step is.
+fn number_in(step: &Tree<'_, '_>, member: &str) -> Option<u64> {
+    step.get(member)?.as_u64()
+}
+
+/// What a refused step asks for, as far as it is told.
+#[derive(Clone, Copy)]
+pub struct AskedStep<'a> {
+    site: Site<'a>,
+    mistaken: Option<Mistaken<'a>>,
+    session: Option<u64>,
+    version: Option<u64>,
+    stage: Option<&'a str>,
+}
+
+/// What a step asks for whose edit was refused, which is the step itself or one of its list.
+fn asked_by<'t, 'a>(
+    step: &Tree<'t, 'a>,
+    edit: &Tree<'t, 'a>,
+    index: Option<usize>,
+    number: u32,
+    known: &KnownStages,
+) -> AskedStep<'a> {
+    AskedStep {
+        site: site_of(edit, index),
+        mistaken: mistaken_in(known, edit, number),
+        session: number_in(step, "session"),
+        version: version_of(step),
+        stage: stage_of(edit).or(name_of_new(edit)),
+    }
+}
+
+/// What a refused step asks for.
+pub fn asked_step<'a>(
+    step: &Tree<'_, 'a>,
+    refusal: Refusal<'_>,
+    known: &KnownStages,
+) -> AskedStep<'a> {
+    match refused_edit(step, refusal) {
+        Some(edit) => asked_by(step, &edit, refusal.index, refusal.number, known),
+        None => asked_by(step, step, None, refusal.number, known),
+    }
+}
+
 /// Why a step was refused: `findings` are those of its line.
 pub fn explain_step<'a>(
     findings: &'a Findings<'a>,
-    step: &'a Value,
+    asked: AskedStep<'a>,
     refusal: Refusal<'a>,
     known: &'a mut KnownStages,
 ) -> Result<RefusedStep<'a>, AllocError> {
     if let Some(finding) = findings.explanation(refusal.number, None, refusal.detail) {
         return Ok(RefusedStep::Shown(finding));
     }
-    let (edit, index) = refused_edit(step, refusal);
-    if let Some(fault) = stage_fault(known, edit, refusal.number)? {
-        let site = site_of(edit, index);
-        return Ok(RefusedStep::Stage { site, fault });
+    if let Some(mistaken) = asked.mistaken {
+        return Ok(RefusedStep::Stage {
+            site: asked.site,
+            fault: stage_fault(known, mistaken)?,
+        });
     }
     Ok(RefusedStep::Told {
         number: refusal.number,
         detail: refusal.detail,
-        session: step.get("session").and_then(Value::as_u64),
-        version: version_of(step),
-        stage: stage_of(edit).or(edit.get("new").and_then(|stage| name_of(stage))),
+        session: asked.session,
+        version: asked.version,
+        stage: asked.stage,
     })
 }
 

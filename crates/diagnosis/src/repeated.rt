@@ -5,16 +5,8 @@ use crate::site::Site;
 use crate::stage::{SPAN, STAGE_MEMBERS};
 use crate::step_members::STEP_MEMBERS;
 use crate::unread::{Unread, Warning};
-use crate::walk::{Turn, Walk};
-use serde_json::Value;
+use json_trees::{Items, Tree};
 use std::alloc::{AllocError, Global};
-
-/// What a text is.
-#[derive(Clone, Copy)]
-pub(crate) enum Kind {
-    Recording,
-    Step,
-}
 
 /// What has members, or holds what has them.
 #[derive(Clone, Copy)]
@@ -58,67 +50,29 @@ impl Repeated {
             more: 0,
         }
     }
-}
 
-/// A member that was met in an object which is not left yet.
-#[derive(Clone, Copy)]
-struct Met {
-    depth: usize,
-    member: &'static str,
-    /// Whether it was met again.
-    is_told: bool,
-}
-
-/// The object to which a way leads on from a holder.
-fn spot_in(holder: Holder, way: &[Turn<'_>]) -> Option<Spot> {
-    let (within, index) = match way {
-        [] => (None, None),
-        [Turn::Member(b"pinResult")] => (Some("pinResult"), None),
-        [Turn::Member(b"result")] => (Some("result"), None),
-        [Turn::Member(b"ends"), Turn::Element(index)] => (Some("ends"), Some(*index)),
-        _ => return None,
-    };
-    Some(Spot {
-        holder,
-        within,
-        index,
-    })
-}
-
-/// The object of a recording to which a way leads, if its members are read.
-fn spot_of_recording(way: &[Turn<'_>]) -> Option<Spot> {
-    match way {
-        [] => spot_in(Holder::Recording, way),
-        [Turn::Member(b"stages"), Turn::Element(place), way @ ..] => {
-            spot_in(Holder::Stage(*place), way)
-        }
-        _ => None,
-    }
-}
-
-/// The same of a step.
-fn spot_of_step(way: &[Turn<'_>]) -> Option<Spot> {
-    match way {
-        [Turn::Member(b"new"), way @ ..] => spot_in(Holder::New, way),
-        [
-            Turn::Member(b"edits"),
-            Turn::Element(index),
-            Turn::Member(b"new"),
-            way @ ..,
-        ] => { spot_in(Holder::NewOfEdit(*index), way) }
-        [Turn::Member(b"edits"), Turn::Element(index), way @ ..] => {
-            spot_in(Holder::Edit(*index), way)
-        }
-        _ => spot_in(Holder::Step, way),
+    /// Whether it stands in the stages of a recording.
+    fn is_in_stages(&self) -> bool {
+        matches!(self.spot.holder, Holder::Stage(_))
     }
 }
 
 impl Spot {
-    /// The object to which a way leads, if its members are read.
-    fn at(kind: Kind, way: &[Turn<'_>]) -> Option<Spot> {
-        match kind {
-            Kind::Recording => spot_of_recording(way),
-            Kind::Step => spot_of_step(way),
+    /// What holds others itself.
+    fn of(holder: Holder) -> Spot {
+        Spot {
+            holder,
+            within: None,
+            index: None,
+        }
+    }
+
+    /// A member of it.
+    fn member(holder: Holder, name: &'static str) -> Spot {
+        Spot {
+            holder,
+            within: Some(name),
+            index: None,
         }
     }
 
@@ -133,124 +87,267 @@ impl Spot {
         }
     }
 
-    /// Whether it stands in the stages of a recording.
-    fn is_in_stages(self) -> bool {
-        matches!(self.holder, Holder::Stage(_))
+    /// The member that is read there under a name. A label is its writer's own.
+    fn named(self, name: &str) -> Option<&'static str> {
+        let member = self.names().iter().find(|own| **own == name).copied()?;
+        if member == SPAN { None } else { Some(member) }
     }
 }
 
-/// Which of the names a text is.
-fn among(names: &[&'static str], text: &[u8]) -> Option<&'static str> {
-    names.iter().find(|name| name.as_bytes() == text).copied()
+/// A member that was met in an object.
+#[derive(Clone, Copy)]
+struct Met {
+    member: &'static str,
+    /// Whether it was met again.
+    is_told: bool,
 }
 
-/// Which of the names a member has, whose name stands in a text with its escapes.
-fn named(
-    alloc: Global,
-    names: &[&'static str],
-    written: &[u8],
-) -> Result<Option<&'static str>, AllocError> {
-    if !written.contains(&b'\\') {
-        return Ok(among(names, written));
-    }
-    let mut quoted = Vec::new(alloc);
-    quoted.push(b'"')?;
-    quoted.extend_from_slice(written)?;
-    quoted.push(b'"')?;
-    match Value::from_slice(alloc, quoted.as_slice()) {
-        Ok(Value::String(name)) => Ok(among(names, name.as_bytes())),
-        _ => Ok(None),
-    }
-}
-
-/// What is met on a walk through a text.
+/// The members of one object that were met, and how often.
 #[derive(Drop)]
-struct Repeats {
-    /// The members of the objects that are not left yet, the outermost first.
+struct Meeting {
+    spot: Spot,
     met: Vec<Met>,
-    found: Vec<Repeated>,
 }
 
-impl Repeats {
-    /// Leaves the objects from a depth on.
-    fn leave(&mut self, depth: usize) {
-        if let Some(end) = self.met.iter().position(|met| met.depth >= depth) {
-            self.met.truncate(end);
+impl Meeting {
+    fn new(alloc: Global, spot: Spot) -> Meeting {
+        Meeting {
+            spot,
+            met: Vec::new(alloc),
         }
     }
 
-    /// Meets a member of an object.
-    fn meet(&mut self, depth: usize, spot: Spot, member: &'static str) -> Result<(), AllocError> {
+    /// Meets the member of a name. Where it is met for the second time, it is found.
+    fn meet(&mut self, name: &str, found: &mut Vec<Repeated>) -> Result<(), AllocError> {
+        let spot = self.spot;
+        let Some(member) = spot.named(name) else {
+            return Ok(());
+        };
         for met in self.met.iter_mut() {
-            if met.depth == depth && met.member == member {
+            if met.member == member {
                 if !met.is_told {
                     met.is_told = true;
-                    self.found.push(Repeated { spot, member })?;
+                    found.push(Repeated { spot, member })?;
                 }
                 return Ok(());
             }
         }
         self.met.push(Met {
-            depth,
             member,
             is_told: false,
         })?;
         Ok(())
     }
-
-    /// Forgets what was found in stages, where others stand in place of them.
-    fn forget_stages(&mut self) {
-        self.found.retain(|repeated| !repeated.spot.is_in_stages());
-    }
 }
 
-/// The members that an object of a text has more than once, where they are read; each is told once.
-pub(crate) fn repeated_in(
+/// Meets the members of an object, and not what stands in them.
+fn meet_members(
     alloc: Global,
-    kind: Kind,
-    text: &[u8],
-) -> Result<Vec<Repeated>, AllocError> {
-    let mut repeats = Repeats {
-        met: Vec::new(alloc),
-        found: Vec::new(alloc),
-    };
-    let mut walk = Walk::new(alloc, text);
-    for _ in 0..text.len() {
-        if !walk.go_on()? {
-            break;
-        }
-        look_at_turn(alloc, kind, &walk, &mut repeats)?;
-    }
-    Ok(repeats.found)
-}
-
-/// Looks at the member to which a walk has come.
-fn look_at_turn(
-    alloc: Global,
-    kind: Kind,
-    walk: &Walk<'_>,
-    repeats: &mut Repeats,
+    spot: Spot,
+    object: &Tree<'_, '_>,
+    found: &mut Vec<Repeated>,
 ) -> Result<(), AllocError> {
-    let way = walk.way();
-    let [front @ .., Turn::Member(written)] = way else {
+    let Some(mut members) = object.members() else {
         return Ok(());
     };
-    let Some(spot) = Spot::at(kind, front) else {
+    let mut meeting = Meeting::new(alloc, spot);
+    for _ in 0..u64::MAX {
+        let Some((name, _)) = members.next() else {
+            break;
+        };
+        meeting.meet(name, found)?;
+    }
+    Ok(())
+}
+
+/// Meets the members of the ends of a holder.
+fn meet_ends(
+    alloc: Global,
+    holder: Holder,
+    ends: &mut Items<'_, '_>,
+    found: &mut Vec<Repeated>,
+) -> Result<(), AllocError> {
+    for index in 0..usize::MAX {
+        let Some(end) = ends.next() else {
+            break;
+        };
+        let spot = Spot {
+            holder,
+            within: Some("ends"),
+            index: Some(index),
+        };
+        meet_members(alloc, spot, &end, found)?;
+    }
+    Ok(())
+}
+
+/// Meets the members of what stands in a member of a holder.
+fn meet_within(
+    alloc: Global,
+    holder: Holder,
+    name: &str,
+    value: &Tree<'_, '_>,
+    found: &mut Vec<Repeated>,
+) -> Result<(), AllocError> {
+    match name {
+        "pinResult" => meet_members(alloc, Spot::member(holder, "pinResult"), value, found),
+        "result" => meet_members(alloc, Spot::member(holder, "result"), value, found),
+        "ends" => match value.as_array() {
+            Some(mut ends) => meet_ends(alloc, holder, &mut ends, found),
+            None => Ok(()),
+        },
+        _ => Ok(()),
+    }
+}
+
+/// Meets the members of a holder, and of what stands in them: of a stage, or of an edit that adds none.
+fn meet_holder(
+    alloc: Global,
+    holder: Holder,
+    object: &Tree<'_, '_>,
+    found: &mut Vec<Repeated>,
+) -> Result<(), AllocError> {
+    let Some(mut members) = object.members() else {
         return Ok(());
     };
-    let depth = way.len();
-    repeats.leave(if walk.is_first_member() {
-        depth
-    } else {
-        depth.saturating_add(1)
-    });
-    if let (Holder::Recording, b"stages") = (spot.holder, *written) {
-        repeats.forget_stages();
+    let mut meeting = Meeting::new(alloc, Spot::of(holder));
+    for _ in 0..u64::MAX {
+        let Some((name, value)) = members.next() else {
+            break;
+        };
+        meeting.meet(name, found)?;
+        meet_within(alloc, holder, name, &value, found)?;
     }
-    match named(alloc, spot.names(), written)? {
-        // (a label is its writer's own)
-        Some(SPAN) => Ok(()),
-        Some(member) => repeats.meet(depth, spot, member),
-        None => Ok(()),
+    Ok(())
+}
+
+/// The members that a stage of a recording has more than once, and those that objects in it have; each is told once.
+pub(crate) fn add_repeated_of_stage(
+    alloc: Global,
+    place: usize,
+    stage: &Tree<'_, '_>,
+    found: &mut Vec<Repeated>,
+) -> Result<(), AllocError> {
+    meet_holder(alloc, Holder::Stage(place), stage, found)
+}
+
+/// The same of an array of stages.
+fn meet_stages(
+    alloc: Global,
+    stages: &Tree<'_, '_>,
+    found: &mut Vec<Repeated>,
+) -> Result<(), AllocError> {
+    let Some(mut items) = stages.as_array() else {
+        return Ok(());
+    };
+    for place in 0..usize::MAX {
+        let Some(stage) = items.next() else {
+            break;
+        };
+        add_repeated_of_stage(alloc, place, &stage, found)?;
     }
+    Ok(())
+}
+
+/// The members that an object of a recording has more than once, where they are read; each is told once. Of stages that stand
+/// more than once the last ones count.
+pub(crate) fn repeated_in_recording(
+    alloc: Global,
+    recording: &Tree<'_, '_>,
+) -> Result<Vec<Repeated>, AllocError> {
+    let mut found = Vec::new(alloc);
+    let Some(mut members) = recording.members() else {
+        return Ok(found);
+    };
+    let mut meeting = Meeting::new(alloc, Spot::of(Holder::Recording));
+    for _ in 0..u64::MAX {
+        let Some((name, value)) = members.next() else {
+            break;
+        };
+        meeting.meet(name, &mut found)?;
+        if name == "stages" {
+            found.retain(|repeated| !repeated.is_in_stages());
+            meet_stages(alloc, &value, &mut found)?;
+        }
+    }
+    Ok(found)
+}
+
+/// Meets the members of what stands in a member of a step or an edit; `added` is the stage that it adds.
+fn meet_in_edit(
+    alloc: Global,
+    holder: Holder,
+    added: Holder,
+    name: &str,
+    value: &Tree<'_, '_>,
+    found: &mut Vec<Repeated>,
+) -> Result<(), AllocError> {
+    match name {
+        "new" => meet_holder(alloc, added, value, found),
+        _ => meet_within(alloc, holder, name, value, found),
+    }
+}
+
+/// Meets the members of an edit of a step's list.
+fn meet_edit(
+    alloc: Global,
+    index: usize,
+    edit: &Tree<'_, '_>,
+    found: &mut Vec<Repeated>,
+) -> Result<(), AllocError> {
+    let Some(mut members) = edit.members() else {
+        return Ok(());
+    };
+    let holder = Holder::Edit(index);
+    let added = Holder::NewOfEdit(index);
+    let mut meeting = Meeting::new(alloc, Spot::of(holder));
+    for _ in 0..u64::MAX {
+        let Some((name, value)) = members.next() else {
+            break;
+        };
+        meeting.meet(name, found)?;
+        meet_in_edit(alloc, holder, added, name, &value, found)?;
+    }
+    Ok(())
+}
+
+/// The same of an array of edits.
+fn meet_edits(
+    alloc: Global,
+    edits: &Tree<'_, '_>,
+    found: &mut Vec<Repeated>,
+) -> Result<(), AllocError> {
+    let Some(mut items) = edits.as_array() else {
+        return Ok(());
+    };
+    for index in 0..usize::MAX {
+        let Some(edit) = items.next() else {
+            break;
+        };
+        meet_edit(alloc, index, &edit, found)?;
+    }
+    Ok(())
+}
+
+/// The members that an object of a step has more than once, where they are read; each is told once.
+pub(crate) fn repeated_in_step(
+    alloc: Global,
+    step: &Tree<'_, '_>,
+) -> Result<Vec<Repeated>, AllocError> {
+    let mut found = Vec::new(alloc);
+    let Some(mut members) = step.members() else {
+        return Ok(found);
+    };
+    let mut meeting = Meeting::new(alloc, Spot::of(Holder::Step));
+    for _ in 0..u64::MAX {
+        let Some((name, value)) = members.next() else {
+            break;
+        };
+        meeting.meet(name, &mut found)?;
+        match name {
+            "edits" => meet_edits(alloc, &value, &mut found)?,
+            _ => meet_in_edit(alloc, Holder::Step, Holder::New, name, &value, &mut found)?,
+        }
+    }
+    Ok(found)
 }

@@ -4,7 +4,7 @@ use crate::members::{Member, MemberOf, look_at_all, look_at_members_of, name_in}
 use crate::site::{Path, Site};
 use crate::unread::{Unread, Warning};
 use crate::wanted::Wanted;
-use serde_json::Value;
+use json_trees::Tree;
 use std::alloc::AllocError;
 
 /// The label of a stage by which an imported recording tells of which span the stage is.
@@ -98,7 +98,7 @@ pub(crate) fn look_at_members<'a>(
     findings: &mut Findings<'a>,
     site: Site<'a>,
     form: TimeForm,
-    stage: &'a Value,
+    stage: &Tree<'_, 'a>,
 ) -> Result<(), AllocError> {
     let path = Path::of(site);
     look_at_all(findings, path, stage, FIRST_MEMBERS)?;
@@ -112,7 +112,7 @@ pub(crate) fn look_at_members<'a>(
 }
 
 /// Which of the times of form 2 a stage has, if one.
-pub(crate) fn time_of_form_two(stage: &Value) -> Option<&'static str> {
+pub(crate) fn time_of_form_two(stage: &Tree<'_, '_>) -> Option<&'static str> {
     match (stage.get("queued"), stage.get("runs")) {
         (Some(_), _) => Some("queued"),
         (None, Some(_)) => Some("runs"),

@@ -1,11 +1,12 @@
 //! The checks that a stage has to pass in its graph.
 use crate::finding::StageFault;
 use crate::findings::Findings;
+use crate::items::item_count;
 use crate::operation::{Operation, operation_of};
 use crate::site::Site;
 use crate::stage::TimeForm;
 use json_names::items_of;
-use serde_json::Value;
+use json_trees::Tree;
 use std::alloc::AllocError;
 
 /// The members of a stage that are lists, what is told of the length of each, and the most that it may be.
@@ -29,7 +30,7 @@ pub(crate) fn is_name(text: &str) -> bool {
 }
 
 /// How large a member is, and 0 where it is not there.
-fn count_of(object: &Value, member: &str) -> u64 {
+fn count_of(object: &Tree<'_, '_>, member: &str) -> u64 {
     match object.get(member) {
         Some(count) => count.as_u64().unwrap_or(0),
         None => 0,
@@ -45,9 +46,13 @@ fn name_fault<'a>(name: Option<&str>) -> Option<StageFault<'a>> {
 }
 
 /// That an operation takes other sources, inner stages or actions than a stage has.
-fn arity_fault<'a>(stage: &Value, operation: &'a str, taken: Operation) -> Option<StageFault<'a>> {
-    let given = items_of(stage, "sources").len();
-    let inner = items_of(stage, "inner").len();
+fn arity_fault<'a>(
+    stage: &Tree<'_, '_>,
+    operation: &'a str,
+    taken: Operation,
+) -> Option<StageFault<'a>> {
+    let given = item_count(stage, "sources");
+    let inner = item_count(stage, "inner");
     let acts = stage.get("action").is_some();
     match taken.sources {
         Some(wanted) if wanted != given => Some(StageFault::Sources {
@@ -69,10 +74,10 @@ fn arity_fault<'a>(stage: &Value, operation: &'a str, taken: Operation) -> Optio
 pub(crate) fn look_at_numbers<'a>(
     findings: &mut Findings<'a>,
     site: Site<'a>,
-    object: &Value,
+    object: &Tree<'_, '_>,
 ) -> Result<(), AllocError> {
     for (member, what, most) in LISTS {
-        let number = items_of(object, member).len() as u64;
+        let number = item_count(object, member) as u64;
         if number > *most {
             findings.limit(site, what, number, *most)?;
         }
@@ -81,10 +86,12 @@ pub(crate) fn look_at_numbers<'a>(
 }
 
 /// That an end is set before the creation.
-fn creation_fault<'a>(stage: &Value) -> Option<StageFault<'a>> {
+fn creation_fault<'a>(stage: &Tree<'_, '_>) -> Option<StageFault<'a>> {
     let created = count_of(stage, "created");
-    for (index, end) in items_of(stage, "ends").iter().enumerate() {
-        match end.get("at").and_then(Value::as_u64) {
+    let mut ends = items_of(stage, "ends");
+    for index in 0..usize::MAX {
+        let end = ends.next()?;
+        match moment_of(&end) {
             Some(at) if at < created => {
                 return Some(StageFault::EndBeforeCreated { index, at, created });
             }
@@ -94,8 +101,18 @@ fn creation_fault<'a>(stage: &Value) -> Option<StageFault<'a>> {
     None
 }
 
+/// When an end is set, where that is told.
+fn moment_of(end: &Tree<'_, '_>) -> Option<u64> {
+    end.get("at")?.as_u64()
+}
+
+/// The operation of a stage, where it is told.
+fn operation_in<'a>(stage: &Tree<'_, 'a>) -> Option<&'a str> {
+    stage.get("op")?.as_str()
+}
+
 /// Whether the stage takes time.
-fn takes_time(form: TimeForm, stage: &Value) -> bool {
+fn takes_time(form: TimeForm, stage: &Tree<'_, '_>) -> bool {
     match form {
         TimeForm::One => count_of(stage, "takes") > 0,
         TimeForm::Two => count_of(stage, "queued") > 0 || count_of(stage, "runs") > 0,
@@ -105,7 +122,7 @@ fn takes_time(form: TimeForm, stage: &Value) -> bool {
 /// That a stage whose operation has no action takes time.
 fn time_fault<'a>(
     form: TimeForm,
-    stage: &Value,
+    stage: &Tree<'_, '_>,
     operation: &'a str,
     taken: Operation,
 ) -> Option<StageFault<'a>> {
@@ -121,12 +138,12 @@ pub(crate) fn look_at_checks<'a>(
     findings: &mut Findings<'a>,
     site: Site<'a>,
     form: TimeForm,
-    stage: &'a Value,
+    stage: &Tree<'_, 'a>,
 ) -> Result<(), AllocError> {
     findings.stage_fault(site, name_fault(site.name()))?;
     look_at_numbers(findings, site, stage)?;
     findings.stage_fault(site, creation_fault(stage))?;
-    let Some(name) = stage.get("op").and_then(Value::as_str) else {
+    let Some(name) = operation_in(stage) else {
         return Ok(());
     };
     match operation_of(name) {

@@ -1,15 +1,16 @@
 //! What is found in a step of a script.
 use crate::finding::Finding;
 use crate::findings::Findings;
+use crate::items::item_at;
 use crate::members::{Member, look_at_all, look_at_member, name_in};
-use crate::repeated::{Holder, Kind, repeated_in};
+use crate::repeated::{Holder, repeated_in_step};
 use crate::site::{Path, Site};
 use crate::stage::{TimeForm, look_at_members, time_of_form_two};
 use crate::stage_checks::{look_at_checks, look_at_numbers};
 use crate::step_members::{members_of, members_of_edit, members_of_report};
 use crate::wanted::{EDIT_NAMES, Wanted};
-use json_names::{is_among, items_of, name_of};
-use serde_json::Value;
+use json_names::{is_among, name_of};
+use json_trees::Tree;
 use std::alloc::{AllocError, Global};
 
 /// The most edits of a list.
@@ -19,7 +20,7 @@ const MOST_EDITS: usize = 64;
 const REPORTS_OF_STAGE: &[&str] = &["one", "blame", "path", "sweep"];
 
 /// The stage that a step or an edit names.
-pub(crate) fn stage_of(object: &Value) -> Option<&str> {
+pub(crate) fn stage_of<'a>(object: &Tree<'_, 'a>) -> Option<&'a str> {
     object.get("stage")?.as_str()
 }
 
@@ -27,30 +28,32 @@ pub(crate) fn stage_of(object: &Value) -> Option<&str> {
 fn look_at_new<'a>(
     findings: &mut Findings<'a>,
     site: Site<'a>,
-    step: &'a Value,
+    step: &Tree<'_, 'a>,
 ) -> Result<(), AllocError> {
-    let new = match step.get("new") {
-        Some(new) if new.is_object() => new,
-        _ => return Ok(()),
+    let Some(new) = step.get("new") else {
+        return Ok(());
     };
-    let name = name_of(new);
+    if !new.is_object() {
+        return Ok(());
+    }
+    let name = name_of(&new);
     let inside = match site {
         Site::Edit { index, .. } => Site::NewOfEdit { index, name },
         _ => Site::New { name },
     };
-    let form = match time_of_form_two(new) {
+    let form = match time_of_form_two(&new) {
         Some(_) => TimeForm::Two,
         None => TimeForm::One,
     };
-    look_at_members(findings, inside, form, new)?;
-    look_at_checks(findings, inside, form, new)
+    look_at_members(findings, inside, form, &new)?;
+    look_at_checks(findings, inside, form, &new)
 }
 
 /// Looks at an edit, but for its members by themselves.
 fn look_at_edit<'a>(
     findings: &mut Findings<'a>,
     site: Site<'a>,
-    edit: &'a Value,
+    edit: &Tree<'_, 'a>,
     name: &str,
 ) -> Result<(), AllocError> {
     match name {
@@ -63,7 +66,7 @@ fn look_at_edit<'a>(
 fn look_at_listed<'a>(
     findings: &mut Findings<'a>,
     index: usize,
-    edit: &'a Value,
+    edit: &Tree<'_, 'a>,
 ) -> Result<(), AllocError> {
     let stage = stage_of(edit);
     let site = Site::Edit { index, stage };
@@ -84,21 +87,29 @@ fn look_at_listed<'a>(
 }
 
 /// Looks at what stands in a list of edits.
-fn look_at_edits<'a>(findings: &mut Findings<'a>, step: &'a Value) -> Result<(), AllocError> {
-    let Some(Value::Array(edits)) = step.get("edits") else {
+fn look_at_edits<'a>(findings: &mut Findings<'a>, step: &Tree<'_, 'a>) -> Result<(), AllocError> {
+    let Some(edits) = step.get("edits") else {
         return Ok(());
     };
-    for (index, edit) in edits.as_slice().iter().enumerate() {
-        look_at_listed(findings, index, edit)?;
+    let Some(mut items) = edits.as_array() else {
+        return Ok(());
+    };
+    let mut given = 0usize;
+    for index in 0..usize::MAX {
+        let Some(edit) = items.next() else {
+            break;
+        };
+        look_at_listed(findings, index, &edit)?;
+        given = given.saturating_add(1);
     }
-    match edits.len() {
+    match given {
         1..=MOST_EDITS => Ok(()),
         given => findings.fault(Finding::ListSize { given }),
     }
 }
 
 /// What says of which session or version a report is; it is of one of them.
-fn subject_of_report(step: &Value) -> Member {
+fn subject_of_report(step: &Tree<'_, '_>) -> Member {
     match (step.get("session"), step.get("version")) {
         (Some(_), Some(_)) => Member::Needed("session", Wanted::SessionAlone),
         (Some(_), None) => Member::Needed("session", Wanted::Count),
@@ -110,7 +121,7 @@ fn subject_of_report(step: &Value) -> Member {
 fn look_at_report<'a>(
     findings: &mut Findings<'a>,
     path: Path<'a>,
-    step: &'a Value,
+    step: &Tree<'_, 'a>,
 ) -> Result<(), AllocError> {
     let first = [
         subject_of_report(step),
@@ -136,7 +147,7 @@ fn look_at_report<'a>(
 fn look_at_change<'a>(
     findings: &mut Findings<'a>,
     site: Site<'a>,
-    step: &'a Value,
+    step: &Tree<'_, 'a>,
     name: &str,
 ) -> Result<(), AllocError> {
     let (path, members) = (Path::of(site), members_of(name));
@@ -150,7 +161,7 @@ fn look_at_change<'a>(
 }
 
 /// Looks at a step.
-fn look_at_step<'a>(findings: &mut Findings<'a>, step: &'a Value) -> Result<(), AllocError> {
+fn look_at_step<'a>(findings: &mut Findings<'a>, step: &Tree<'_, 'a>) -> Result<(), AllocError> {
     let stage = stage_of(step);
     let site = Site::Step { stage };
     let path = Path::of(site);
@@ -165,20 +176,34 @@ fn look_at_step<'a>(findings: &mut Findings<'a>, step: &'a Value) -> Result<(), 
     }
 }
 
+/// The name of the stage that a step or an edit adds, where it has one.
+pub(crate) fn name_of_new<'a>(edit: &Tree<'_, 'a>) -> Option<&'a str> {
+    name_of(&edit.get("new")?)
+}
+
+/// The stage that an edit of a step's list names.
+fn stage_of_edit<'a>(step: &Tree<'_, 'a>, index: usize) -> Option<&'a str> {
+    stage_of(&item_at(step, "edits", index)?)
+}
+
+/// The name of the stage that an edit of a step's list adds.
+fn name_of_edit<'a>(step: &Tree<'_, 'a>, index: usize) -> Option<&'a str> {
+    name_of_new(&item_at(step, "edits", index)?)
+}
+
 /// Where a member of a step stands that stands more than once.
-fn site_of<'a>(step: &'a Value, holder: Holder) -> Site<'a> {
-    let edit_at = |index: usize| items_of(step, "edits").get(index);
+fn site_of<'a>(step: &Tree<'_, 'a>, holder: Holder) -> Site<'a> {
     match holder {
         Holder::New => Site::New {
-            name: step.get("new").and_then(|new| name_of(new)),
+            name: name_of_new(step),
         },
         Holder::Edit(index) => Site::Edit {
             index,
-            stage: edit_at(index).and_then(|edit| stage_of(edit)),
+            stage: stage_of_edit(step, index),
         },
         Holder::NewOfEdit(index) => Site::NewOfEdit {
             index,
-            name: edit_at(index).and_then(|edit| name_of(edit.get("new")?)),
+            name: name_of_edit(step, index),
         },
         _ => Site::Step {
             stage: stage_of(step),
@@ -187,15 +212,11 @@ fn site_of<'a>(step: &'a Value, holder: Holder) -> Site<'a> {
 }
 
 /// Every fault of a step that its line alone shows, every member that nothing reads, and every one that stands more than
-/// once; `line` are the bytes that were read.
-pub fn examine_step<'a>(
-    alloc: Global,
-    line: &[u8],
-    step: &'a Value,
-) -> Result<Findings<'a>, AllocError> {
+/// once.
+pub fn examine_step<'a>(alloc: Global, step: &Tree<'_, 'a>) -> Result<Findings<'a>, AllocError> {
     let mut findings = Findings::new(alloc);
     look_at_step(&mut findings, step)?;
-    for repeated in repeated_in(alloc, Kind::Step, line)?.as_slice() {
+    for repeated in repeated_in_step(alloc, step)?.as_slice() {
         let site = site_of(step, repeated.spot.holder);
         findings.warning(repeated.warning(site))?;
     }

@@ -2,7 +2,7 @@
 use crate::exception::is_exception;
 use crate::operation::{OPERATIONS, operation_of};
 use json_names::is_among;
-use serde_json::Value;
+use json_trees::Tree;
 use std::fmt;
 
 /// What a member may be.
@@ -116,7 +116,7 @@ pub(crate) const WORDS: &[&str] = &[
 ];
 
 /// Whether a value has exactly one of the members of an outcome.
-fn is_outcome(value: &Value) -> bool {
+fn is_outcome(value: &Tree<'_, '_>) -> bool {
     matches!(
         (value.get("value"), value.get("bare"), value.get("wrapped")),
         (Some(_), None, None) | (None, Some(_), None) | (None, None, Some(_))
@@ -125,18 +125,18 @@ fn is_outcome(value: &Value) -> bool {
 
 impl Wanted {
     /// Whether a value is what is wanted, but for what stands in it.
-    pub(crate) fn is_met_by(self, value: &Value) -> bool {
+    pub(crate) fn is_met_by(self, value: &Tree<'_, '_>) -> bool {
         match self {
             Wanted::Recording | Wanted::Stage | Wanted::End | Wanted::Step | Wanted::Edit => {
                 value.is_object()
             }
             Wanted::Stages | Wanted::Names | Wanted::Ends | Wanted::Edits => value.is_array(),
             Wanted::Form => matches!(value.as_i64(), Some(1 | 2)),
-            Wanted::Text => value.is_string(),
-            Wanted::Value => value.is_null() || value.is_i64(),
+            Wanted::Text => value.as_str().is_some(),
+            Wanted::Value => value.is_null() || value.as_i64().is_some(),
             Wanted::Exception => value.as_str().is_some_and(is_exception),
-            Wanted::Ticks => value.is_u64(),
-            Wanted::TicksOrNull => value.is_null() || value.is_u64(),
+            Wanted::Ticks => value.as_u64().is_some(),
+            Wanted::TicksOrNull => value.is_null() || value.as_u64().is_some(),
             Wanted::Count => matches!(value.as_u64(), Some(0..=4_294_967_295)),
             Wanted::OutcomeOrNull => value.is_null() || is_outcome(value),
             Wanted::NoTakes | Wanted::SessionAlone => false,
@@ -151,7 +151,7 @@ impl Wanted {
     }
 
     /// Whether a value is one of the names that it may be.
-    fn has_name(self, value: &Value) -> bool {
+    fn has_name(self, value: &Tree<'_, '_>) -> bool {
         match (self, value.as_str()) {
             // (of operations more have a name than are told)
             (Wanted::Operation, Some(name)) => operation_of(name).is_some(),

@@ -19,7 +19,7 @@ fn numbers_below(alloc: Global, count: u32) -> Result<Vec<u32>, AllocError>
 }
 
 /// What is found at each number below a count, in order: so many workers find it beside each other.
-pub(crate) fn found_beside<H: Threads + Sync, T: Send + Drop, F: Fn(u32) -> T + Sync>(
+pub fn found_beside<H: Threads + Sync, T: Send + Drop, F: Fn(u32) -> T + Sync>(
     alloc: Global,
     threads: &H,
     workers: Workers,

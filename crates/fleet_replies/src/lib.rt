@@ -12,6 +12,7 @@ mod reply;
 mod traced;
 mod traces;
 
+pub use beside::found_beside;
 pub use question::Question;
 pub use recorded::RecordedReply;
 pub use recordings::replies_of_recordings;

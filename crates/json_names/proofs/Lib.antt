@@ -1,4 +1,3 @@
 pub mod Along
 pub mod CircleTexts
-pub mod Items
 pub mod Unread

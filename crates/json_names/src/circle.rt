@@ -1,11 +1,10 @@
 //! Stages that wait for each other.
 ghost use Rattle.std.specs.Prelude.{◌≡◌, IfOk, map, option_map, slice_get, take};
 ghost use Rattle.std.specs.List.{list_any};
-ghost use Rattle.serde_json.specs.View.{view};
-ghost use Rattle.json_names.specs.Circles.{circle_names, is_awaited, is_text, waits_for};
+ghost use Rattle.json_names.specs.Circles.{circle_names, is_awaited, is_text, items_of, stages_of, waits_for};
 
 use crate::members::{items_of, name_of};
-use serde_json::Value;
+use json_trees::Tree;
 use std::alloc::{AllocError, Global};
 use std::fmt;
 
@@ -19,29 +18,35 @@ pub struct Circle<'a> {
 }
 
 /// Whether a value is this text.
-fn is_text(value: &Value, text: &str) -> bool
-    ensures { result ≡ is_text text.now (view value.now) }
+fn is_text(value: &Tree<'_, '_>, text: &str) -> bool
+    ensures { result ≡ is_text text.now value.now }
 {
     value.as_str() == Some(text)
 }
 
-/// Whether one of the items is this text.
-fn has_text(items: &[Value], text: &str) -> bool
-    ensures { result ≡ list_any (λ item. is_text text.now (view item)) items.now }
+/// Whether one of the elements of a member is this text.
+fn has_text(object: &Tree<'_, '_>, member: &str, text: &str) -> bool
+    ensures { result ≡ list_any (is_text text.now) (items_of member.now object.now) }
 {
-    items.iter().any(|item| is_text(item, text))
+    let mut items = items_of(object, member);
+    'items: while let Some(item) = items.next() {
+        if is_text(&item, text) {
+            return true;
+        }
+    }
+    false
 }
 
 /// Whether a stage names another one as its source or as an inner stage.
-fn waits_for(stage: &Value, name: &str) -> bool
-    ensures { result ≡ waits_for (view stage.now) name.now }
+fn waits_for(stage: &Tree<'_, '_>, name: &str) -> bool
+    ensures { result ≡ waits_for stage.now name.now }
 {
-    has_text(items_of(stage, "sources"), name) || has_text(items_of(stage, "inner"), name)
+    has_text(stage, "sources", name) || has_text(stage, "inner", name)
 }
 
 /// Whether the stage before, if there is one, waits for the one of this name.
-fn is_awaited(before: Option<&Value>, name: &str) -> bool
-    ensures { result ≡ is_awaited (option_map (λ stage. view stage.now) before.entry) name.now }
+fn is_awaited(before: Option<&Tree<'_, '_>>, name: &str) -> bool
+    ensures { result ≡ is_awaited (option_map (λ stage. stage.now) before.entry) name.now }
 {
     match before {
         Some(stage) => waits_for(stage, name),
@@ -49,9 +54,24 @@ fn is_awaited(before: Option<&Value>, name: &str) -> bool
     }
 }
 
+/// The stages of a recording, so that each is found by its place.
+fn stages_in<'t, 'a>(
+    alloc: Global,
+    recording: &Tree<'t, 'a>,
+) -> Result<Vec<Tree<'t, 'a>>, AllocError>
+    ensures { IfOk result (λ stages. stages.items ≡ stages_of recording.now) }
+{
+    let mut stages = Vec::new(alloc);
+    let mut items = items_of(recording, "stages");
+    'items: while let Some(item) = items.next() {
+        stages.push(item)?;
+    }
+    Ok(stages)
+}
+
 /// The stage at a place.
-fn stage_at(stages: &[Value], place: u32) -> Option<&Value>
-    ensures { option_map (λ stage. view stage.now) result ≡ slice_get (map view stages.now) place }
+fn stage_at<'v, 't, 'a>(stages: &'v [Tree<'t, 'a>], place: u32) -> Option<&'v Tree<'t, 'a>>
+    ensures { option_map (λ stage. stage.now) result ≡ slice_get stages.now place }
 {
     stages.get(place as usize)
 }
@@ -59,14 +79,15 @@ fn stage_at(stages: &[Value], place: u32) -> Option<&Value>
 /// The stages of these places, if each of them waits for the next one.
 pub fn circle_of<'a>(
     alloc: Global,
-    recording: &'a Value,
+    recording: &Tree<'_, 'a>,
     places: &[u32],
 ) -> Result<Option<Circle<'a>>, AllocError>
-    ensures { IfOk result (λ found. option_map (λ circle. map (λ name. name.now) circle.names.items) found ≡ circle_names (view recording.now) places.now) }
+    ensures { IfOk result (λ found. option_map (λ circle. map (λ name. name.now) circle.names.items) found ≡ circle_names recording.now places.now) }
 {
-    let stages = items_of(recording, "stages");
+    let list = stages_in(alloc, recording)?;
+    let stages = list.as_slice();
     let mut names = Vec::new(alloc);
-    let mut before: Option<&Value> = None;
+    let mut before: Option<&Tree<'_, 'a>> = None;
     for place in places {
         let Some(stage) = stage_at(stages, *place) else {
             return Ok(None);

@@ -1,5 +1,5 @@
 -- The spans of a file by their traces.
-use Rattle.std.proofs.Common.{◌≡◌, ℕ, suc, ◌<◌, List, [], ◌∷◌, ◌++◌, length, get_or, set, map, Bool, true, false, cond, Option, Some, None, Ok, Err, refl, sym, ap, subst, ◌∙◌, arith}
+use Rattle.std.proofs.Common.{◌≡◌, ℕ, suc, ◌<◌, List, [], ◌∷◌, ◌++◌, append_assoc, length, get_or, set, map, Bool, true, false, cond, Option, Some, None, Ok, Err, refl, sym, ap, subst, ◌∙◌, arith}
 use Rattle.std.specs.Prelude.{◌==◌, ◌&&◌, ◌||◌, fold, not, option_map}
 use Rattle.std.specs.HashMap.{get_by_text}
 use Rattle.std.specs.List.{list_any}
@@ -21,7 +21,7 @@ use Rattle.trace_spans.specs.Groups.{AreGroups, group_of, place_in, spans_with, 
 use Rattle.trace_spans.specs.declared.fault.Fault.TheVariants.{NoTrace}
 use Rattle.trace_spans.specs.Members.{then_on}
 use Rattle.trace_spans.specs.Spans.{told_by_bytes}
-use Rattle.trace_spans.specs.Traces.{ids_of, traces_of, traces_of_bytes, unless_none, with_id}
+use Rattle.trace_spans.specs.Traces.{ids_of, spans_in, traces_of, traces_of_bytes, unless_none, with_id}
 
 abbrev pub with_spans : List ℕ → List Span → Group
 with_spans id spans = record { trace = id; spans = spans }
@@ -264,11 +264,15 @@ below groups ids spans id p are at =
     let long : length groups.groups.items ≡ length ids = ap length are.0 ∙ length-map ids (group_of spans) in
     omega (arith, lt, long)
 
--- what a file's groups come to
-pub all_traces : (bytes : List ℕ) (told : Told) (groups : List Group) (traces : List Trace) → told_by_bytes bytes ≡ Ok told → groups ≡ map (group_of told.spans) (ids_of told.spans) → traces ≡ map (trace_of told.is_cut) groups → traces_of_bytes bytes ≡ unless_none traces
+-- what a file's traces come to
+pub all_traces : (bytes : List ℕ) (told : Told) (traces : List Trace) → told_by_bytes bytes ≡ Ok told → traces ≡ traces_of told → traces_of_bytes bytes ≡ unless_none traces
 unfolding traces_of_bytes
-all_traces bytes told groups traces read are is =
-    ap (λ r. then_on r (λ all. unless_none (traces_of all))) read ∙ ap unless_none (sym (is ∙ ap (map (trace_of told.is_cut)) are ∙ all_counted told))
+all_traces bytes told traces read is = ap (λ r. then_on r (λ all. unless_none (traces_of all))) read ∙ ap unless_none (sym is)
+
+-- one part more
+pub spans_in_more : (parts : List Trace) (part : Trace) → spans_in (parts ++ part ∷ []) ≡ spans_in parts ++ part.spans
+spans_in_more [] part = append-nil part.spans
+spans_in_more (own ∷ parts) part = ap (λ rest. own.spans ++ rest) (spans_in_more parts part) ∙ sym (append_assoc own.spans (spans_in parts) part.spans)
 
 is_zero : (n : ℕ) → (n == 0) ≡ true → n ≡ 0
 is_zero n h = grind (arith, nat_tests)
@@ -286,7 +290,11 @@ pub some_there : (traces : List Trace) (n : ℕ) → n ≡ length traces → (n 
 some_there [] n long e = absurd (false≢true (sym e ∙ zero_is n long))
 some_there (trace ∷ traces) n long e = refl
 
--- of a list that is empty
+-- of lists that are empty
 pub none_left : (spans : List Span) → length spans ≡ 0 → spans ≡ []
 none_left [] e = refl
 none_left (span ∷ spans) e = absurd (omega arith)
+
+pub no_part_left : (parts : List Trace) → length parts ≡ 0 → parts ≡ []
+no_part_left [] e = refl
+no_part_left (part ∷ parts) e = absurd (omega arith)

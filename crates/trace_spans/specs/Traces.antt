@@ -20,6 +20,11 @@ ids_of spans = fold (λ ids span. with_id ids span.trace) [] spans
 abbrev pub traces_of : Told → List Trace
 traces_of told = map (λ id. record { id = id; spans = spans_of_trace id told.spans; is_cut = told.is_cut }) (ids_of told.spans)
 
+-- the spans of all parts of traces, in their order
+abbrev pub spans_in : List Trace → List Span
+spans_in [] = []
+spans_in (part ∷ parts) = part.spans ++ spans_in parts
+
 abbrev pub unless_none : List Trace → Result (List Trace) Fault
 unless_none [] = Err NoTrace
 unless_none (trace ∷ traces) = Ok (trace ∷ traces)

@@ -52,5 +52,5 @@ pub use summary::{Summary, summary_of};
 pub use target::{Aim, Attribute, Target};
 pub use text::{Text, TextList};
 pub use trace::{Trace, read_trace};
-pub use traces::read_traces;
+pub use traces::{joined_traces, read_traces};
 pub use why::Why;

@@ -78,6 +78,16 @@ impl Spans {
         Ok(())
     }
 
+    /// Adds spans at the end.
+    pub(crate) fn append(&mut self, more: Spans) -> Result<(), AllocError>
+        ensures { OnOk result (self.new ≡ self.old ++ more) }
+    {
+        for span in more.into_vec() {
+            self.push(span)?;
+        }
+        Ok(())
+    }
+
     /// The spans, in order.
     pub fn as_slice(&self) -> &[Span]
         ensures { result.now ≡ self.now }

@@ -1,14 +1,15 @@
 //! All traces of a file.
-ghost use Rattle.std.specs.Prelude.{◌≡◌, List, [], ◌∷◌, ◌++◌, map, IfOk, OnOk, Some};
+ghost use Rattle.std.specs.Prelude.{◌≡◌, List, [], ◌∷◌, ◌++◌, map, IfOk, OnOk, Some, false};
 ghost use Rattle.trace_spans.specs.declared.span.Span.{Span};
 ghost use Rattle.trace_spans.specs.Groups.{AreGroups, place_in, trace_of};
 ghost use Rattle.trace_spans.specs.Reads.{IsReadAs};
-ghost use Rattle.trace_spans.specs.Traces.{ids_of, traces_of_bytes, with_id};
+ghost use Rattle.trace_spans.specs.Traces.{ids_of, spans_in, traces_of, traces_of_bytes, with_id};
 
 use crate::choice::spans_of_trace;
 use crate::fault::Fault;
 use crate::span::{Span, Spans};
 use crate::text::Text;
+use crate::told::Told;
 use crate::trace::{Trace, read_told};
 use std::alloc::{AllocError, Global};
 use std::collections::HashMap;
@@ -112,16 +113,42 @@ fn counted(alloc: Global, groups: Vec<Group>, is_cut: bool) -> Result<Vec<Trace>
     Ok(traces)
 }
 
+/// The traces that spans are of.
+fn traces_of(alloc: Global, told: Told) -> Result<Vec<Trace>, AllocError>
+    ensures { IfOk result (λ traces. traces.items ≡ traces_of told) }
+{
+    let Told { spans, is_cut } = told;
+    let groups = grouped(alloc, spans)?;
+    let traces = counted(alloc, groups.groups, is_cut)?;
+    Ok(traces)
+}
+
 /// All traces of a file, in the order of their first spans, each with its spans but for repeats.
 #[tactic(auto, unfolding(crate::specs::Traces::traces_of_bytes))]
 pub fn read_traces(alloc: Global, bytes: &[u8]) -> Result<Vec<Trace>, Fault>
     ensures { IsReadAs (λ traces. traces.items) result (traces_of_bytes bytes.now) }
 {
     let told = read_told(alloc, bytes)?;
-    let groups = grouped(alloc, told.spans)?;
-    let traces = counted(alloc, groups.groups, told.is_cut)?;
+    let traces = traces_of(alloc, told)?;
     if traces.is_empty() {
         return Err(Fault::NoTrace);
     }
+    Ok(traces)
+}
+
+/// The traces whose spans were read in parts: in the order of their first spans, each with the spans of all its parts in their order, but
+/// for repeats. Their file is told whole.
+pub fn joined_traces(alloc: Global, parts: Vec<Trace>) -> Result<Vec<Trace>, AllocError>
+    ensures { IfOk result (λ traces. traces.items ≡ traces_of (record { spans = spans_in parts.items; is_cut = false })) }
+{
+    let mut spans = Spans::new(alloc);
+    for part in parts {
+        spans.append(part.spans)?;
+    }
+    let told = Told {
+        spans,
+        is_cut: false,
+    };
+    let traces = traces_of(alloc, told)?;
     Ok(traces)
 }

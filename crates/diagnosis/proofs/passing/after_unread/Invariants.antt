@@ -1,5 +1,5 @@
 use Rattle.std.proofs.Common.{ℕ, length}
-use Rattle.diagnosis.proofs.passing.all_pass.Given as goal
+use Rattle.diagnosis.proofs.passing.after_unread.Given as goal
 
 -- what is still to be gone past gets shorter
 abbrev pub decreases-loop-rest : goal.decreases-loop-rest
