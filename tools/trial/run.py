@@ -12,8 +12,8 @@ from typing import Any, NamedTuple
 
 LANES = 4
 NOBODY = 65534
-# a run is ended only after so many times the seconds that it may take where nothing else runs: that one never ends is a fault, that a machine is busy is none
-PATIENCE = 20
+# a run is ended only so many seconds after those that it may take where nothing else runs: that one never ends is a fault, that a machine is busy is none
+PATIENCE = 120
 
 
 @dataclass(frozen=True)
@@ -129,15 +129,15 @@ def finish(child, case):
         if isinstance(case.stdin, Pieces):
             pipe, child.stdin = child.stdin, None
             threading.Thread(target=feed, args=(pipe, case.stdin.make()), daemon=True).start()
-            out, err = child.communicate(timeout=PATIENCE * case.seconds)
+            out, err = child.communicate(timeout=PATIENCE + case.seconds)
         else:
             given = None if child.stdin is None else as_bytes(case.stdin)
-            out, err = child.communicate(given, timeout=PATIENCE * case.seconds)
+            out, err = child.communicate(given, timeout=PATIENCE + case.seconds)
         return Answer(child.returncode, out or b"", err or b"")
     except subprocess.TimeoutExpired:
         os.killpg(child.pid, signal.SIGKILL)
         out, err = child.communicate()
-        return Answer(f"none after {PATIENCE * case.seconds} s", out or b"", err or b"")
+        return Answer(f"none after {PATIENCE + case.seconds} s", out or b"", err or b"")
 
 
 def start(program, case, folder):
